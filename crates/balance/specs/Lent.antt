@@ -1,0 +1,49 @@
+-- Balancing into lent tables: tests 1 to 8, and what stands in each table at exit.
+use Prim.Native.Nat.{ℕ}
+use mathlib.Core.Path.{_≡_}
+use mathlib.Core.Bool.{Bool, _||_}
+use mathlib.Core.List.{List, [], _∷_, _++_}
+use lib.ListN.{length, replicate}
+use lib.Dec.{ltb}
+use Rattle.runs.specs.Outcome.{Outcome, done, Test, test, judge, mapDone, filled}
+use Rattle.runs.specs.Refusal.{refusalSays}
+use Rattle.runs.specs.Runs.{Runs, countOf}
+use Rattle.runs.specs.Check.{checkTests}
+use Rattle.tables.specs.Tables.{Tables, tablesOf, sizeOf}
+use Rattle.balance.specs.Balance.{balanced, boundOf}
+use Rattle.balance.specs.declared.Balanced.{Balanced}
+use Rattle.balance.specs.declared.Balanced.the-variants.{Intervals, Refused}
+
+abbrev pub balancedSays : Balanced → Outcome ℕ
+balancedSays (Intervals k) = done k
+balancedSays (Refused r) = refusalSays r
+
+-- the three tables and the working table, as their owner lends them
+pub record Lent : Type 0 where
+  pub starts : List ℕ
+  pub images : List ℕ
+  pub holders : List ℕ
+  pub working : List ℕ
+
+-- 7: "d outside 2 to 64"
+abbrev pub degreeTest : ℕ → Test
+degreeTest d = test 7 (ltb d 2 || ltb 64 d) d
+
+-- 8: "a lent table below B entries"
+unfoldable pub tooShort : ℕ → Lent → Bool
+tooShort b l =
+    ltb (length (l .starts)) b || (ltb (length (l .images)) b || (ltb (length (l .holders)) b || ltb (length (l .working)) b))
+
+unfoldable pub balanceOf : ℕ → Runs → ℕ → Lent → Outcome Tables
+balanceOf n r d l =
+    judge (checkTests n r ++ (degreeTest d ∷ test 8 (tooShort (boundOf d (countOf r)) l) (boundOf d (countOf r)) ∷ []))
+    (tablesOf n (balanced d n r))
+
+-- What `balance` promises: "Balancing answers K. Afterwards the first K entries of each table are the balanced list,
+-- the working table's first B entries are 0, and all other entries keep their numbers."
+pub record Balances (n : ℕ) (r : Runs) (d : ℕ) (entry exit : Lent) (answer : Balanced) : Type 0 where
+  pub says : balancedSays answer ≡ mapDone sizeOf (balanceOf n r d entry)
+  pub starts : exit .starts ≡ filled (λ t. t .list .starts) (balanceOf n r d entry) (entry .starts)
+  pub images : exit .images ≡ filled (λ t. t .list .images) (balanceOf n r d entry) (entry .images)
+  pub holders : exit .holders ≡ filled (λ t. t .holders) (balanceOf n r d entry) (entry .holders)
+  pub working : exit .working ≡ filled (λ t. replicate (boundOf d (countOf r)) 0) (balanceOf n r d entry) (entry .working)

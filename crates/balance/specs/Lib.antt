@@ -1,0 +1,3 @@
+-- The definition of balancing, and what `balance` promises.
+pub mod Balance
+pub mod Lent

@@ -1,0 +1,115 @@
+-- What a legal list gives: each place has one home, and lies in one image.
+use Prim.Native.Nat.{ℕ, zero, suc, _+_, _-_, _≤_, _<_, suc-le-suc}
+use mathlib.Core.Path.{_≡_, refl, _∙_}
+use mathlib.Core.Bool.{Bool, true}
+use mathlib.Core.Logic.{_⊎_, inl, inr}
+use mathlib.Core.List.{List, [], _∷_}
+use native.Mathlib.Nat.{not-suc-le-zero, le-of-suc-le-suc}
+use native.Mathlib.Omega.{arith}
+use lib.ListN.{length, getD, List·getD-eq-default}
+use lib.Dec.{ltb}
+use Rattle.runs.proofs.Sums.{parted, Up, inside, inside-true, inside-is, below, below-more, below-less, count-le, sumTo, sum-swap, sum-same, sum-full, tally, tally-one, tally-inside, tally-some, bit}
+use Rattle.runs.proofs.Searches.{getD-default, first-only}
+use Rattle.runs.specs.Legal.{Legal}
+use Rattle.runs.specs.Runs.{Runs, countOf, startOf, imageOf, endOf, lengthOf, imageEnd, has, runAt, carry, mapOf}
+
+-- the end of a run is the next start, where there is one
+pub end-next : (n : ℕ) (r : Runs) (x : ℕ) → suc x < countOf r → endOf n r x ≡ startOf r (suc x)
+end-next n r x h = getD-default (r .starts) (suc x) n 0 h
+
+pub end-last : (n : ℕ) (r : Runs) (x : ℕ) → countOf r ≤ suc x → endOf n r x ≡ n
+end-last n r x h = List·getD-eq-default (r .starts) n h
+
+-- rising by one step is rising
+pub up-steps : (l : List ℕ) → ((x : ℕ) → suc x < length l → getD l x 0 < getD l (suc x) 0) → Up l
+up-steps l h x zero m k = absurd (not-suc-le-zero m)
+up-steps l h x (suc y) m k = go (parted x y) (up-steps l h x y)
+  where
+    go : (x < y) ⊎ (y ≤ x) → (x < y → y < length l → getD l x 0 < getD l y 0) → getD l x 0 < getD l (suc y) 0
+    go (inl i) r = omega (arith, r i (omega arith), h y k)
+    go (inr i) r = let e : x ≡ y = omega arith in rw e (h y k)
+
+-- what it takes for each place to have one home
+pub record Parted (n : ℕ) (r : Runs) : Type 0 where
+  pub some : 0 < countOf r
+  pub first : startOf r 0 ≡ 0
+  pub up : Up (r .starts)
+  pub lasting : (x : ℕ) → x < countOf r → startOf r x < endOf n r x
+  pub ending : (x : ℕ) → x < countOf r → endOf n r x ≤ n
+
+pub homes : (n : ℕ) (r : Runs) → Legal n r → Parted n r
+homes n r c = record { some = c .some; first = c .first; up = up-steps (r .starts) (c .rising); lasting = λ x h. at x h (parted (suc x) (countOf r)) .0; ending = λ x h. at x h (parted (suc x) (countOf r)) .1 }
+  where
+    at : (x : ℕ) → x < countOf r → (suc x < countOf r) ⊎ (countOf r ≤ suc x) → (startOf r x < endOf n r x) × (endOf n r x ≤ n)
+    at x h (inl l) = omega (arith, end-next n r x l, c .rising x l, c .below (suc x) l)
+    at x h (inr l) = omega (arith, end-last n r x l, c .below x h)
+
+module _ (n : ℕ) (r : Runs) (c : Parted n r) where
+  end-before : (x y : ℕ) → x < y → y < countOf r → endOf n r x ≤ startOf r y
+  end-before x y l m = go (parted (suc x) y)
+    where
+      go : (suc x < y) ⊎ (y ≤ suc x) → endOf n r x ≤ startOf r y
+      go (inl k) = omega (arith, end-next n r x (omega arith), c .up (suc x) y k m)
+      go (inr k) = let e : y ≡ suc x = omega arith in rw e (omega (arith, end-next n r x (omega arith)))
+
+  pub home-one : (x y p : ℕ) → x < countOf r → y < countOf r → startOf r x ≤ p → p < endOf n r x → startOf r y ≤ p → p < endOf n r y → x ≡ y
+  home-one x y p hx hy a b d e = go (parted x y) (parted y x)
+    where
+      go : (x < y) ⊎ (y ≤ x) → (y < x) ⊎ (x ≤ y) → x ≡ y
+      go (inl l) m = absurd (omega (arith, end-before x y l hy))
+      go (inr l) (inl m) = absurd (omega (arith, end-before y x m hx))
+      go (inr l) (inr m) = omega arith
+
+  pub home : (p : ℕ) → p < n → (x : ℕ) × (x < countOf r) × (startOf r x ≤ p) × (p < endOf n r x)
+  home p h = go (below (r .starts) (suc p)) refl
+    where
+      go : (b : ℕ) → below (r .starts) (suc p) ≡ b → (x : ℕ) × (x < countOf r) × (startOf r x ≤ p) × (p < endOf n r x)
+      go zero e = absurd (omega (arith, below-more (r .starts) (suc p) 0 (c .up) (c .some) (omega (arith, c .first))))
+      go (suc x) e = (x, omega (arith, count-le (λ s. ltb s (suc p)) (r .starts)), le-of-suc-le-suc (below-less (r .starts) (suc p) x (c .up) (omega arith)), up-to (parted (suc x) (countOf r)) (parted (startOf r (suc x)) (suc p)))
+        where
+          up-to : (suc x < countOf r) ⊎ (countOf r ≤ suc x) → (startOf r (suc x) < suc p) ⊎ (suc p ≤ startOf r (suc x)) → p < endOf n r x
+          up-to (inl l) (inl m) = absurd (omega (arith, below-more (r .starts) (suc p) (suc x) (c .up) l m))
+          up-to (inl l) (inr m) = omega (arith, end-next n r x l)
+          up-to (inr l) m = omega (arith, end-last n r x l)
+
+  pub run-at : (x p : ℕ) → x < countOf r → startOf r x ≤ p → p < endOf n r x → runAt n r p ≡ x
+  run-at x p h a b = first-only (has n r p) (countOf r) x h (inside-true (startOf r x) (endOf n r x) p a b)
+      (λ y l e. let i = inside-is (startOf r y) (endOf n r y) p e in home-one y x p l h (i .0) (i .1) a b)
+
+  pub map-at : (x p : ℕ) → x < countOf r → startOf r x ≤ p → p < endOf n r x → mapOf n r p ≡ carry r x p
+  map-at x p h a b = rw (run-at x p h a b)
+
+-- the lengths add up to n
+lengths : (n : ℕ) (l : List ℕ) → ((x : ℕ) → x < length l → getD l x 0 < getD l (suc x) n) → sumTo (length l) (λ x. getD l (suc x) n - getD l x 0) + getD l 0 n ≡ n
+lengths n [] h = omega arith
+lengths n (s ∷ ss) h = omega (arith, h 0 (omega arith), lengths n ss (λ x l. h (suc x) (suc-le-suc l)))
+
+pub length-sum : (n : ℕ) (r : Runs) → Parted n r → sumTo (countOf r) (lengthOf n r) ≡ n
+length-sum n r c = omega (arith, lengths n (r .starts) (c .lasting), getD-default (r .starts) 0 n 0 (c .some), c .first)
+
+-- the test whether place p lies in the image of x
+abbrev pub lands : ℕ → Runs → ℕ → ℕ → Bool
+lands n r p x = inside (imageOf r x) (imageEnd n r x) p
+
+module _ (n : ℕ) (r : Runs) (c : Legal n r) where
+  -- no place lies in two images
+  pub land-one : (p x y : ℕ) → x < countOf r → y < countOf r → lands n r p x ≡ true → lands n r p y ≡ true → x ≡ y
+  land-one p x y hx hy e f =
+      let i = inside-is (imageOf r x) (imageEnd n r x) p e in
+      let j = inside-is (imageOf r y) (imageEnd n r y) p f in
+      c .apart x y p hx hy (i .0) (i .1) (j .0) (j .1)
+
+  -- each place lies in one image
+  pub landed : (p : ℕ) → p < n → tally (countOf r) (lands n r p) ≡ 1
+  landed = sum-full n (λ p. tally (countOf r) (lands n r p)) (λ p h. tally-one (countOf r) (lands n r p) (land-one p)) (omega (arith, total))
+    where
+      total : sumTo n (λ p. tally (countOf r) (lands n r p)) ≡ n
+      total = sum-swap n (countOf r) (λ p x. bit (lands n r p x))
+          ∙ sum-same (countOf r) (λ x. tally n (λ p. lands n r p x)) (lengthOf n r) (λ x h. omega (arith, tally-inside n (imageOf r x) (imageEnd n r x) (omega arith) (c .within x h)))
+          ∙ length-sum n r (homes n r c)
+
+  pub land : (p : ℕ) → p < n → (x : ℕ) × (x < countOf r) × (imageOf r x ≤ p) × (p < imageEnd n r x)
+  land p h =
+      let f = tally-some (countOf r) (lands n r p) (omega (arith, landed p h)) in
+      let i = inside-is (imageOf r (f .0)) (imageEnd n r (f .0)) p (f .2) in
+      (f .0, f .1, i .0, i .1)

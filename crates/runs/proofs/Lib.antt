@@ -1,0 +1,4 @@
+-- The laws that callers cite.
+pub mod Sums
+pub mod Searches
+pub mod Legality

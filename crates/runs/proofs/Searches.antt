@@ -1,0 +1,98 @@
+-- Laws of Search.antt.
+use Prim.Native.Nat.{ℕ, zero, suc, _+_, _≤_, _<_}
+use mathlib.Core.Path.{_≡_, refl, sym, ap, _∙_}
+use mathlib.Core.Bool.{Bool, true, false, false≢true}
+use mathlib.Core.Logic.{_⊎_, inl, inr}
+use mathlib.Core.List.{List, [], _∷_}
+use native.Mathlib.Nat.{not-suc-le-zero, le-of-suc-le-suc}
+use native.Mathlib.Omega.{arith}
+use lib.ListN.{length, getD}
+use borrow.Author.Tests.{lt-ltb, le-ltb}
+use Rattle.runs.specs.Search.{firstFrom, firstBelow, anyBelow, insertAt}
+use Rattle.runs.proofs.Sums.{parted}
+
+module _ (p : ℕ → Bool) where
+  from-le : (k x : ℕ) → (x ≤ firstFrom p k x) × (firstFrom p k x ≤ x + k)
+  from-le zero x = omega arith
+  from-le (suc k) x = go (p x) (from-le k (suc x))
+    where
+      go : (t : Bool) → (suc x ≤ firstFrom p k (suc x)) × (firstFrom p k (suc x) ≤ suc x + k)
+          → (x ≤ elim t as (λ z. ℕ) [ true ↦ x | false ↦ firstFrom p k (suc x) ]) × (elim t as (λ z. ℕ) [ true ↦ x | false ↦ firstFrom p k (suc x) ] ≤ x + suc k)
+      go true i = omega arith
+      go false i = omega arith
+
+  from-true : (k x : ℕ) → firstFrom p k x < x + k → p (firstFrom p k x) ≡ true
+  from-true zero x h = absurd (omega arith)
+  from-true (suc k) x h = go (p x) refl h (from-true k (suc x))
+    where
+      go : (t : Bool) → p x ≡ t → elim t as (λ z. ℕ) [ true ↦ x | false ↦ firstFrom p k (suc x) ] < x + suc k
+          → (firstFrom p k (suc x) < suc x + k → p (firstFrom p k (suc x)) ≡ true)
+          → p (elim t as (λ z. ℕ) [ true ↦ x | false ↦ firstFrom p k (suc x) ]) ≡ true
+      go true e h i = e
+      go false e h i = i (omega arith)
+
+  from-least : (k x y : ℕ) → x ≤ y → y < x + k → p y ≡ true → firstFrom p k x ≤ y
+  from-least zero x y h l e = absurd (omega arith)
+  from-least (suc k) x y h l e = go (p x) refl (parted x y) (from-least k (suc x) y)
+    where
+      go : (t : Bool) → p x ≡ t → (x < y) ⊎ (y ≤ x) → (suc x ≤ y → y < suc x + k → p y ≡ true → firstFrom p k (suc x) ≤ y)
+          → elim t as (λ z. ℕ) [ true ↦ x | false ↦ firstFrom p k (suc x) ] ≤ y
+      go true f m i = h
+      go false f (inl m) i = i m (omega arith) e
+      go false f (inr m) i = let q : x ≡ y = omega arith in absurd (false≢true (sym f ∙ ap p q ∙ e))
+
+  pub first-le : (k : ℕ) → firstBelow p k ≤ k
+  first-le k = omega (arith, from-le k 0)
+
+  pub first-true : (k : ℕ) → firstBelow p k < k → p (firstBelow p k) ≡ true
+  first-true k h = from-true k 0 (omega arith)
+
+  pub first-least : (k x : ℕ) → x < k → p x ≡ true → firstBelow p k ≤ x
+  first-least k x h e = from-least k 0 x (omega arith) (omega arith) e
+
+  pub first-only : (k x : ℕ) → x < k → p x ≡ true → ((y : ℕ) → y < k → p y ≡ true → y ≡ x) → firstBelow p k ≡ x
+  first-only k x h e u = let l : firstBelow p k < k = omega (arith, first-least k x h e) in u (firstBelow p k) l (first-true k l)
+
+  pub any-true : (k x : ℕ) → x < k → p x ≡ true → anyBelow p k ≡ true
+  any-true k x h e = lt-ltb (firstBelow p k) k (omega (arith, first-least k x h e))
+
+  pub any-false : (k x : ℕ) → anyBelow p k ≡ false → x < k → p x ≡ false
+  any-false k x a h = go (p x) refl
+    where
+      go : (t : Bool) → p x ≡ t → t ≡ false
+      go true e = absurd (false≢true (sym a ∙ any-true k x h e))
+      go false e = refl
+
+  pub any-none : (k : ℕ) → ((x : ℕ) → x < k → p x ≡ true → ⊥) → anyBelow p k ≡ false
+  any-none k h = go (parted (firstBelow p k) k)
+    where
+      go : (firstBelow p k < k) ⊎ (k ≤ firstBelow p k) → anyBelow p k ≡ false
+      go (inl l) = absurd (h (firstBelow p k) l (first-true k l))
+      go (inr l) = le-ltb (firstBelow p k) k l
+
+pub length-insert : (x v : ℕ) (l : List ℕ) → x ≤ length l → length (insertAt x v l) ≡ suc (length l)
+length-insert zero v l h = refl
+length-insert (suc x) v [] h = absurd (not-suc-le-zero h)
+length-insert (suc x) v (s ∷ ss) h = ap suc (length-insert x v ss (le-of-suc-le-suc h))
+
+pub insert-before : (x v : ℕ) (l : List ℕ) (y d : ℕ) → x ≤ length l → y < x → getD (insertAt x v l) y d ≡ getD l y d
+insert-before zero v l y d h m = absurd (not-suc-le-zero m)
+insert-before (suc x) v [] y d h m = absurd (not-suc-le-zero h)
+insert-before (suc x) v (s ∷ ss) zero d h m = refl
+insert-before (suc x) v (s ∷ ss) (suc y) d h m = insert-before x v ss y d (le-of-suc-le-suc h) (le-of-suc-le-suc m)
+
+pub insert-at : (x v : ℕ) (l : List ℕ) (d : ℕ) → x ≤ length l → getD (insertAt x v l) x d ≡ v
+insert-at zero v l d h = refl
+insert-at (suc x) v [] d h = absurd (not-suc-le-zero h)
+insert-at (suc x) v (s ∷ ss) d h = insert-at x v ss d (le-of-suc-le-suc h)
+
+pub insert-after : (x v : ℕ) (l : List ℕ) (y d : ℕ) → x ≤ length l → x ≤ y → getD (insertAt x v l) (suc y) d ≡ getD l y d
+insert-after zero v l y d h m = refl
+insert-after (suc x) v [] y d h m = absurd (not-suc-le-zero h)
+insert-after (suc x) v (s ∷ ss) zero d h m = absurd (not-suc-le-zero m)
+insert-after (suc x) v (s ∷ ss) (suc y) d h m = insert-after x v ss y d (le-of-suc-le-suc h) (le-of-suc-le-suc m)
+
+pub getD-default : (l : List ℕ) (i d e : ℕ) → i < length l → getD l i d ≡ getD l i e
+getD-default [] i d e h = absurd (not-suc-le-zero h)
+getD-default (s ∷ ss) zero d e h = refl
+getD-default (s ∷ ss) (suc i) d e h = getD-default ss i d e (le-of-suc-le-suc h)

@@ -1,0 +1,45 @@
+-- What a call comes to, in the paper's numbers (document 01, "Numbers and their conditions").
+use Prim.Native.Nat.{ℕ}
+use mathlib.Core.Bool.{Bool, true, false}
+use mathlib.Core.List.{List, [], _∷_, _++_}
+use lib.ListN.{length, drop}
+
+infixr 3 _then_else_
+abbrev pub _then_else_ : {A : Type 0} → Bool → A → A → A
+true then a else b = a
+false then a else b = b
+
+-- a call is worked on, or refused with a number and a place
+pub data Outcome (A : Type 0) : Type 0 where
+  done : A → Outcome A
+  refused : (number place : ℕ) → Outcome A
+
+-- a row of the paper's table: a number, whether its condition applies, and the place given with it
+pub record Test : Type 0 where
+  pub number : ℕ
+  pub applies : Bool
+  pub place : ℕ
+
+abbrev pub test : ℕ → Bool → ℕ → Test
+test k b p = record { number = k; applies = b; place = p }
+
+-- "the first that applies is given, under its condition and no other"; where none applies, the result
+unfoldable pub judge : {A : Type 0} → List Test → A → Outcome A
+judge [] a = done a
+judge (t ∷ ts) a = t .applies then refused (t .number) (t .place) else judge ts a
+
+-- the same call with a function of its result
+unfoldable pub mapDone : {A B : Type 0} → (A → B) → Outcome A → Outcome B
+mapDone f (done a) = done (f a)
+mapDone f (refused k p) = refused k p
+
+-- a call on the result of another; a refusal goes through
+unfoldable pub andThen : {A B : Type 0} → Outcome A → (A → Outcome B) → Outcome B
+andThen (done a) f = f a
+andThen (refused k p) f = refused k p
+
+-- What a lent table holds after a call that writes l to its first entries: "all other entries keep their numbers",
+-- and "refused calls change nothing lent".
+unfoldable pub filled : {A : Type 0} → (A → List ℕ) → Outcome A → List ℕ → List ℕ
+filled l (done a) table = l a ++ drop (length (l a)) table
+filled l (refused k p) table = table

@@ -1,0 +1,55 @@
+-- A run list and its function (document 01, "The collection's objects"). Places are counted from 0.
+use Prim.Native.Nat.{ℕ, suc, _+_, _-_}
+use mathlib.Core.Bool.{Bool, _&&_}
+use mathlib.Core.List.{List}
+use lib.ListN.{length, getD}
+use lib.Dec.{ltb, leb}
+use lib.IntN.{ℤ, subℕ}
+use Rattle.runs.specs.Search.{firstBelow}
+
+-- the starts and the images of the runs; n goes beside them
+pub record Runs : Type 0 where
+  pub starts : List ℕ
+  pub images : List ℕ
+
+abbrev pub runs : List ℕ → List ℕ → Runs
+runs s i = record { starts = s; images = i }
+
+-- k, the number of runs
+abbrev pub countOf : Runs → ℕ
+countOf r = length (r .starts)
+
+abbrev pub startOf : Runs → ℕ → ℕ
+startOf r x = getD (r .starts) x 0
+
+abbrev pub imageOf : Runs → ℕ → ℕ
+imageOf r x = getD (r .images) x 0
+
+-- "its end is the next run's start, or n for the last run"
+abbrev pub endOf : ℕ → Runs → ℕ → ℕ
+endOf n r x = getD (r .starts) (suc x) n
+
+abbrev pub lengthOf : ℕ → Runs → ℕ → ℕ
+lengthOf n r x = endOf n r x - startOf r x
+
+-- where the image of run x ends
+abbrev pub imageEnd : ℕ → Runs → ℕ → ℕ
+imageEnd n r x = imageOf r x + lengthOf n r x
+
+-- "the shift of a run is its image minus its start", an integer
+abbrev pub shiftOf : Runs → ℕ → ℤ
+shiftOf r x = subℕ (imageOf r x) (startOf r x)
+
+-- whether run x has place p, and the run that has p
+abbrev pub has : ℕ → Runs → ℕ → ℕ → Bool
+has n r p x = leb (startOf r x) p && ltb p (endOf n r x)
+
+abbrev pub runAt : ℕ → Runs → ℕ → ℕ
+runAt n r p = firstBelow (has n r p) (countOf r)
+
+-- "image + (place − start)", and the list's function, which sends each place by the run that has it
+abbrev pub carry : Runs → ℕ → ℕ → ℕ
+carry r x p = imageOf r x + (p - startOf r x)
+
+abbrev pub mapOf : ℕ → Runs → ℕ → ℕ
+mapOf n r p = carry r (runAt n r p) p

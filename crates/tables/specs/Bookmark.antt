@@ -1,0 +1,37 @@
+-- A bookmark's move (document 01, "Walking").
+use Prim.Native.Nat.{ℕ, _+_, _^_}
+use mathlib.Core.Path.{_≡_}
+use mathlib.Core.Bool.{Bool, _||_}
+use mathlib.Core.List.{[], _∷_, _++_}
+use lib.Dec.{leb}
+use Rattle.runs.specs.Outcome.{Outcome, done, refused, test, judge}
+use Rattle.tables.specs.Tables.{Tables}
+use Rattle.tables.specs.Move.{movedSays, stepOf, moveTests}
+use Rattle.tables.specs.declared.Step.{Step}
+use Rattle.tables.specs.declared.Bookmark.{Bookmark}
+use Rattle.tables.specs.declared.Marked.{Marked}
+
+-- "A fresh one has both counters 0."
+abbrev pub fresh : ℕ → ℕ → Bookmark
+fresh p x = record { place = p; interval = x; moves = 0; passed = 0 }
+
+-- 13: "a bookmark counter would pass its width", 32 bits for the moves and 64 for the starts passed
+unfoldable pub spent : Bookmark → Step → Bool
+spent b s = leb (2 ^ 32) (b .moves + 1) || leb (2 ^ 64) (b .passed + s .count)
+
+-- "moved on the spot, by one move": the answer is that move's
+unfoldable pub bookmarkOf : ℕ → Tables → Bookmark → Outcome Step
+bookmarkOf n t b =
+    judge (moveTests n t (b .interval) (b .place) ++ (test 13 (spent b (stepOf t (b .interval) (b .place))) 0 ∷ []))
+    (stepOf t (b .interval) (b .place))
+
+-- the bookmark after an answer: further by the step, or as it was
+unfoldable pub markAfter : Bookmark → Outcome Step → Bookmark
+markAfter b (done s) =
+    record { place = s .place; interval = s .interval; moves = b .moves + 1; passed = b .passed + s .count }
+markAfter b (refused k p) = b
+
+-- what a bookmark's move promises: the answer, and the bookmark that comes back
+pub record Advances (n : ℕ) (t : Tables) (b : Bookmark) (m : Marked) : Type 0 where
+  pub says : movedSays (m .moved) ≡ bookmarkOf n t b
+  pub mark : m .bookmark ≡ markAfter b (bookmarkOf n t b)

@@ -1,0 +1,36 @@
+-- Inverse (document 01, "Walking"), on any tables.
+use Prim.Native.Nat.{ℕ, _+_, _-_}
+use mathlib.Core.Bool.{Bool, not, _&&_}
+use mathlib.Core.List.{List, [], _∷_}
+use lib.Dec.{ltb, leb}
+use Rattle.runs.specs.Outcome.{Outcome, done, refused, test, judge}
+use Rattle.runs.specs.Refusal.{refusalSays}
+use Rattle.runs.specs.Search.{firstBelow, anyBelow}
+use Rattle.runs.specs.Runs.{Runs, countOf, startOf, imageOf, endOf}
+use Rattle.tables.specs.Tables.{Tables, shapeTest}
+use Rattle.tables.specs.declared.Source.{Source}
+use Rattle.tables.specs.declared.Inverted.{Inverted}
+use Rattle.tables.specs.declared.Inverted.the-variants.{From, Refused}
+
+abbrev pub invertedSays : Inverted → Outcome Source
+invertedSays (From s) = done s
+invertedSays (Refused r) = refusalSays r
+
+-- "start + (j − image)"
+abbrev pub carryBack : Runs → ℕ → ℕ → ℕ
+carryBack r x j = startOf r x + (j - imageOf r x)
+
+-- "whose image is at most j and for which start + (j − image) is below x's end"
+unfoldable pub sends : ℕ → Runs → ℕ → ℕ → Bool
+sends n r j x = leb (imageOf r x) j && ltb (carryBack r x j) (endOf n r x)
+
+-- "the lowest x", or the count of runs where there is none
+unfoldable pub sourceOf : ℕ → Runs → ℕ → ℕ
+sourceOf n r j = firstBelow (sends n r j) (countOf r)
+
+-- 14 applies where "no interval qualifies"
+unfoldable pub inverseOf : ℕ → Tables → ℕ → Outcome Source
+inverseOf n t j =
+    judge
+    (shapeTest n t ∷ test 11 (leb n j) j ∷ test 14 (not (anyBelow (sends n (t .list) j) (countOf (t .list)))) j ∷ [])
+    (record { place = carryBack (t .list) (sourceOf n (t .list) j) j; interval = sourceOf n (t .list) j })

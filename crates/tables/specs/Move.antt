@@ -1,0 +1,63 @@
+-- Find, move and repeated move (document 01, "Walking"), on any tables.
+use Prim.Native.Nat.{ℕ, zero, suc, _+_}
+use mathlib.Core.Bool.{_||_}
+use mathlib.Core.List.{List, [], _∷_}
+use lib.ListN.{drop}
+use lib.Dec.{ltb, leb}
+use Rattle.runs.specs.Outcome.{Outcome, done, refused, Test, test, judge, mapDone, andThen}
+use Rattle.runs.specs.Refusal.{refusalSays}
+use Rattle.runs.specs.Search.{leading}
+use Rattle.runs.specs.Runs.{startOf, carry}
+use Rattle.tables.specs.Tables.{Tables, holderOf, shapeTest, indexTest, placeTest, brokenTest}
+use Rattle.tables.specs.declared.Step.{Step}
+use Rattle.tables.specs.declared.Found.{Found}
+use Rattle.tables.specs.declared.Found.the-variants.{At, Refused as NotFound}
+use Rattle.tables.specs.declared.Moved.{Moved}
+use Rattle.tables.specs.declared.Moved.the-variants.{To, Refused as NotMoved}
+
+-- the outcome that each answer is
+abbrev pub foundSays : Found → Outcome ℕ
+foundSays (At x) = done x
+foundSays (NotFound r) = refusalSays r
+
+abbrev pub movedSays : Moved → Outcome Step
+movedSays (To s) = done s
+movedSays (NotMoved r) = refusalSays r
+
+-- From interval h, "go on to the next interval while there is one and its start is at most j": the starts passed.
+unfoldable pub passed : List ℕ → ℕ → ℕ → ℕ
+passed starts h j = leading (λ s. leb s j) (drop (suc h) starts)
+
+-- Find: "from interval 0, go on while the next start is at most i". 11 here: i not below n, or below the first start.
+unfoldable pub findOf : ℕ → Tables → ℕ → Outcome ℕ
+findOf n t i =
+    judge (shapeTest n t ∷ test 11 (leb n i || ltb i (startOf (t .list) 0)) i ∷ []) (passed (t .list .starts) 0 i)
+
+-- Move: the place reached, the interval that the walk from the holder reaches, and as count the starts passed, "the
+-- index reached minus h".
+unfoldable pub stepOf : Tables → ℕ → ℕ → Step
+stepOf t x i =
+    let c = passed (t .list .starts) (holderOf t x) (carry (t .list) x i) in
+    record { place = carry (t .list) x i; interval = holderOf t x + c; count = c }
+
+abbrev pub locateTests : ℕ → Tables → ℕ → ℕ → List Test
+locateTests n t x i = shapeTest n t ∷ indexTest t x ∷ placeTest n t x i ∷ []
+
+abbrev pub moveTests : ℕ → Tables → ℕ → ℕ → List Test
+moveTests n t x i = shapeTest n t ∷ indexTest t x ∷ placeTest n t x i ∷ brokenTest n t x i ∷ []
+
+unfoldable pub moveOf : ℕ → Tables → ℕ → ℕ → Outcome Step
+moveOf n t x i = judge (moveTests n t x i) (stepOf t x i)
+
+-- a step with what was counted before it
+abbrev pub counted : ℕ → Step → Step
+counted c s = record { place = s .place; interval = s .interval; count = c + s .count }
+
+-- one move more after a step
+unfoldable pub onwards : ℕ → Tables → Step → Outcome Step
+onwards n t s = mapDone (counted (s .count)) (moveOf n t (s .interval) (s .place))
+
+-- Repeated move: "m moves, with the sum of the counts. m = 0 gives i, x and 0, after the tests for 9, 10 and 11."
+unfoldable pub movesOf : ℕ → Tables → ℕ → ℕ → ℕ → Outcome Step
+movesOf n t zero x i = judge (locateTests n t x i) (record { place = i; interval = x; count = 0 })
+movesOf n t (suc m) x i = andThen (movesOf n t m x i) (onwards n t)

@@ -1,0 +1,64 @@
+-- Move tables (document 01, "The collection's objects"), and the tests of 9 to 12 on any numbers in them.
+use Prim.Native.Nat.{ℕ}
+use mathlib.Core.Bool.{Bool, not, _||_}
+use mathlib.Core.List.{List, map}
+use lib.ListN.{length, getD}
+use lib.Dec.{ltb, leb, eqb}
+use Rattle.runs.specs.Outcome.{Test, test}
+use Rattle.runs.specs.Runs.{Runs, runs, countOf, startOf, imageOf, endOf, runAt, carry}
+
+-- starts, images and holders
+pub record Tables : Type 0 where
+  pub list : Runs
+  pub holders : List ℕ
+
+abbrev pub tables : List ℕ → List ℕ → List ℕ → Tables
+tables s i h = record { list = runs s i; holders = h }
+
+-- the tables of a list: "the holder of interval x is the index of the interval in which x's image lies"
+abbrev pub tablesOf : ℕ → Runs → Tables
+tablesOf n r = record { list = r; holders = map (runAt n r) (r .images) }
+
+-- K, the number of intervals
+abbrev pub sizeOf : Tables → ℕ
+sizeOf t = countOf (t .list)
+
+abbrev pub holderOf : Tables → ℕ → ℕ
+holderOf t x = getD (t .holders) x 0
+
+-- the most intervals that tables may have
+abbrev pub maxIntervals : ℕ
+maxIntervals = 32768
+
+-- 9: "n is 0, or tables empty, of unequal count, or above 32,768"
+unfoldable pub misshapen : ℕ → Tables → Bool
+misshapen n t =
+    eqb n 0 ||
+    (eqb (sizeOf t) 0 ||
+    (not (eqb (sizeOf t) (length (t .list .images))) ||
+    (not (eqb (sizeOf t) (length (t .holders))) || ltb maxIntervals (sizeOf t))))
+
+-- 11: "place handed in not below n; or, where x is handed in, outside interval x"
+unfoldable pub outside : ℕ → Tables → ℕ → ℕ → Bool
+outside n t x i = leb n i || (ltb i (startOf (t .list) x) || leb (endOf n (t .list) x) i)
+
+-- 12: "holder not below K, or its start above the image"
+unfoldable pub unheld : Tables → ℕ → Bool
+unheld t x = leb (sizeOf t) (holderOf t x) || ltb (imageOf (t .list) x) (startOf (t .list) (holderOf t x))
+
+-- 12 for a move: so, "or the place that a move reaches not below n"
+unfoldable pub broken : ℕ → Tables → ℕ → ℕ → Bool
+broken n t x i = unheld t x || leb n (carry (t .list) x i)
+
+-- the tests as rows of the paper's table
+abbrev pub shapeTest : ℕ → Tables → Test
+shapeTest n t = test 9 (misshapen n t) 0
+
+abbrev pub indexTest : Tables → ℕ → Test
+indexTest t x = test 10 (leb (sizeOf t) x) x
+
+abbrev pub placeTest : ℕ → Tables → ℕ → ℕ → Test
+placeTest n t x i = test 11 (outside n t x i) i
+
+abbrev pub brokenTest : ℕ → Tables → ℕ → ℕ → Test
+brokenTest n t x i = test 12 (broken n t x i) x

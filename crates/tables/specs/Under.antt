@@ -1,0 +1,51 @@
+-- The starts under an image and their number: of a list (document 01, "The collection's objects"), and as walked on any
+-- tables ("Walking"). On the tables of a legal list the two are one (proofs/Walks).
+use Prim.Native.Nat.{ℕ, _+_}
+use mathlib.Core.Bool.{Bool, _&&_, _||_}
+use mathlib.Core.List.{List, [], _∷_}
+use lib.ListN.{length, take, drop}
+use lib.Dec.{ltb, leb, eqb}
+use Rattle.runs.specs.Outcome.{Outcome, done, refused, test, judge, _then_else_}
+use Rattle.runs.specs.Refusal.{refusalSays}
+use Rattle.runs.specs.Search.{leading, keep}
+use Rattle.runs.specs.Runs.{Runs, startOf, imageOf, endOf, imageEnd}
+use Rattle.tables.specs.Tables.{Tables, holderOf, unheld, shapeTest, indexTest}
+use Rattle.tables.specs.declared.Weighed.{Weighed}
+use Rattle.tables.specs.declared.Weighed.the-variants.{Weight, Refused}
+
+-- the starts "at or above its image and below its image plus length", in rising order
+abbrev pub under : ℕ → Runs → ℕ → List ℕ
+under n r x = keep (λ s. leb (imageOf r x) s && ltb s (imageEnd n r x)) (r .starts)
+
+-- "The weight of x is the number" of them. "A start equal to the image counts."
+abbrev pub weight : ℕ → Runs → ℕ → ℕ
+weight n r x = length (under n r x)
+
+abbrev pub weighedSays : Weighed → Outcome ℕ
+weighedSays (Weight w) = done w
+weighedSays (Refused r) = refusalSays r
+
+-- 12 here: the holder's part, and "length below 1 or image + length above n"
+unfoldable pub unplaced : ℕ → Tables → ℕ → Bool
+unplaced n t x =
+    unheld t x || (leb (endOf n (t .list) x) (startOf (t .list) x) || ltb n (imageEnd n (t .list) x))
+
+-- The stretch "begins at the holder if the holder's start equals the image, else one further",
+unfoldable pub underFirst : Tables → ℕ → ℕ
+underFirst t x = holderOf t x + (eqb (startOf (t .list) (holderOf t x)) (imageOf (t .list) x) then 0 else 1)
+
+-- "and ends before the first start, from there on, not below image + length, or at the table's end": its size.
+unfoldable pub underCount : ℕ → Tables → ℕ → ℕ
+underCount n t x = leading (λ s. ltb s (imageEnd n (t .list) x)) (drop (underFirst t x) (t .list .starts))
+
+-- "Weight gives its size or the number."
+unfoldable pub weightOf : ℕ → Tables → ℕ → Outcome ℕ
+weightOf n t x = judge (shapeTest n t ∷ indexTest t x ∷ test 12 (unplaced n t x) x ∷ []) (underCount n t x)
+
+-- the stretch itself; "it is empty on a refusal"
+unfoldable pub stretch : Outcome ℕ → List ℕ → List ℕ
+stretch (done w) starts = take w starts
+stretch (refused k p) starts = []
+
+unfoldable pub startsUnderOf : ℕ → Tables → ℕ → List ℕ
+startsUnderOf n t x = stretch (weightOf n t x) (drop (underFirst t x) (t .list .starts))
