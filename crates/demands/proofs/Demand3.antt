@@ -79,7 +79,7 @@ module _ (n : ℕ) (r : Runs) (d : ℕ) (c : Legal n r) (many : 2 ≤ d) (few : 
   most = move-most n d r t legal (balanced-map d n many r c) (balanced-light d n many r c)
 
   -- the tables of the balanced list serve the plain walk
-  pub tables-serve : (l : Lent) → firstOf (countOf t) l ≡ tablesOf n t → Serves n r d (countOf t) l
+  tables-serve : (l : Lent) → firstOf (countOf t) l ≡ tablesOf n t → Serves n r d (countOf t) l
   unfolding t
   tables-serve l e = record {
     fits = balanced-count d n many r c;
