@@ -34,7 +34,7 @@ module _ (p : ℕ → Bool) where
   leading-within l x h = omega (arith, leading-few (drop x l), length-drop x l)
 
   -- the elements counted have the property, the next one has not
-  leading-last : (l : List ℕ) (c : ℕ) → leading p l ≡ suc c → p (getD l c 0) ≡ true
+  pub leading-last : (l : List ℕ) (c : ℕ) → leading p l ≡ suc c → p (getD l c 0) ≡ true
   leading-last [] c e = absurd (omega arith)
   leading-last (s ∷ ss) c e = go (p s) refl c e (leading-last ss)
     where
@@ -44,7 +44,7 @@ module _ (p : ℕ → Bool) where
       go true f (suc c) e i = i c (omega arith)
       go false f c e i = absurd (omega arith)
 
-  leading-next : (l : List ℕ) → leading p l < length l → p (getD l (leading p l) 0) ≡ false
+  pub leading-next : (l : List ℕ) → leading p l < length l → p (getD l (leading p l) 0) ≡ false
   leading-next [] h = absurd (not-suc-le-zero h)
   leading-next (s ∷ ss) h = go (p s) refl h (leading-next ss)
     where

@@ -4,7 +4,7 @@ mod walk;
 
 ghost use mathlib.Core.Path.{_≡_};
 ghost use Rattle.tables.specs.Tables.{tables};
-ghost use Rattle.tables.specs.Move.{foundSays, movedSays, findOf, moveOf};
+ghost use Rattle.tables.specs.Move.{foundSays, movedSays, findOf, moveOf, movesOf};
 
 // Where a move or a repeated move ends, and how many interval starts it passed.
 pub struct Step {
@@ -76,5 +76,23 @@ pub fn move_query(n: u32, starts: &[u32], images: &[u32], holders: &[u32], x: u3
     match checks::locate(n, starts, images, holders, x, i) {
         Moved::Refused(r) => Moved::Refused(r),
         Moved::To(_) => walk::advance(n, starts, images, holders, x, i),
+    }
+}
+
+// m moves from place i of interval x, with the sum of the counts.
+pub fn repeated_moves(
+    n: u32,
+    starts: &[u32],
+    images: &[u32],
+    holders: &[u32],
+    x: u32,
+    i: u32,
+    m: u32,
+) -> Moved
+    ensures { λ r. ⌜ movedSays r ≡ movesOf n (tables (now (starts .entry)) (now (images .entry)) (now (holders .entry))) m x i ⌝ }
+{
+    match checks::locate(n, starts, images, holders, x, i) {
+        Moved::Refused(r) => Moved::Refused(r),
+        Moved::To(_) => walk::moves_from(n, starts, images, holders, x, i, m),
     }
 }

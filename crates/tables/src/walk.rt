@@ -9,7 +9,7 @@ ghost use lib.ListN.{length, drop};
 ghost use lib.Dec.{leb};
 ghost use Rattle.runs.specs.Search.{leading};
 ghost use Rattle.tables.specs.Tables.{tables};
-ghost use Rattle.tables.specs.Move.{movedSays};
+ghost use Rattle.tables.specs.Move.{movedSays, movesOf};
 ghost use Rattle.tables.specs.Passed.{Located, advanceOf};
 
 // From index `from` on, how many starts at a stretch are at most j.
@@ -53,5 +53,41 @@ pub(crate) fn advance(
         place: j as u32,
         interval: (h + count) as u32,
         count: count as u64,
+    })
+}
+
+// m moves from a place that lies in interval x, with the sum of the counts. After a move the place lies in the interval
+// reached, so that only 12 is left to test.
+pub(crate) fn moves_from(
+    n: u32,
+    starts: &[u32],
+    images: &[u32],
+    holders: &[u32],
+    x: u32,
+    i: u32,
+    m: u32,
+) -> Moved
+    requires { ⌜ Located n (tables (now starts) (now images) (now holders)) x i ⌝ }
+    ensures { λ r. ⌜ movedSays r ≡ movesOf n (tables (now (starts .entry)) (now (images .entry)) (now (holders .entry))) m x i ⌝ }
+{
+    let mut place = i;
+    let mut interval = x;
+    let mut count: u64 = 0;
+    let mut made: u32 = 0;
+    while made < m {
+        match advance(n, starts, images, holders, interval, place) {
+            Moved::Refused(r) => return Moved::Refused(r),
+            Moved::To(s) => {
+                place = s.place;
+                interval = s.interval;
+                count += s.count;
+            }
+        }
+        made += 1;
+    }
+    Moved::To(Step {
+        place: place,
+        interval: interval,
+        count: count,
     })
 }
