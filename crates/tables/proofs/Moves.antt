@@ -2,7 +2,7 @@
 -- 12 on the way.
 use Prim.Native.Nat.{ℕ, zero, suc, _+_, _*_, _≤_, _<_}
 use mathlib.Core.Path.{_≡_, refl, sym, ap, _∙_}
-use mathlib.Core.Bool.{false}
+use mathlib.Core.Bool.{Bool, true, false}
 use mathlib.Core.Logic.{_⊎_, inl, inr}
 use mathlib.Core.List.{List, []}
 use native.Mathlib.Numerals.{add-one}
@@ -13,14 +13,14 @@ use lib.Dec.{leb}
 use borrow.Author.Tests.{leb-true, leb-false}
 use Rattle.order.proofs.Laws.{lt-or-le}
 use Rattle.runs.proofs.Searches.{getD-default}
-use Rattle.runs.specs.Outcome.{Outcome, done, refused, judge, mapDone, andThen}
+use Rattle.runs.specs.Outcome.{Outcome, done, refused, judge, mapDone, andThen, _then_else_}
 use Rattle.runs.specs.Search.{leading}
 use Rattle.runs.specs.Runs.{carry}
-use Rattle.tables.specs.Tables.{Tables, holderOf, maxIntervals, unheld, brokenTest}
-use Rattle.tables.specs.Move.{passed, stepOf, movesOf, counted, onwards}
+use Rattle.tables.specs.Tables.{Tables, holderOf, maxIntervals, unheld, broken, brokenTest}
+use Rattle.tables.specs.Move.{passed, stepOf, moveOf, movesOf, counted, onwards}
 use Rattle.tables.specs.Passed.{Shaped, Located, advanceOf}
 use Rattle.tables.specs.declared.Step.{Step}
-use Rattle.tables.proofs.Judging.{judge-first}
+use Rattle.tables.proofs.Judging.{done-refused, judge-first}
 use Rattle.tables.proofs.Leading.{leading-within, leading-last, leading-next}
 use Rattle.tables.proofs.Passing.{whole-is, held-is}
 use Rattle.tables.proofs.Steps.{locate-in, move-located}
@@ -137,3 +137,51 @@ module _ (n : ℕ) (t : Tables) (x i m place interval count made : ℕ) (w : Wal
 
   pub walking-end : m ≤ made → done (record { place = place; interval = interval; count = count }) ≡ movesOf n t m x i
   walking-end l = let z : made ≡ m = omega (arith, w .within) in rw z at (w .said)
+
+-- where a repeated move stopped: after some moves, at an interval that is broken, with 12 and that interval
+pub record Stopped (n : ℕ) (t : Tables) (m x i number place : ℕ) : Type 0 where
+  pub made : ℕ
+  pub fewer : made < m
+  pub step : Step
+  pub so-far : movesOf n t made x i ≡ done step
+  pub twelve : number ≡ 12
+  pub there : place ≡ step .interval
+  pub cause : broken n t (step .interval) (step .place) ≡ true
+
+module _ (n : ℕ) (t : Tables) (x i : ℕ) (l : Located n t x i) where
+  -- on the way the place lies in its interval
+  pub moves-located : (m : ℕ) (s : Step) → movesOf n t m x i ≡ done s → Located n t (s .interval) (s .place)
+  unfolding movesOf andThen onwards mapDone
+  moves-located zero s e = let z : record { place = i; interval = x; count = 0 } ≡ s = cc (locate-in n t x i l) in rw (← z) l
+  moves-located (suc m) s e = go (movesOf n t m x i) refl e (moves-located m)
+    where
+      next : (a : Step) → Located n t (a .interval) (a .place) → (o : Outcome Step) → o ≡ advanceOf n t (a .interval) (a .place)
+          → mapDone (counted (a .count)) o ≡ done s → Located n t (s .interval) (s .place)
+      next a k (done b) f g = let z : counted (a .count) b ≡ s = cc in rw (← z) (step-located n t (a .interval) (a .place) b f k)
+      next a k (refused p q) f g = absurd (done-refused s p q (sym g))
+
+      go : (o : Outcome Step) → movesOf n t m x i ≡ o → andThen o (onwards n t) ≡ done s
+          → ((a : Step) → movesOf n t m x i ≡ done a → Located n t (a .interval) (a .place)) → Located n t (s .interval) (s .place)
+      go (done a) f g r = next a (r a f) (moveOf n t (a .interval) (a .place)) (move-located n t (a .interval) (a .place) (r a f)) g
+      go (refused p q) f g r = absurd (done-refused s p q (sym g))
+
+  -- a repeated move is refused by 12 alone
+  pub moves-stopped : (m p q : ℕ) → movesOf n t m x i ≡ refused p q → Stopped n t m x i p q
+  unfolding movesOf andThen onwards mapDone advanceOf judge
+  moves-stopped zero p q e = absurd (done-refused _ p q (locate-in n t x i l ∙ e))
+  moves-stopped (suc m) p q e = go (movesOf n t m x i) refl e (moves-stopped m)
+    where
+      at : (a : Step) → movesOf n t m x i ≡ done a → (b : Bool) → broken n t (a .interval) (a .place) ≡ b
+          → mapDone (counted (a .count)) (b then refused 12 (a .interval) else done (stepOf t (a .interval) (a .place))) ≡ refused p q
+          → Stopped n t (suc m) x i p q
+      at a f true g h =
+          let z : refused 12 (a .interval) ≡ refused p q = h in
+          record { made = m; fewer = omega arith; step = a; so-far = f; twelve = cc; there = cc; cause = g }
+      at a f false g h = absurd (done-refused _ p q h)
+
+      go : (o : Outcome Step) → movesOf n t m x i ≡ o → andThen o (onwards n t) ≡ refused p q
+          → ((p q : ℕ) → movesOf n t m x i ≡ refused p q → Stopped n t m x i p q) → Stopped n t (suc m) x i p q
+      go (done a) f g r = at a f (broken n t (a .interval) (a .place)) refl (ap (mapDone (counted (a .count))) (sym (move-located n t (a .interval) (a .place) (moves-located m a f))) ∙ g)
+      go (refused v w) f g r =
+          let s = r p q (f ∙ g) in
+          record { made = s .made; fewer = omega arith; step = s .step; so-far = s .so-far; twelve = s .twelve; there = s .there; cause = s .cause }
