@@ -1,5 +1,4 @@
 -- The laws that callers cite.
-pub mod Judging
 pub mod Leading
 pub mod Passing
 pub mod Steps

@@ -20,7 +20,7 @@ use Rattle.tables.specs.Tables.{Tables, holderOf, maxIntervals, unheld, 
 use Rattle.tables.specs.Move.{passed, stepOf, moveOf, movesOf, counted, onwards}
 use Rattle.tables.specs.Passed.{Shaped, Located, advanceOf}
 use Rattle.tables.specs.declared.Step.{Step}
-use Rattle.tables.proofs.Judging.{done-refused, judge-first}
+use Rattle.runs.proofs.Judging.{done-refused, judge-first}
 use Rattle.tables.proofs.Leading.{leading-within, leading-last, leading-next}
 use Rattle.tables.proofs.Passing.{whole-is, held-is}
 use Rattle.tables.proofs.Steps.{locate-in, move-located}

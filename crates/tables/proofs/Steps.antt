@@ -14,7 +14,7 @@ use Rattle.tables.specs.Tables.{Tables, sizeOf, holderOf, misshapen, out
 use Rattle.tables.specs.Move.{passed, findOf, stepOf, moveOf, movesOf, locateTests}
 use Rattle.tables.specs.Passed.{Shaped, Located, advanceOf}
 use Rattle.tables.specs.declared.Step.{Step}
-use Rattle.tables.proofs.Judging.{judge-append, judge-first}
+use Rattle.runs.proofs.Judging.{judge-append, judge-first}
 use Rattle.tables.proofs.Passing.{shaped, inside, inside-is}
 
 -- find

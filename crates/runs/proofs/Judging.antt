@@ -1,10 +1,10 @@
 -- Laws of `judge`: more tests after the first ones, and what a passed or a refused list of tests says.
 use Prim.Native.Nat.{ℕ}
-use mathlib.Core.Path.{_≡_, refl}
+use mathlib.Core.Path.{_≡_, refl, sym}
 use mathlib.Core.Bool.{Bool, true, false}
 use mathlib.Core.List.{List, [], _∷_, _++_}
 use native.Mathlib.Omega.{arith}
-use Rattle.runs.specs.Outcome.{done, refused, Test, judge, andThen, _then_else_}
+use Rattle.runs.specs.Outcome.{Outcome, done, refused, Test, judge, andThen, _then_else_}
 
 -- what is done is not refused
 pub done-refused : {A : Type 0} (a : A) (k p : ℕ) → done a ≡ refused k p → ⊥
@@ -32,3 +32,13 @@ judge-first t ts a b e = go (t .applies) e
     go : (s : Bool) → done b ≡ (s then refused (t .number) (t .place) else judge ts a) → (s ≡ false) × (done b ≡ judge ts a)
     go true e = absurd (done-refused b (t .number) (t .place) e)
     go false e = (refl, e)
+
+-- what tests that pass give is the result, and that tests further on follow
+pub judge-done : {A : Type 0} (ts : List Test) (a b : A) → judge ts a ≡ done b → a ≡ b
+unfolding judge
+judge-done [] a b e = cc
+judge-done (t ∷ ts) a b e = judge-done ts a b (sym (judge-first t ts a b (sym e) .1))
+
+pub judge-on : {A : Type 0} (ts us : List Test) (a b : A) → judge ts a ≡ done b → judge (ts ++ us) a ≡ judge us a
+unfolding andThen
+judge-on ts us a b e = rw (judge-append ts us a a, e)

@@ -1,0 +1,5 @@
+-- The proofs of the three demands.
+mod Counting
+mod Serving
+mod Marking
+pub mod Demand3
