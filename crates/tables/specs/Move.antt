@@ -4,7 +4,7 @@ use mathlib.Core.Bool.{_||_}
 use mathlib.Core.List.{List, [], _∷_}
 use lib.ListN.{drop}
 use lib.Dec.{ltb, leb}
-use Rattle.runs.specs.Outcome.{Outcome, done, refused, Test, test, judge, mapDone, andThen}
+use Rattle.runs.specs.Outcome.{Outcome, done, Test, test, judge, mapDone, andThen}
 use Rattle.runs.specs.Refusal.{refusalSays}
 use Rattle.runs.specs.Search.{leading}
 use Rattle.runs.specs.Runs.{startOf, carry}
