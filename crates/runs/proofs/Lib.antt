@@ -1,4 +1,7 @@
--- The laws that callers cite.
+-- The laws that callers cite, and what the proofs of this crate's functions do.
 pub mod Sums
 pub mod Searches
 pub mod Legality
+mod Searching
+mod Checking
+mod Sweeping
