@@ -11,11 +11,11 @@ digits zero v = []
 digits (suc places) v = (ltb v 10 then [] else digits places (v / 10)) ++ ((48 + v % 10) ∷ [])
 
 -- a number of at most 64 bits has at most 20 digits
-abbrev pub decimal : ℕ → List ℕ
+unfoldable pub decimal : ℕ → List ℕ
 decimal v = digits 20 v
 
 -- an integer, below 0 with its sign in front
-abbrev pub signed : ℤ → List ℕ
+unfoldable pub signed : ℤ → List ℕ
 signed (pos v) = decimal v
 signed (negsuc v) = 45 ∷ decimal (suc v)
 
