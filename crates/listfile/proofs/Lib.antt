@@ -2,3 +2,4 @@
 mod Reading
 mod Writing
 mod Digits
+mod Signs

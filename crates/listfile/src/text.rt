@@ -1,7 +1,9 @@
 // Numbers and lines written on a page, as ASCII text.
 ghost use mathlib.Core.List.{[], _∷_, _++_};
-ghost use lib.IntN.{ℤ};
-ghost use Rattle.listfile.specs.Text.{decimal as Text·decimal, signed as Text·signed};
+ghost use mathlib.Core.Path.{_≡_};
+ghost use Prim.Native.Nat.{_<_};
+ghost use lib.IntN.{natAbs};
+ghost use Rattle.listfile.specs.Text.{decimal as Text·decimal, negative};
 ghost use Rattle.listfile.specs.Page.{Fits, Wrote};
 
 // Writes one byte at `at`, and returns where to go on.
@@ -26,3 +28,20 @@ fn decimal(page: &mut [u8], at: usize, v: u64) -> usize
     put(page, next, last)
 }
 
+// Whether v is below 0.
+fn is_negative(v: i64) -> bool
+    ensures { λ r. ⌜ r ≡ negative v ⌝ }
+{
+    v < 0
+}
+
+// The size of v.
+fn magnitude(v: i64) -> u64
+    requires { ⌜ natAbs v < 4294967296 ⌝ }
+    ensures { λ r. ⌜ r ≡ natAbs v ⌝ }
+{
+    if v < 0 {
+        return (0 - v) as u64;
+    }
+    v as u64
+}
