@@ -5,3 +5,4 @@ pub mod Legality
 mod Searching
 mod Checking
 mod Sweeping
+pub mod Accepted
