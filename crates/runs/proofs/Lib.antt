@@ -10,3 +10,4 @@ mod Mapped
 pub mod Intervals
 pub mod Bijection
 pub mod Tiling
+pub mod Inversion
