@@ -1,4 +1,5 @@
--- Balancing ends, and what its result is.
+-- Balancing ends, and what its result is: each cut makes one more interval of weight d or more, and there is no room for
+-- many of these.
 use Prim.Native.Nat.{ℕ, zero, suc, _+_, _-_, _*_, _≤_, _<_, suc-le-suc}
 use mathlib.Core.Path.{_≡_, refl, sym, _∙_}
 use mathlib.Core.Bool.{Bool, true, not, _&&_, false≢true}
@@ -10,11 +11,12 @@ use lib.Dec.{ltb}
 use borrow.Author.Tests.{le-leb, leb-true, lt-ltb, le-ltb, ltb-true, not-true}
 use Rattle.runs.specs.Search.{firstBelow, anyBelow}
 use Rattle.runs.proofs.Searches.{first-true, first-least, first-only, any-false, any-none}
-use Rattle.runs.proofs.Sums.{parted, and-true}
+use Rattle.order.proofs.Laws.{lt-or-le}
+use Rattle.runs.proofs.Sums.{and-true}
 use Rattle.runs.specs.Legal.{Legal}
 use Rattle.runs.specs.Runs.{Runs, countOf, imageOf, imageEnd, mapOf}
 use Rattle.tables.specs.Under.{under, weight}
-use Rattle.balance.specs.Balance.{heavy, next, pick, cut, cutAt, cutting, balanced, boundOf}
+use Rattle.balance.specs.Balance.{heavy, next, pick, cutAt, cutting, balanced, boundOf}
 use Rattle.runs.proofs.Legality.{homes}
 use Rattle.balance.proofs.Refine.{Refines, refines-self, refines-on, refined-legal, refined-map}
 use Rattle.balance.proofs.Cut.{cut-count, cut-refines}
@@ -39,7 +41,7 @@ module _ (d n : ℕ) (r : Runs) where
   next-true x l = rw (le-leb (2 * d) (weight n r x) (l .weighs), any-none (lower d n r x) (countOf r) (λ y h e. let i = lower-is x y e in omega (arith, l .lowest y h (i .0))))
 
   next-is : (x : ℕ) → x < countOf r → next d n r x ≡ true → Lowest d n r x
-  next-is x h e = record { known = h; weighs = leb-true (2 * d) (weight n r x) (i .0); lowest = λ y hy w. go y hy w (parted (imageOf r y) (imageOf r x)) }
+  next-is x h e = record { known = h; weighs = leb-true (2 * d) (weight n r x) (i .0); lowest = λ y hy w. go y hy w (lt-or-le (imageOf r y) (imageOf r x)) }
     where
       i : (heavy d n r x ≡ true) × (not (anyBelow (lower d n r x) (countOf r)) ≡ true)
       i = and-true (heavy d n r x) (not (anyBelow (lower d n r x) (countOf r))) e
@@ -54,12 +56,12 @@ module _ (d n : ℕ) (r : Runs) where
 
   -- and there is one as long as one is heavy
   lower-or : (x : ℕ) → x < countOf r → 2 * d ≤ weight n r x → ((z : ℕ) × (z < countOf r) × (2 * d ≤ weight n r z) × (imageOf r z < imageOf r x)) ⊎ Lowest d n r x
-  lower-or x h w = go (parted (firstBelow (lower d n r x) (countOf r)) (countOf r))
+  lower-or x h w = go (lt-or-le (firstBelow (lower d n r x) (countOf r)) (countOf r))
     where
       go : (firstBelow (lower d n r x) (countOf r) < countOf r) ⊎ (countOf r ≤ firstBelow (lower d n r x) (countOf r))
           → ((z : ℕ) × (z < countOf r) × (2 * d ≤ weight n r z) × (imageOf r z < imageOf r x)) ⊎ Lowest d n r x
       go (inl a) = let i = lower-is x (firstBelow (lower d n r x) (countOf r)) (first-true (lower d n r x) (countOf r) a) in inl (firstBelow (lower d n r x) (countOf r), a, i .0, i .1)
-      go (inr a) = inr (record { known = h; weighs = w; lowest = λ y hy v. at y hy v (parted (imageOf r y) (imageOf r x)) })
+      go (inr a) = inr (record { known = h; weighs = w; lowest = λ y hy v. at y hy v (lt-or-le (imageOf r y) (imageOf r x)) })
         where
           at : (y : ℕ) → y < countOf r → 2 * d ≤ weight n r y → (imageOf r y < imageOf r x) ⊎ (imageOf r x ≤ imageOf r y) → imageOf r x ≤ imageOf r y
           at y hy v (inl l) = absurd (omega (arith, first-least (lower d n r x) (countOf r) y hy (rw (le-leb (2 * d) (weight n r y) v, lt-ltb (imageOf r y) (imageOf r x) l))))
@@ -79,7 +81,7 @@ module _ (d n : ℕ) (r : Runs) where
       go (inr i) more = omega (arith, first-least (next d n r) (countOf r) x h (next-true x i))
 
   pub pick-none : countOf r ≤ pick d n r → (x : ℕ) → x < countOf r → weight n r x < 2 * d
-  pick-none h x hx = go (parted (weight n r x) (2 * d))
+  pick-none h x hx = go (lt-or-le (weight n r x) (2 * d))
     where
       go : (weight n r x < 2 * d) ⊎ (2 * d ≤ weight n r x) → weight n r x < 2 * d
       go (inl l) = l
@@ -107,7 +109,7 @@ abbrev pub Light : ℕ → ℕ → Runs → Type 0
 Light d n r = (x : ℕ) → x < countOf r → weight n r x < 2 * d
 
 pub cutting-done : (f d n : ℕ) (r : Runs) → Light d n r → cutting f d n r ≡ r
-cutting-done f d n r l = go (parted (pick d n r) (countOf r))
+cutting-done f d n r l = go (lt-or-le (pick d n r) (countOf r))
   where
     go : (pick d n r < countOf r) ⊎ (countOf r ≤ pick d n r) → cutting f d n r ≡ r
     go (inl h) = absurd (omega (arith, l (pick d n r) h, pick-lowest d n r h .weighs))
@@ -140,12 +142,12 @@ module _ (d n : ℕ) (many : 2 ≤ d) where
       → ((f : ℕ) (r q : Runs) (x : ℕ) → Legal n r → x < countOf r → 2 * d ≤ weight n r x → P f (cutAt d n r x) q → P (suc f) r q)
       → (f : ℕ) (r : Runs) → Legal n r → P f r (cutting f d n r)
   unfolding cutting
-  cutting-ind P light none more zero r c = go (parted (pick d n r) (countOf r))
+  cutting-ind P light none more zero r c = go (lt-or-le (pick d n r) (countOf r))
     where
       go : (pick d n r < countOf r) ⊎ (countOf r ≤ pick d n r) → P 0 r r
       go (inl h) = none r (pick d n r) c h (pick-lowest d n r h .weighs)
       go (inr h) = light 0 r c (pick-none d n r h)
-  cutting-ind P light none more (suc f) r c = go (parted (pick d n r) (countOf r)) (cutting-ind P light none more f (cutAt d n r (pick d n r)))
+  cutting-ind P light none more (suc f) r c = go (lt-or-le (pick d n r) (countOf r)) (cutting-ind P light none more f (cutAt d n r (pick d n r)))
     where
       go : (pick d n r < countOf r) ⊎ (countOf r ≤ pick d n r) → (Legal n (cutAt d n r (pick d n r)) → P f (cutAt d n r (pick d n r)) (cutting f d n (cutAt d n r (pick d n r)))) → P (suc f) r (cutting (suc f) d n r)
       go (inl h) i = let w = pick-lowest d n r h .weighs in rw (cutting-step d n r f h) (more f r _ (pick d n r) c h w (i (heavy-legal r c (pick d n r) h w)))

@@ -1,20 +1,21 @@
--- The cut of an interval at a place inside its image.
-use Prim.Native.Nat.{ℕ, zero, suc, _+_, _-_, _≤_, _<_, suc-le-suc}
+-- The numbers of a list after the cut of an interval at a place inside its image: a list of pieces of the old one.
+use Prim.Native.Nat.{ℕ, zero, suc, _-_, _≤_, _<_, suc-le-suc}
 use mathlib.Core.Path.{_≡_, _∙_}
 use mathlib.Core.Logic.{_⊎_, inl, inr}
 use native.Mathlib.Omega.{arith}
-use lib.ListN.{length}
-use Rattle.runs.proofs.Sums.{parted}
+use lib.ListN.{length, getD}
+use Rattle.order.proofs.Laws.{lt-or-le}
 use Rattle.runs.proofs.Searches.{length-insert, insert-before, insert-at, insert-after}
 use Rattle.runs.specs.Legal.{Legal}
-use Rattle.runs.specs.Runs.{Runs, countOf, startOf, imageOf, endOf, imageEnd, mapOf}
+use Rattle.runs.specs.Runs.{Runs, countOf, startOf, imageOf, endOf, imageEnd}
+use Rattle.tables.specs.Inverse.{carryBack}
 use Rattle.balance.specs.Balance.{cut}
 use Rattle.runs.proofs.Legality.{homes}
-use Rattle.balance.proofs.Refine.{Piece, Refines, refined-legal, refined-map}
+use Rattle.balance.proofs.Refine.{Piece, Refines}
 
 -- an index of the list after a cut of x
 pub cut-cases : (P : ℕ → Type 0) (x : ℕ) → ((y : ℕ) → y < x → P y) → P x → P (suc x) → ((y : ℕ) → x < y → P (suc y)) → (y : ℕ) → P y
-cut-cases P x left first second right y = go y (parted y x)
+cut-cases P x left first second right y = go y (lt-or-le y x)
   where
     two : (z : ℕ) → x ≤ suc z → (x < z) ⊎ (z ≤ x) → (z < x) ⊎ (x ≤ z) → P (suc z)
     two z h (inl a) b = right z a
@@ -24,7 +25,7 @@ cut-cases P x left first second right y = go y (parted y x)
     go : (y : ℕ) → (y < x) ⊎ (x ≤ y) → P y
     go y (inl l) = left y l
     go zero (inr l) = let e : 0 ≡ x = omega arith in rw (← e) at first
-    go (suc z) (inr l) = two z l (parted x z) (parted z x)
+    go (suc z) (inr l) = two z l (lt-or-le x z) (lt-or-le z x)
 
 -- the numbers of interval y of q
 pub record Is (n : ℕ) (q : Runs) (y start image end : ℕ) : Type 0 where
@@ -34,10 +35,10 @@ pub record Is (n : ℕ) (q : Runs) (y start image end : ℕ) : Type 0 where
 
 module _ (n : ℕ) (r : Runs) (pair : length (r .images) ≡ countOf r) (x s : ℕ) (hx : x < countOf r) where
   pub cut-count : countOf (cut r x s) ≡ suc (countOf r)
-  cut-count = length-insert (suc x) (startOf r x + (s - imageOf r x)) (r .starts) hx
+  cut-count = length-insert (suc x) (carryBack r x s) (r .starts) hx
 
-  starts-before : (y d : ℕ) → y < suc x → lib.ListN.getD (cut r x s .starts) y d ≡ lib.ListN.getD (r .starts) y d
-  starts-before y d l = insert-before (suc x) (startOf r x + (s - imageOf r x)) (r .starts) y d hx l
+  starts-before : (y d : ℕ) → y < suc x → getD (cut r x s .starts) y d ≡ getD (r .starts) y d
+  starts-before y d l = insert-before (suc x) (carryBack r x s) (r .starts) y d hx l
 
   images-before : (y : ℕ) → y < suc x → imageOf (cut r x s) y ≡ imageOf r y
   images-before y l = insert-before (suc x) s (r .images) y 0 (omega arith) l
@@ -45,21 +46,21 @@ module _ (n : ℕ) (r : Runs) (pair : length (r .images) ≡ countOf r) (x s : �
   pub cut-left : (y : ℕ) → y < x → Is n (cut r x s) y (startOf r y) (imageOf r y) (endOf n r y)
   cut-left y l = record { start-is = starts-before y 0 (omega arith); image-is = images-before y (omega arith); end-is = starts-before (suc y) n (suc-le-suc l) }
 
-  pub cut-first : Is n (cut r x s) x (startOf r x) (imageOf r x) (startOf r x + (s - imageOf r x))
-  cut-first = record { start-is = starts-before x 0 (omega arith); image-is = images-before x (omega arith); end-is = insert-at (suc x) (startOf r x + (s - imageOf r x)) (r .starts) n hx }
+  pub cut-first : Is n (cut r x s) x (startOf r x) (imageOf r x) (carryBack r x s)
+  cut-first = record { start-is = starts-before x 0 (omega arith); image-is = images-before x (omega arith); end-is = insert-at (suc x) (carryBack r x s) (r .starts) n hx }
 
-  pub cut-second : Is n (cut r x s) (suc x) (startOf r x + (s - imageOf r x)) s (endOf n r x)
+  pub cut-second : Is n (cut r x s) (suc x) (carryBack r x s) s (endOf n r x)
   cut-second = record {
-    start-is = insert-at (suc x) (startOf r x + (s - imageOf r x)) (r .starts) 0 hx;
+    start-is = insert-at (suc x) (carryBack r x s) (r .starts) 0 hx;
     image-is = insert-at (suc x) s (r .images) 0 (omega arith);
-    end-is = insert-after (suc x) (startOf r x + (s - imageOf r x)) (r .starts) (suc x) n hx (omega arith);
+    end-is = insert-after (suc x) (carryBack r x s) (r .starts) (suc x) n hx (omega arith);
   }
 
   pub cut-right : (y : ℕ) → x < y → Is n (cut r x s) (suc y) (startOf r y) (imageOf r y) (endOf n r y)
   cut-right y l = record {
-    start-is = insert-after (suc x) (startOf r x + (s - imageOf r x)) (r .starts) y 0 hx l;
+    start-is = insert-after (suc x) (carryBack r x s) (r .starts) y 0 hx l;
     image-is = insert-after (suc x) s (r .images) y 0 (omega arith) l;
-    end-is = insert-after (suc x) (startOf r x + (s - imageOf r x)) (r .starts) (suc y) n hx (omega arith);
+    end-is = insert-after (suc x) (carryBack r x s) (r .starts) (suc y) n hx (omega arith);
   }
 
 module _ (n : ℕ) (r : Runs) (c : Legal n r) (x s : ℕ) (hx : x < countOf r) (lo : imageOf r x < s) (hi : s < imageEnd n r x) where
@@ -77,9 +78,3 @@ module _ (n : ℕ) (r : Runs) (c : Legal n r) (x s : ℕ) (hx : x < countOf r) (
     first = starts-before n r (c .paired) x s hx 0 0 (omega arith) ∙ c .first;
     piece = λ y h. cut-piece y (omega (arith, cut-count n r (c .paired) x s hx));
   }
-
-  pub cut-legal : Legal n (cut r x s)
-  cut-legal = refined-legal n r (cut r x s) c cut-refines
-
-  pub cut-map : (p : ℕ) → p < n → mapOf n (cut r x s) p ≡ mapOf n r p
-  cut-map = refined-map n r (cut r x s) c cut-refines

@@ -5,7 +5,7 @@ use native.Mathlib.Omega.{arith}
 use lib.ListN.{length}
 use Rattle.runs.specs.Legal.{Legal}
 use Rattle.runs.specs.Runs.{Runs, countOf, startOf, imageOf, endOf, imageEnd, mapOf}
-use Rattle.runs.proofs.Legality.{Parted, homes, up-steps, end-next, home, home-one, map-at}
+use Rattle.runs.proofs.Legality.{Parted, homes, strict-steps, end-next, home, home-one, map-at}
 
 -- interval y of q is a piece of interval o of r
 pub record Piece (n : ℕ) (r q : Runs) (y o : ℕ) : Type 0 where
@@ -29,7 +29,7 @@ module _ (n : ℕ) (r q : Runs) (c : Legal n r) (f : Refines n r q) where
   refined-homes = record {
     some = f .some;
     first = f .first;
-    up = up-steps (q .starts) refined-rising;
+    up = strict-steps (q .starts) refined-rising;
     lasting = λ y h. f .piece y h .1 .lasting;
     ending = λ y h. let o = f .piece y h in omega (arith, o .1 .to, homes n r c .ending (o .0) (o .1 .known));
   }

@@ -1,26 +1,30 @@
--- The sweep: cuts in the order of Balance.antt, each found where the last one ended.
-use Prim.Native.Nat.{ℕ, zero, suc, _+_, _*_, _≤_, _<_}
-use mathlib.Core.Path.{_≡_, refl, sym, ap, _∙_}
+-- The sweep: where cuts are made in the order of Balance.antt, each found where the last one ended. Idea: before place Q only
+-- the interval with image P may be heavy, and a cut there makes at most one interval before Q heavy again.
+use Prim.Native.Nat.{ℕ, suc, _+_, _*_, _≤_, _<_}
+use mathlib.Core.Path.{_≡_, refl, sym, ap}
 use mathlib.Core.Bool.{Bool, true, false}
 use mathlib.Core.Logic.{_⊎_, inl, inr}
 use native.Mathlib.Nat.{not-suc-le-zero}
 use native.Mathlib.Omega.{arith}
-use lib.ListN.{length, getD}
+use lib.ListN.{length}
 use lib.Dec.{leb, ltb}
 use borrow.Author.Tests.{lt-ltb, le-ltb, lt-leb, le-leb}
 use Rattle.runs.specs.Outcome.{_then_else_}
 use Rattle.runs.specs.Search.{firstBelow}
 use Rattle.runs.proofs.Searches.{first-only}
-use Rattle.runs.proofs.Sums.{parted, bit, bit-le, bit-leb, inside-true, inside-is, tally, sum-cut, sum-less, sum-bits}
+use Rattle.order.specs.Order.{bit}
+use Rattle.order.proofs.Laws.{lt-or-le, bit-le}
+use Rattle.runs.proofs.Sums.{bit-leb, inside-true, inside-is, tally, sum-cut, sum-less}
 use Rattle.runs.specs.Legal.{Legal}
 use Rattle.runs.specs.Runs.{Runs, countOf, imageOf, imageEnd}
-use Rattle.tables.specs.Under.{under, weight}
-use Rattle.balance.specs.Balance.{heavy, cut, cutPlace, cutAt, cutting, balanced}
+use Rattle.tables.specs.Inverse.{carryBack}
+use Rattle.tables.specs.Under.{weight}
+use Rattle.balance.specs.Balance.{cut, cutPlace, cutAt}
 use Rattle.runs.proofs.Legality.{homes, lands, land, land-one}
 use Rattle.balance.proofs.Refine.{Refines}
 use Rattle.balance.proofs.Cut.{cut-cases, cut-count, cut-left, cut-first, cut-second, cut-right}
-use Rattle.balance.proofs.Weights.{newStart, kept, weight-cut, kept-left, kept-right, cutAt-kept, place, ample, ample-bound}
-use Rattle.balance.proofs.Balancing.{Lowest, Light, cutting-done, cutting-next, fuel-left, heavy-refines, heavy-legal}
+use Rattle.balance.proofs.Weights.{kept, weight-cut, kept-left, kept-right, cutAt-kept, place}
+use Rattle.balance.proofs.Balancing.{Lowest, Light, heavy-refines, heavy-legal}
 
 -- the interval under whose image place u lies
 abbrev pub landing : ℕ → Runs → ℕ → ℕ
@@ -32,7 +36,7 @@ back n r u Q = ltb u Q then imageOf r (landing n r u) else Q
 
 -- the start that a cut adds
 abbrev pub added : ℕ → ℕ → Runs → ℕ → ℕ
-added d n r x = newStart r x (cutPlace d n r x)
+added d n r x = carryBack r x (cutPlace d n r x)
 
 -- no image goes on past place p
 abbrev pub Edge : ℕ → Runs → ℕ → Type 0
@@ -57,14 +61,14 @@ module _ (n : ℕ) (r : Runs) (c : Legal n r) where
   image-one x y hx hy a b = c .apart x y (imageOf r y) hx hy a b (omega arith) (image-lasting y hy)
 
   pub edge-image : (x : ℕ) → x < countOf r → Edge n r (imageOf r x)
-  edge-image x hx y hy l = go (parted (imageOf r x) (imageEnd n r y))
+  edge-image x hx y hy l = go (lt-or-le (imageOf r x) (imageEnd n r y))
     where
       go : (imageOf r x < imageEnd n r y) ⊎ (imageEnd n r y ≤ imageOf r x) → imageEnd n r y ≤ imageOf r x
       go (inl m) = let e : y ≡ x = image-one y x hy hx (omega arith) m in absurd (omega (arith, ap (imageOf r) e))
       go (inr m) = m
 
   pub edge-end : (x : ℕ) → x < countOf r → Edge n r (imageEnd n r x)
-  edge-end x hx y hy l = go (parted (imageOf r y) (imageOf r x))
+  edge-end x hx y hy l = go (lt-or-le (imageOf r y) (imageOf r x))
     where
       go : (imageOf r y < imageOf r x) ⊎ (imageOf r x ≤ imageOf r y) → imageEnd n r y ≤ imageEnd n r x
       go (inl m) = omega (arith, edge-image x hx y hy m)
@@ -75,7 +79,7 @@ module _ (n : ℕ) (r : Runs) (c : Legal n r) where
   edge-at p h e = go (land n r c p h)
     where
       go : (x : ℕ) × (x < countOf r) × (imageOf r x ≤ p) × (p < imageEnd n r x) → (x : ℕ) × (x < countOf r) × (imageOf r x ≡ p)
-      go (x, hx, a, b) = (x, hx, at (parted (imageOf r x) p))
+      go (x, hx, a, b) = (x, hx, at (lt-or-le (imageOf r x) p))
         where
           at : (imageOf r x < p) ⊎ (p ≤ imageOf r x) → imageOf r x ≡ p
           at (inl l) = absurd (omega (arith, e x hx l))
@@ -103,11 +107,6 @@ module _ (d n : ℕ) (r : Runs) (P Q : ℕ) (c : Swept d n r P Q) where
   pub swept-at : P < n → (x : ℕ) × (x < countOf r) × (imageOf r x ≡ P)
   swept-at h = edge-at n r (c .legal) P h (c .edge-P)
 
-  pub swept-landing : P < n → (landing n r P < countOf r) × (imageOf r (landing n r P) ≡ P)
-  swept-landing h =
-      let i = swept-at h in
-      rw (landing-is n r (c .legal) P (i .0) (i .1) (omega (arith, i .2)) (omega (arith, i .2, image-lasting n r (c .legal) (i .0) (i .1)))) (i .1, i .2)
-
   -- past the last place, no interval is heavy
   pub swept-end : n ≤ P → Light d n r
   swept-end h x hx = c .light x hx (omega (arith, image-lasting n r (c .legal) x hx, c .legal .within x hx)) (λ e. omega (arith, image-lasting n r (c .legal) x hx, c .legal .within x hx))
@@ -115,7 +114,7 @@ module _ (d n : ℕ) (r : Runs) (P Q : ℕ) (c : Swept d n r P Q) where
   module _ (x : ℕ) (hx : x < countOf r) (at : imageOf r x ≡ P) where
     -- a heavy interval at P is the next to be cut
     pub swept-lowest : 2 * d ≤ weight n r x → Lowest d n r x
-    swept-lowest w = record { known = hx; weighs = w; lowest = λ y hy v. go y hy v (parted (imageOf r y) (imageOf r x)) }
+    swept-lowest w = record { known = hx; weighs = w; lowest = λ y hy v. go y hy v (lt-or-le (imageOf r y) (imageOf r x)) }
       where
         go : (y : ℕ) → y < countOf r → 2 * d ≤ weight n r y → (imageOf r y < imageOf r x) ⊎ (imageOf r x ≤ imageOf r y) → imageOf r x ≤ imageOf r y
         go y hy v (inl l) = absurd (omega (arith, c .light y hy (omega arith) (λ e. omega arith)))
@@ -123,7 +122,7 @@ module _ (d n : ℕ) (r : Runs) (P Q : ℕ) (c : Swept d n r P Q) where
 
     -- if it is light, so are all up to it
     light-up : weight n r x < 2 * d → (y : ℕ) → y < countOf r → imageOf r y < Q ⊎ imageOf r y ≡ P → weight n r y < 2 * d
-    light-up w y hy m = go m (parted (imageOf r y) P) (parted P (imageOf r y))
+    light-up w y hy m = go m (lt-or-le (imageOf r y) P) (lt-or-le P (imageOf r y))
       where
         go : imageOf r y < Q ⊎ imageOf r y ≡ P → (imageOf r y < P) ⊎ (P ≤ imageOf r y) → (P < imageOf r y) ⊎ (imageOf r y ≤ P) → weight n r y < 2 * d
         go m (inl a) b = c .light y hy (omega (arith, c .ordered)) (λ e. omega arith)
@@ -149,7 +148,7 @@ module _ (d n : ℕ) (r : Runs) (P Q : ℕ) (c : Swept d n r P Q) where
       bounded = c .legal .within x hx;
       edge-P = edge-end n r (c .legal) x hx;
       edge-Q = edge-end n r (c .legal) x hx;
-      light = λ y hy m e. go y hy m (parted (imageOf r y) P);
+      light = λ y hy m e. go y hy m (lt-or-le (imageOf r y) P);
       nearly = λ y hy e m. absurd (omega arith);
     }
       where
@@ -200,7 +199,7 @@ module _ (d n : ℕ) (r : Runs) (P Q : ℕ) (c : Swept d n r P Q) (x : ℕ) (hx 
   added-below = let p = place d n r (c .legal) x (omega arith) (omega arith) in omega (arith, p .0, p .1, homes n r (c .legal) .ending x hx)
 
   back-edge : (back n (cutAt d n r x) (added d n r x) Q ≤ Q) × Edge n (cutAt d n r x) (back n (cutAt d n r x) (added d n r x) Q)
-  back-edge = go (parted (added d n r x) Q) (land n (cutAt d n r x) legal-q (added d n r x) added-below)
+  back-edge = go (lt-or-le (added d n r x) Q) (land n (cutAt d n r x) legal-q (added d n r x) added-below)
     where
       go : (added d n r x < Q) ⊎ (Q ≤ added d n r x) → (z : ℕ) × (z < countOf (cutAt d n r x)) × (imageOf (cutAt d n r x) z ≤ added d n r x) × (added d n r x < imageEnd n (cutAt d n r x) z)
           → (back n (cutAt d n r x) (added d n r x) Q ≤ Q) × Edge n (cutAt d n r x) (back n (cutAt d n r x) (added d n r x) Q)
@@ -254,76 +253,3 @@ module _ (g : ℕ) (r : Runs) (P Q : ℕ) where
 
   pub steps-on : (n x : ℕ) → Legal n r → x < countOf r → imageOf r x ≡ Q → stepsLeft g r (imageEnd n r x) (imageEnd n r x) < stepsLeft g r P Q
   steps-on n x c hx e = rw (← e, le-ltb (imageEnd n r x) (imageEnd n r x) (omega arith)) (omega (arith, ahead-on n r x c hx))
-
--- the sweep, with fuel for its steps
-unfoldable pub sweep : ℕ → ℕ → ℕ → Runs → ℕ → ℕ → Runs
-sweep zero d n r P Q = r
-sweep (suc f) d n r P Q =
-    elim (ltb P n) [
-      | true ↦ elim (heavy d n r (landing n r P)) [
-        | true ↦ sweep f d n (cutAt d n r (landing n r P)) (back n (cutAt d n r (landing n r P)) (added d n r (landing n r P)) Q) Q
-        | false ↦ elim (ltb P Q) [
-          | true ↦ sweep f d n r Q Q
-          | false ↦ sweep f d n r (imageEnd n r (landing n r P)) (imageEnd n r (landing n r P))
-        ]
-      ]
-      | false ↦ r
-    ]
-
-module _ (f d n : ℕ) (r : Runs) (P Q : ℕ) where
-  pub sweep-stop : n ≤ P → sweep f d n r P Q ≡ r
-  unfolding sweep
-  sweep-stop h = go f
-    where
-      go : (f : ℕ) → sweep f d n r P Q ≡ r
-      go zero = refl
-      go (suc f) = rw (le-ltb P n h, sweep)
-
-  pub sweep-heavy : P < n → 2 * d ≤ weight n r (landing n r P) → sweep (suc f) d n r P Q ≡ sweep f d n (cutAt d n r (landing n r P)) (back n (cutAt d n r (landing n r P)) (added d n r (landing n r P)) Q) Q
-  unfolding sweep
-  sweep-heavy h w = rw (lt-ltb P n h, sweep) (rw (le-leb (2 * d) (weight n r (landing n r P)) w))
-
-  pub sweep-back : P < n → weight n r (landing n r P) < 2 * d → P < Q → sweep (suc f) d n r P Q ≡ sweep f d n r Q Q
-  unfolding sweep
-  sweep-back h w l = rw (lt-ltb P n h, sweep) (rw (lt-leb (2 * d) (weight n r (landing n r P)) w, lt-ltb P Q l))
-
-  pub sweep-on : P < n → weight n r (landing n r P) < 2 * d → Q ≤ P → sweep (suc f) d n r P Q ≡ sweep f d n r (imageEnd n r (landing n r P)) (imageEnd n r (landing n r P))
-  unfolding sweep
-  sweep-on h w l = rw (lt-ltb P n h, sweep) (rw (lt-leb (2 * d) (weight n r (landing n r P)) w, le-ltb P Q l))
-
-module _ (d n : ℕ) (many : 2 ≤ d) where
-  pub sweep-cutting : (f g : ℕ) (r : Runs) (P Q : ℕ) → Swept d n r P Q → countOf r ≤ d * ample d n r + g → stepsLeft g r P Q ≤ f → sweep f d n r P Q ≡ cutting g d n r
-  sweep-cutting zero g r P Q c a h = sweep-stop 0 d n r P Q (go (parted P n) (parted P Q)) ∙ sym (cutting-done g d n r (swept-end d n r P Q c (go (parted P n) (parted P Q))))
-    where
-      go : (P < n) ⊎ (n ≤ P) → (P < Q) ⊎ (Q ≤ P) → n ≤ P
-      go (inl k) (inl l) = absurd (omega (arith, steps-back g r P Q l))
-      go (inl k) (inr l) = let i = swept-landing d n r P Q c k in absurd (omega (arith, steps-on g r P Q n (landing n r P) (c .legal) (i .0) (omega (arith, i .1, c .ordered))))
-      go (inr k) l = k
-  sweep-cutting (suc f) g r P Q c a h = go (parted P n) (parted P Q) (parted (weight n r (landing n r P)) (2 * d)) g a h (sweep-cutting f)
-    where
-      go : (P < n) ⊎ (n ≤ P) → (P < Q) ⊎ (Q ≤ P) → (weight n r (landing n r P) < 2 * d) ⊎ (2 * d ≤ weight n r (landing n r P))
-          → (g : ℕ) → countOf r ≤ d * ample d n r + g → stepsLeft g r P Q ≤ suc f
-          → ((g : ℕ) (r : Runs) (P Q : ℕ) → Swept d n r P Q → countOf r ≤ d * ample d n r + g → stepsLeft g r P Q ≤ f → sweep f d n r P Q ≡ cutting g d n r)
-          → sweep (suc f) d n r P Q ≡ cutting g d n r
-      go (inr k) q w g a h ih = sweep-stop (suc f) d n r P Q k ∙ sym (cutting-done g d n r (swept-end d n r P Q c k))
-      go (inl k) (inl l) (inl w) g a h ih =
-          let i = swept-landing d n r P Q c k in
-          sweep-back f d n r P Q k w l ∙ ih g r Q Q (swept-back d n r P Q c (landing n r P) (i .0) (i .1) w l) a (omega (arith, steps-back g r P Q l))
-      go (inl k) (inr l) (inl w) g a h ih =
-          let i = swept-landing d n r P Q c k in
-          let e : P ≡ Q = omega (arith, c .ordered) in
-          sweep-on f d n r P Q k w l ∙ ih g r _ _ (swept-on d n r P Q c (landing n r P) (i .0) (i .1) w e) a (omega (arith, steps-on g r P Q n (landing n r P) (c .legal) (i .0) (omega (arith, i .1))))
-      go (inl k) q (inr w) zero a h ih =
-          let i = swept-landing d n r P Q c k in
-          absurd (omega (arith, fuel-left d n many 0 r (landing n r P) (c .legal) (i .0) w a, ample-bound d n (cutAt d n r (landing n r P)) (heavy-legal d n many r (c .legal) (landing n r P) (i .0) w)))
-      go (inl k) q (inr w) (suc g) a h ih =
-          let i = swept-landing d n r P Q c k in
-          sweep-heavy f d n r P Q k w
-          ∙ ih g _ _ Q (swept-cut d n r P Q c (landing n r P) (i .0) (i .1) many w) (omega (arith, fuel-left d n many (suc g) r (landing n r P) (c .legal) (i .0) w a))
-          (omega (arith, steps-cut g r P Q (landing n r P) (cutPlace d n r (landing n r P)) (back n (cutAt d n r (landing n r P)) (added d n r (landing n r P)) Q) (c .legal .paired) (i .0)))
-          ∙ sym (cutting-next g d n r (landing n r P) (c .legal) (swept-lowest d n r P Q c (landing n r P) (i .0) (i .1) w))
-
--- the sweep makes the balanced list
-pub sweep-balanced : (d n : ℕ) (r : Runs) → 2 ≤ d → Legal n r → sweep (4 * countOf r) d n r 0 0 ≡ balanced d n r
-unfolding balanced
-sweep-balanced d n r many c = sweep-cutting d n many (4 * countOf r) (countOf r) r 0 0 (swept-start d n r c) (omega arith) (omega (arith, sum-bits (countOf r) (λ x. bit (leb 0 (imageOf r x))) (λ x h. bit-le (leb 0 (imageOf r x)))))

@@ -1,4 +1,4 @@
--- Weights, and what a cut does to them.
+-- Weights, and what a cut does to them: it adds one start, so no weight falls and only one rises.
 use Prim.Native.Nat.{ℕ, suc, _+_, _-_, _*_, _≤_, _<_}
 use mathlib.Core.Path.{_≡_, sym, _∙_}
 use mathlib.Core.Logic.{_⊎_, inl, inr}
@@ -6,9 +6,12 @@ use native.Mathlib.Omega.{arith}
 use lib.ListN.{length, getD}
 use lib.Dec.{leb}
 use borrow.Author.Tests.{le-leb}
-use Rattle.runs.proofs.Sums.{sumTo, sum-mono, sum-same, sum-times, sum-grow, bit, bit-le, bit-leb, times-bit, tally, inside, count, count-insert, counts-once, count-inside, keep-cut, below, below-mono, parted}
+use Rattle.order.specs.Order.{bit, count, countBelow}
+use Rattle.order.proofs.Laws.{lt-or-le, bit-le, count-mono}
+use Rattle.runs.proofs.Sums.{sumTo, sum-mono, sum-same, sum-times, sum-grow, bit-leb, times-bit, tally, inside, count-insert, counts-once, count-inside, keep-cut}
 use Rattle.runs.specs.Legal.{Legal}
 use Rattle.runs.specs.Runs.{Runs, countOf, startOf, imageOf, endOf, imageEnd}
+use Rattle.tables.specs.Inverse.{carryBack}
 use Rattle.tables.specs.Under.{under, weight}
 use Rattle.tables.proofs.Walks.{weight-is}
 use Rattle.balance.specs.Balance.{cut, cutAt}
@@ -33,26 +36,22 @@ ample-bound d n r c = omega (
 
 -- the place of a cut
 module _ (d n : ℕ) (r : Runs) (c : Legal n r) (x : ℕ) (some : 0 < d) (h : d < weight n r x) where
-  pub place : (imageOf r x < getD (under n r x) d 0) × (getD (under n r x) d 0 < imageEnd n r x) × (below (r .starts) (getD (under n r x) d 0) ≡ below (r .starts) (imageOf r x) + d)
-  place = go (parted (imageOf r x) (getD (under n r x) d 0)) (keep-cut (imageOf r x) (imageEnd n r x) (r .starts) d (omega arith) (homes n r c .up) (omega (arith, weight-is n r x)))
+  pub place : (imageOf r x < getD (under n r x) d 0) × (getD (under n r x) d 0 < imageEnd n r x) × (countBelow (getD (under n r x) d 0) (r .starts) ≡ countBelow (imageOf r x) (r .starts) + d)
+  place = go (lt-or-le (imageOf r x) (getD (under n r x) d 0)) (keep-cut (imageOf r x) (imageEnd n r x) (r .starts) d (omega arith) (homes n r c .up) (omega (arith, weight-is n r x)))
     where
       go : (imageOf r x < getD (under n r x) d 0) ⊎ (getD (under n r x) d 0 ≤ imageOf r x)
-          → (imageOf r x ≤ getD (under n r x) d 0) × (getD (under n r x) d 0 < imageEnd n r x) × (below (r .starts) (getD (under n r x) d 0) ≡ below (r .starts) (imageOf r x) + d)
-          → (imageOf r x < getD (under n r x) d 0) × (getD (under n r x) d 0 < imageEnd n r x) × (below (r .starts) (getD (under n r x) d 0) ≡ below (r .starts) (imageOf r x) + d)
+          → (imageOf r x ≤ getD (under n r x) d 0) × (getD (under n r x) d 0 < imageEnd n r x) × (countBelow (getD (under n r x) d 0) (r .starts) ≡ countBelow (imageOf r x) (r .starts) + d)
+          → (imageOf r x < getD (under n r x) d 0) × (getD (under n r x) d 0 < imageEnd n r x) × (countBelow (getD (under n r x) d 0) (r .starts) ≡ countBelow (imageOf r x) (r .starts) + d)
       go (inl l) k = (l, k .1, k .2)
-      go (inr l) k = absurd (omega (arith, below-mono (getD (under n r x) d 0) (imageOf r x) (r .starts) l))
-
--- the start that a cut adds
-abbrev pub newStart : Runs → ℕ → ℕ → ℕ
-newStart r x s = startOf r x + (s - imageOf r x)
+      go (inr l) k = absurd (omega (arith, count-mono (getD (under n r x) d 0) (imageOf r x) (r .starts) l))
 
 -- how many of the old starts lie under interval y of the list after the cut
 abbrev pub kept : ℕ → Runs → ℕ → ℕ → ℕ → ℕ
 kept n r x s y = count (inside (imageOf (cut r x s) y) (imageEnd n (cut r x s) y)) (r .starts)
 
 -- a cut adds one start: no weight falls, and only that of the interval under which it lands rises
-pub weight-cut : (n : ℕ) (r : Runs) (x s y : ℕ) → weight n (cut r x s) y ≡ bit (lands n (cut r x s) (newStart r x s) y) + kept n r x s y
-weight-cut n r x s y = weight-is n (cut r x s) y ∙ count-insert (inside (imageOf (cut r x s) y) (imageEnd n (cut r x s) y)) (suc x) (newStart r x s) (r .starts)
+pub weight-cut : (n : ℕ) (r : Runs) (x s y : ℕ) → weight n (cut r x s) y ≡ bit (lands n (cut r x s) (carryBack r x s) y) + kept n r x s y
+weight-cut n r x s y = weight-is n (cut r x s) y ∙ count-insert (inside (imageOf (cut r x s) y) (imageEnd n (cut r x s) y)) (suc x) (carryBack r x s) (r .starts)
 
 kept-is : (n : ℕ) (r : Runs) (x s y a i e : ℕ) → Is n (cut r x s) y a i e → kept n r x s y ≡ count (inside i (i + (e - a))) (r .starts)
 kept-is n r x s y a i e h = rw (h .image-is, h .start-is, h .end-is)
@@ -64,15 +63,15 @@ module _ (n : ℕ) (r : Runs) (pair : length (r .images) ≡ countOf r) (x s : �
   pub kept-right : (y : ℕ) → x < y → kept n r x s (suc y) ≡ weight n r y
   kept-right y l = kept-is n r x s (suc y) (startOf r y) (imageOf r y) (endOf n r y) (cut-right n r pair x s hx y l) ∙ sym (weight-is n r y)
 
-  pub kept-first : imageOf r x < s → s < imageEnd n r x → kept n r x s x + below (r .starts) (imageOf r x) ≡ below (r .starts) s
+  pub kept-first : imageOf r x < s → s < imageEnd n r x → kept n r x s x + countBelow (imageOf r x) (r .starts) ≡ countBelow s (r .starts)
   kept-first lo hi =
-      let e : imageOf r x + (newStart r x s - startOf r x) ≡ s = omega arith in
-      rw (kept-is n r x s x (startOf r x) (imageOf r x) (newStart r x s) (cut-first n r pair x s hx), e) (count-inside (imageOf r x) s (r .starts) (omega arith))
+      let e : imageOf r x + (carryBack r x s - startOf r x) ≡ s = omega arith in
+      rw (kept-is n r x s x (startOf r x) (imageOf r x) (carryBack r x s) (cut-first n r pair x s hx), e) (count-inside (imageOf r x) s (r .starts) (omega arith))
 
-  pub kept-second : imageOf r x < s → s < imageEnd n r x → kept n r x s (suc x) + below (r .starts) s ≡ below (r .starts) (imageEnd n r x)
+  pub kept-second : imageOf r x < s → s < imageEnd n r x → kept n r x s (suc x) + countBelow s (r .starts) ≡ countBelow (imageEnd n r x) (r .starts)
   kept-second lo hi =
-      let e : s + (endOf n r x - newStart r x s) ≡ imageEnd n r x = omega arith in
-      rw (kept-is n r x s (suc x) (newStart r x s) s (endOf n r x) (cut-second n r pair x s hx), e) (count-inside s (imageEnd n r x) (r .starts) (omega arith))
+      let e : s + (endOf n r x - carryBack r x s) ≡ imageEnd n r x = omega arith in
+      rw (kept-is n r x s (suc x) (carryBack r x s) s (endOf n r x) (cut-second n r pair x s hx), e) (count-inside s (imageEnd n r x) (r .starts) (omega arith))
 
 -- the cut at the (d + 1)th start under the image
 module _ (d n : ℕ) (r : Runs) (c : Legal n r) (x : ℕ) (hx : x < countOf r) (some : 0 < d) (h : d < weight n r x) where

@@ -1,4 +1,5 @@
--- What a legal list gives: each place has one home, and lies in one image.
+-- What a legal list gives: each place lies in one run, and in one image. The images cover all places because the lengths
+-- sum to n and no place is counted twice.
 use Prim.Native.Nat.{ℕ, zero, suc, _+_, _-_, _≤_, _<_, suc-le-suc}
 use mathlib.Core.Path.{_≡_, refl, _∙_}
 use mathlib.Core.Bool.{Bool, true}
@@ -7,8 +8,9 @@ use mathlib.Core.List.{List, [], _∷_}
 use native.Mathlib.Nat.{not-suc-le-zero, le-of-suc-le-suc}
 use native.Mathlib.Omega.{arith}
 use lib.ListN.{length, getD, List·getD-eq-default}
-use lib.Dec.{ltb}
-use Rattle.runs.proofs.Sums.{parted, Up, inside, inside-true, inside-is, below, below-more, below-less, count-le, sumTo, sum-swap, sum-same, sum-full, tally, tally-one, tally-inside, tally-some, bit}
+use Rattle.order.specs.Order.{Strict, bit, countBelow}
+use Rattle.order.proofs.Laws.{lt-or-le, pairwise-at, at-pairwise, strict-sorted, count-le-length, count-lt, count-gt}
+use Rattle.runs.proofs.Sums.{inside, inside-true, inside-is, sumTo, sum-swap, sum-same, sum-full, tally, tally-one, tally-inside, tally-some}
 use Rattle.runs.proofs.Searches.{getD-default, first-only}
 use Rattle.runs.specs.Legal.{Legal}
 use Rattle.runs.specs.Runs.{Runs, countOf, startOf, imageOf, endOf, lengthOf, imageEnd, has, runAt, carry, mapOf}
@@ -21,24 +23,27 @@ pub end-last : (n : ℕ) (r : Runs) (x : ℕ) → countOf r ≤ suc x → endOf 
 end-last n r x h = List·getD-eq-default (r .starts) n h
 
 -- rising by one step is rising
-pub up-steps : (l : List ℕ) → ((x : ℕ) → suc x < length l → getD l x 0 < getD l (suc x) 0) → Up l
-up-steps l h x zero m k = absurd (not-suc-le-zero m)
-up-steps l h x (suc y) m k = go (parted x y) (up-steps l h x y)
+pub strict-steps : (l : List ℕ) → ((x : ℕ) → suc x < length l → getD l x 0 < getD l (suc x) 0) → Strict l
+strict-steps l h = at-pairwise _<_ l up
   where
-    go : (x < y) ⊎ (y ≤ x) → (x < y → y < length l → getD l x 0 < getD l y 0) → getD l x 0 < getD l (suc y) 0
-    go (inl i) r = omega (arith, r i (omega arith), h y k)
-    go (inr i) r = let e : x ≡ y = omega arith in rw e (h y k)
+    up : (x y : ℕ) → x < y → y < length l → getD l x 0 < getD l y 0
+    up x zero m k = absurd (not-suc-le-zero m)
+    up x (suc y) m k = go (lt-or-le x y) (up x y)
+      where
+        go : (x < y) ⊎ (y ≤ x) → (x < y → y < length l → getD l x 0 < getD l y 0) → getD l x 0 < getD l (suc y) 0
+        go (inl i) r = omega (arith, r i (omega arith), h y k)
+        go (inr i) r = let e : x ≡ y = omega arith in rw e (h y k)
 
 -- what it takes for each place to have one home
 pub record Parted (n : ℕ) (r : Runs) : Type 0 where
   pub some : 0 < countOf r
   pub first : startOf r 0 ≡ 0
-  pub up : Up (r .starts)
+  pub up : Strict (r .starts)
   pub lasting : (x : ℕ) → x < countOf r → startOf r x < endOf n r x
   pub ending : (x : ℕ) → x < countOf r → endOf n r x ≤ n
 
 pub homes : (n : ℕ) (r : Runs) → Legal n r → Parted n r
-homes n r c = record { some = c .some; first = c .first; up = up-steps (r .starts) (c .rising); lasting = λ x h. at x h (parted (suc x) (countOf r)) .0; ending = λ x h. at x h (parted (suc x) (countOf r)) .1 }
+homes n r c = record { some = c .some; first = c .first; up = strict-steps (r .starts) (c .rising); lasting = λ x h. at x h (lt-or-le (suc x) (countOf r)) .0; ending = λ x h. at x h (lt-or-le (suc x) (countOf r)) .1 }
   where
     at : (x : ℕ) → x < countOf r → (suc x < countOf r) ⊎ (countOf r ≤ suc x) → (startOf r x < endOf n r x) × (endOf n r x ≤ n)
     at x h (inl l) = omega (arith, end-next n r x l, c .rising x l, c .below (suc x) l)
@@ -46,14 +51,14 @@ homes n r c = record { some = c .some; first = c .first; up = up-steps (r .start
 
 module _ (n : ℕ) (r : Runs) (c : Parted n r) where
   end-before : (x y : ℕ) → x < y → y < countOf r → endOf n r x ≤ startOf r y
-  end-before x y l m = go (parted (suc x) y)
+  end-before x y l m = go (lt-or-le (suc x) y)
     where
       go : (suc x < y) ⊎ (y ≤ suc x) → endOf n r x ≤ startOf r y
-      go (inl k) = omega (arith, end-next n r x (omega arith), c .up (suc x) y k m)
+      go (inl k) = omega (arith, end-next n r x (omega arith), pairwise-at _<_ (r .starts) (c .up) (suc x) y k m)
       go (inr k) = let e : y ≡ suc x = omega arith in rw e (omega (arith, end-next n r x (omega arith)))
 
   pub home-one : (x y p : ℕ) → x < countOf r → y < countOf r → startOf r x ≤ p → p < endOf n r x → startOf r y ≤ p → p < endOf n r y → x ≡ y
-  home-one x y p hx hy a b d e = go (parted x y) (parted y x)
+  home-one x y p hx hy a b d e = go (lt-or-le x y) (lt-or-le y x)
     where
       go : (x < y) ⊎ (y ≤ x) → (y < x) ⊎ (x ≤ y) → x ≡ y
       go (inl l) m = absurd (omega (arith, end-before x y l hy))
@@ -61,14 +66,14 @@ module _ (n : ℕ) (r : Runs) (c : Parted n r) where
       go (inr l) (inr m) = omega arith
 
   pub home : (p : ℕ) → p < n → (x : ℕ) × (x < countOf r) × (startOf r x ≤ p) × (p < endOf n r x)
-  home p h = go (below (r .starts) (suc p)) refl
+  home p h = go (countBelow (suc p) (r .starts)) refl
     where
-      go : (b : ℕ) → below (r .starts) (suc p) ≡ b → (x : ℕ) × (x < countOf r) × (startOf r x ≤ p) × (p < endOf n r x)
-      go zero e = absurd (omega (arith, below-more (r .starts) (suc p) 0 (c .up) (c .some) (omega (arith, c .first))))
-      go (suc x) e = (x, omega (arith, count-le (λ s. ltb s (suc p)) (r .starts)), le-of-suc-le-suc (below-less (r .starts) (suc p) x (c .up) (omega arith)), up-to (parted (suc x) (countOf r)) (parted (startOf r (suc x)) (suc p)))
+      go : (b : ℕ) → countBelow (suc p) (r .starts) ≡ b → (x : ℕ) × (x < countOf r) × (startOf r x ≤ p) × (p < endOf n r x)
+      go zero e = absurd (omega (arith, count-gt (suc p) (r .starts) (strict-sorted (r .starts) (c .up)) 0 (c .some) (omega (arith, c .first))))
+      go (suc x) e = (x, omega (arith, count-le-length (suc p) (r .starts)), le-of-suc-le-suc (count-lt (suc p) (r .starts) (strict-sorted (r .starts) (c .up)) x (omega arith)), up-to (lt-or-le (suc x) (countOf r)) (lt-or-le (startOf r (suc x)) (suc p)))
         where
           up-to : (suc x < countOf r) ⊎ (countOf r ≤ suc x) → (startOf r (suc x) < suc p) ⊎ (suc p ≤ startOf r (suc x)) → p < endOf n r x
-          up-to (inl l) (inl m) = absurd (omega (arith, below-more (r .starts) (suc p) (suc x) (c .up) l m))
+          up-to (inl l) (inl m) = absurd (omega (arith, count-gt (suc p) (r .starts) (strict-sorted (r .starts) (c .up)) (suc x) l m))
           up-to (inl l) (inr m) = omega (arith, end-next n r x l)
           up-to (inr l) m = omega (arith, end-last n r x l)
 

@@ -1,4 +1,4 @@
--- Laws of Search.antt.
+-- Laws of specs/Search.antt: what a search finds, and the entries of a list with one more. By induction along the search.
 use Prim.Native.Nat.{ℕ, zero, suc, _+_, _≤_, _<_}
 use mathlib.Core.Path.{_≡_, refl, sym, ap, _∙_}
 use mathlib.Core.Bool.{Bool, true, false, false≢true}
@@ -9,7 +9,7 @@ use native.Mathlib.Omega.{arith}
 use lib.ListN.{length, getD}
 use borrow.Author.Tests.{lt-ltb, le-ltb}
 use Rattle.runs.specs.Search.{firstFrom, firstBelow, anyBelow, insertAt}
-use Rattle.runs.proofs.Sums.{parted}
+use Rattle.order.proofs.Laws.{lt-or-le}
 
 module _ (p : ℕ → Bool) where
   from-le : (k x : ℕ) → (x ≤ firstFrom p k x) × (firstFrom p k x ≤ x + k)
@@ -33,7 +33,7 @@ module _ (p : ℕ → Bool) where
 
   from-least : (k x y : ℕ) → x ≤ y → y < x + k → p y ≡ true → firstFrom p k x ≤ y
   from-least zero x y h l e = absurd (omega arith)
-  from-least (suc k) x y h l e = go (p x) refl (parted x y) (from-least k (suc x) y)
+  from-least (suc k) x y h l e = go (p x) refl (lt-or-le x y) (from-least k (suc x) y)
     where
       go : (t : Bool) → p x ≡ t → (x < y) ⊎ (y ≤ x) → (suc x ≤ y → y < suc x + k → p y ≡ true → firstFrom p k (suc x) ≤ y)
           → elim t as (λ z. ℕ) [ true ↦ x | false ↦ firstFrom p k (suc x) ] ≤ y
@@ -64,7 +64,7 @@ module _ (p : ℕ → Bool) where
       go false e = refl
 
   pub any-none : (k : ℕ) → ((x : ℕ) → x < k → p x ≡ true → ⊥) → anyBelow p k ≡ false
-  any-none k h = go (parted (firstBelow p k) k)
+  any-none k h = go (lt-or-le (firstBelow p k) k)
     where
       go : (firstBelow p k < k) ⊎ (k ≤ firstBelow p k) → anyBelow p k ≡ false
       go (inl l) = absurd (h (firstBelow p k) l (first-true k l))

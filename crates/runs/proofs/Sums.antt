@@ -1,9 +1,9 @@
--- Sums over indexes and counts over lists.
+-- Sums over indexes, and counts over lists: those of a rising list that lie in a stretch stand together. By induction.
 use Prim.Native.Nat.{ℕ, zero, suc, _+_, _-_, _*_, _≤_, _<_, suc-le-suc}
 use mathlib.Core.Path.{_≡_, refl, sym, ap, _∙_}
 use mathlib.Core.Bool.{Bool, true, false, _&&_, false≢true}
 use mathlib.Core.Logic.{_⊎_, inl, inr}
-use mathlib.Core.List.{List, [], _∷_, _++_}
+use mathlib.Core.List.{List, [], _∷_}
 use native.Mathlib.Nat.{not-suc-le-zero, le-of-suc-le-suc}
 use native.Mathlib.Omega.{arith}
 use lib.ListN.{length, getD, take, drop, take-append-drop}
@@ -11,26 +11,13 @@ use lib.Seq.{getD-take, getD-drop}
 use Rattle.runs.specs.Outcome.{_then_else_}
 use Rattle.runs.specs.Search.{keep, insertAt}
 use lib.Dec.{ltb, leb, leb·suc-suc}
-use borrow.Author.Tests.{ltb-true, ltb-false, leb-true, lt-ltb, le-ltb, le-leb, lt-leb}
-
-pub parted : (a b : ℕ) → (a < b) ⊎ (b ≤ a)
-parted a b = go (ltb a b) refl
-  where
-    go : (t : Bool) → ltb a b ≡ t → (a < b) ⊎ (b ≤ a)
-    go true e = inl (ltb-true a b e)
-    go false e = inr (ltb-false a b e)
+use borrow.Author.Tests.{ltb-true, leb-true, lt-ltb, le-ltb, le-leb, lt-leb}
+use Rattle.order.specs.Order.{All, Strict, bit, count, countBelow}
+use Rattle.order.proofs.Laws.{lt-or-le, all-map, bit-le, sum-append, strict-sorted, count-le-length, count-none, count-lt, count-gt, count-at}
 
 pub and-true : (s t : Bool) → s && t ≡ true → (s ≡ true) × (t ≡ true)
 and-true true t e = (refl, e)
 and-true false t e = absurd (false≢true e)
-
-abbrev pub bit : Bool → ℕ
-bit true = 1
-bit false = 0
-
-pub bit-le : (t : Bool) → bit t ≤ 1
-bit-le true = omega arith
-bit-le false = omega arith
 
 -- f 0 + .. + f (k - 1)
 abbrev pub sumTo : ℕ → (ℕ → ℕ) → ℕ
@@ -73,11 +60,6 @@ pub sum-full : (k : ℕ) (f : ℕ → ℕ) → ((x : ℕ) → x < k → f x ≤ 
 sum-full zero f h l x m = absurd (not-suc-le-zero m)
 sum-full (suc k) f h l zero m = omega (arith, h 0 m, sum-bits k (λ x. f (suc x)) (λ x l. h (suc x) (suc-le-suc l)))
 sum-full (suc k) f h l (suc x) m = sum-full k (λ x. f (suc x)) (λ x l. h (suc x) (suc-le-suc l)) (omega (arith, h 0 (omega arith))) x (le-of-suc-le-suc m)
-
-pub sum-at-least : (k : ℕ) (f : ℕ → ℕ) (x : ℕ) → x < k → f x ≤ sumTo k f
-sum-at-least zero f x m = absurd (not-suc-le-zero m)
-sum-at-least (suc k) f zero m = omega arith
-sum-at-least (suc k) f (suc x) m = omega (arith, sum-at-least k (λ x. f (suc x)) x (le-of-suc-le-suc m))
 
 -- how many indexes below k pass the test
 abbrev pub tally : ℕ → (ℕ → Bool) → ℕ
@@ -122,7 +104,7 @@ pub inside-is : (a b p : ℕ) → inside a b p ≡ true → (a ≤ p) × (p < b)
 inside-is a b p e = (leb-true a p (and-true (leb a p) (ltb p b) e .0), ltb-true p b (and-true (leb a p) (ltb p b) e .1))
 
 pub bit-split : (a b p : ℕ) → a ≤ b → bit (inside a b p) + bit (ltb p a) ≡ bit (ltb p b)
-bit-split a b p h = go (parted p a)
+bit-split a b p h = go (lt-or-le p a)
   where
     go : (p < a) ⊎ (a ≤ p) → bit (inside a b p) + bit (ltb p a) ≡ bit (ltb p b)
     go (inl l) = rw (lt-leb a p, lt-ltb p a, lt-ltb p b (omega arith))
@@ -133,11 +115,6 @@ tally-inside n a b h l =
     let split : tally n (λ p. ltb p b) ≡ tally n (inside a b) + tally n (λ p. ltb p a) = sum-same n (λ p. bit (ltb p b)) (λ p. bit (inside a b p) + bit (ltb p a)) (λ p m. sym (bit-split a b p h)) ∙ sum-add n (λ p. bit (inside a b p)) (λ p. bit (ltb p a)) in
     omega (arith, tally-below n a (omega arith), tally-below n b l)
 
--- how many elements pass the test
-abbrev pub count : (ℕ → Bool) → List ℕ → ℕ
-count p [] = 0
-count p (s ∷ ss) = bit (p s) + count p ss
-
 pub length-keep : (p : ℕ → Bool) (l : List ℕ) → length (keep p l) ≡ count p l
 length-keep p [] = refl
 length-keep p (s ∷ ss) = go (p s) (length-keep p ss)
@@ -146,24 +123,14 @@ length-keep p (s ∷ ss) = go (p s) (length-keep p ss)
     go true i = omega arith
     go false i = omega arith
 
-pub count-le : (p : ℕ → Bool) (l : List ℕ) → count p l ≤ length l
-count-le p [] = omega arith
-count-le p (s ∷ ss) = omega (arith, bit-le (p s), count-le p ss)
-
-pub count-append : (p : ℕ → Bool) (l m : List ℕ) → count p (l ++ m) ≡ count p l + count p m
-count-append p [] m = omega arith
-count-append p (s ∷ ss) m = omega (arith, count-append p ss m)
-
 pub count-insert : (p : ℕ → Bool) (x v : ℕ) (l : List ℕ) → count p (insertAt x v l) ≡ bit (p v) + count p l
-count-insert p x v l = omega (arith, count-append p (take x l) (v ∷ drop x l), count-append p (take x l) (drop x l), ap (count p) (take-append-drop x l))
-
--- tests no two of which an element passes count each element at most once
-pub counts-apart : (k : ℕ) (p : ℕ → ℕ → Bool) (l : List ℕ)
-    → ((j x y : ℕ) → j < length l → x < k → y < k → p x (getD l j 0) ≡ true → p y (getD l j 0) ≡ true → x ≡ y)
-    → sumTo k (λ x. count (p x) l) ≤ length l
-counts-apart k p [] h = omega (arith, sum-zero k)
-counts-apart k p (s ∷ ss) h =
-    omega (arith, sum-add k (λ x. bit (p x s)) (λ x. count (p x) ss), tally-one k (λ x. p x s) (λ x y. h 0 x y (omega arith)), counts-apart k p ss (λ j x y l. h (suc j) x y (suc-le-suc l)))
+count-insert p x v l =
+    omega (
+      arith,
+      sum-append (λ y. bit (p y)) (take x l) (v ∷ drop x l),
+      sum-append (λ y. bit (p y)) (take x l) (drop x l),
+      ap (count p) (take-append-drop x l),
+    )
 
 -- tests exactly one of which each element passes count each element once
 pub counts-once : (k : ℕ) (p : ℕ → ℕ → Bool) (l : List ℕ) → ((j : ℕ) → j < length l → tally k (λ x. p x (getD l j 0)) ≡ 1)
@@ -172,91 +139,51 @@ counts-once k p [] h = sum-zero k
 counts-once k p (s ∷ ss) h =
     omega (arith, sum-add k (λ x. bit (p x s)) (λ x. count (p x) ss), h 0 (omega arith), counts-once k p ss (λ j l. h (suc j) (suc-le-suc l)))
 
--- how many elements are below t
-abbrev pub below : List ℕ → ℕ → ℕ
-below l t = count (λ s. ltb s t) l
-
-pub count-inside : (a b : ℕ) (l : List ℕ) → a ≤ b → count (inside a b) l + below l a ≡ below l b
+pub count-inside : (a b : ℕ) (l : List ℕ) → a ≤ b → count (inside a b) l + countBelow a l ≡ countBelow b l
 count-inside a b [] h = refl
 count-inside a b (s ∷ ss) h = omega (arith, bit-split a b s h, count-inside a b ss h)
 
-pub below-mono : (a b : ℕ) (l : List ℕ) → a ≤ b → below l a ≤ below l b
-below-mono a b l h = omega (arith, count-inside a b l h)
-
--- a list that rises strictly
-abbrev pub Up : List ℕ → Type 0
-Up l = (x y : ℕ) → x < y → y < length l → getD l x 0 < getD l y 0
-
-pub up-tail : (s : ℕ) (ss : List ℕ) → Up (s ∷ ss) → Up ss
-up-tail s ss u x y l m = u (suc x) (suc y) (suc-le-suc l) (suc-le-suc m)
-
--- in a rising list the elements below t are the first ones
-pub below-more : (l : List ℕ) (t j : ℕ) → Up l → j < length l → getD l j 0 < t → j < below l t
-below-more [] t j u m h = absurd (not-suc-le-zero m)
-below-more (s ∷ ss) t zero u m h = rw (lt-ltb s t) (omega arith)
-below-more (s ∷ ss) t (suc j) u m h =
-    rw (lt-ltb s t (omega (arith, u 0 (suc j) (omega arith) m))) (omega (arith, below-more ss t j (up-tail s ss u) (le-of-suc-le-suc m) h))
-
-pub below-less : (l : List ℕ) (t j : ℕ) → Up l → j < below l t → getD l j 0 < t
-below-less [] t j u h = absurd (not-suc-le-zero h)
-below-less (s ∷ ss) t j u h = go j (ltb s t) refl h (λ i. below-less ss t i (up-tail s ss u))
-  where
-    go : (j : ℕ) (b : Bool) → ltb s t ≡ b → j < bit b + below ss t → ((i : ℕ) → i < below ss t → getD ss i 0 < t) → getD (s ∷ ss) j 0 < t
-    go zero true e h r = ltb-true s t e
-    go zero false e h r = omega (arith, r 0 (omega arith), u 0 1 (omega arith) (omega (arith, count-le (λ s. ltb s t) ss)))
-    go (suc j) b e h r = r j (omega (arith, bit-le b))
-
-pub below-at : (l : List ℕ) (j : ℕ) → Up l → j < length l → below l (getD l j 0) ≡ j
-below-at l j u h = go (parted (below l (getD l j 0)) j) (parted j (below l (getD l j 0)))
-  where
-    go : (below l (getD l j 0) < j) ⊎ (j ≤ below l (getD l j 0)) → (j < below l (getD l j 0)) ⊎ (below l (getD l j 0) ≤ j) → below l (getD l j 0) ≡ j
-    go (inl a) b = absurd (omega (arith, below-more l (getD l j 0) (below l (getD l j 0)) u (omega arith) (u (below l (getD l j 0)) j a h)))
-    go (inr a) (inl b) = absurd (omega (arith, below-less l (getD l j 0) j u b))
-    go (inr a) (inr b) = omega arith
-
 -- the elements of a rising list in a stretch stand together
-pub below-none : (s : ℕ) (ss : List ℕ) (t : ℕ) → Up (s ∷ ss) → t ≤ s → (below (s ∷ ss) t ≡ 0) × (below ss t ≡ 0)
-below-none s ss t u h = go (parted 0 (below (s ∷ ss) t))
-  where
-    go : (0 < below (s ∷ ss) t) ⊎ (below (s ∷ ss) t ≤ 0) → (below (s ∷ ss) t ≡ 0) × (below ss t ≡ 0)
-    go (inl l) = absurd (omega (arith, below-less (s ∷ ss) t 0 u l))
-    go (inr l) = (omega arith, omega arith)
+pub none-below : (s : ℕ) (ss : List ℕ) (t : ℕ) → Strict (s ∷ ss) → t ≤ s → (countBelow t (s ∷ ss) ≡ 0) × (countBelow t ss ≡ 0)
+none-below s ss t u h =
+    let none : All (λ y. t ≤ y) ss = all-map (_<_ s) (λ y. t ≤ y) ss (λ y l. omega arith) (u .0) in
+    (count-none t (s ∷ ss) (h, none), count-none t ss none)
 
-pub keep-slice : (a b : ℕ) (l : List ℕ) → a ≤ b → Up l → keep (inside a b) l ≡ take (below l b - below l a) (drop (below l a) l)
+pub keep-slice : (a b : ℕ) (l : List ℕ) → a ≤ b → Strict l → keep (inside a b) l ≡ take (countBelow b l - countBelow a l) (drop (countBelow a l) l)
 keep-slice a b [] h u = refl
-keep-slice a b (s ∷ ss) h u = go (parted s a) (parted s b) (keep-slice a b ss h (up-tail s ss u))
+keep-slice a b (s ∷ ss) h u = go (lt-or-le s a) (lt-or-le s b) (keep-slice a b ss h (u .1))
   where
-    go : (s < a) ⊎ (a ≤ s) → (s < b) ⊎ (b ≤ s) → keep (inside a b) ss ≡ take (below ss b - below ss a) (drop (below ss a) ss)
-        → keep (inside a b) (s ∷ ss) ≡ take (below (s ∷ ss) b - below (s ∷ ss) a) (drop (below (s ∷ ss) a) (s ∷ ss))
+    go : (s < a) ⊎ (a ≤ s) → (s < b) ⊎ (b ≤ s) → keep (inside a b) ss ≡ take (countBelow b ss - countBelow a ss) (drop (countBelow a ss) ss)
+        → keep (inside a b) (s ∷ ss) ≡ take (countBelow b (s ∷ ss) - countBelow a (s ∷ ss)) (drop (countBelow a (s ∷ ss)) (s ∷ ss))
     go (inl l) m i =
-        let e : 1 + below ss a ≡ suc (below ss a) = omega arith in
-        let f : 1 + below ss b - suc (below ss a) ≡ below ss b - below ss a = omega arith in
+        let e : 1 + countBelow a ss ≡ suc (countBelow a ss) = omega arith in
+        let f : 1 + countBelow b ss - suc (countBelow a ss) ≡ countBelow b ss - countBelow a ss = omega arith in
         rw (lt-leb a s, lt-ltb s a, lt-ltb s b (omega arith), e, f) i
     go (inr l) (inl m) i =
-        let z = below-none s ss a u l in
-        let e : 1 + below ss b - 0 ≡ suc (below ss b - 0) = omega arith in
+        let z = none-below s ss a u l in
+        let e : 1 + countBelow b ss - 0 ≡ suc (countBelow b ss - 0) = omega arith in
         rw (le-leb a s, z .0, lt-ltb s b, e) (ap {B = List ℕ} (λ r. s ∷ r) (rw (z .1) at i))
     go (inr l) (inr m) i =
-        let z = below-none s ss a u l in
-        let w = below-none s ss b u m in
+        let z = none-below s ss a u l in
+        let w = none-below s ss b u m in
         rw (le-leb a s, z .0, w .0, le-ltb s b) (rw (z .1, w .1) at i)
 
 -- the j-th of them
-pub keep-at : (a b : ℕ) (l : List ℕ) (j : ℕ) → a ≤ b → Up l → j < count (inside a b) l → getD (keep (inside a b) l) j 0 ≡ getD l (below l a + j) 0
+pub keep-at : (a b : ℕ) (l : List ℕ) (j : ℕ) → a ≤ b → Strict l → j < count (inside a b) l → getD (keep (inside a b) l) j 0 ≡ getD l (countBelow a l + j) 0
 keep-at a b l j h u m =
-    let e : j < below l b - below l a = omega (arith, count-inside a b l h) in
+    let e : j < countBelow b l - countBelow a l = omega (arith, count-inside a b l h) in
     rw (keep-slice a b l h u, getD-take, getD-drop)
 
 -- cutting a stretch at its (j + 1)th element leaves j elements before it
-pub keep-cut : (a b : ℕ) (l : List ℕ) (j : ℕ) → a ≤ b → Up l → j < count (inside a b) l
-    → (a ≤ getD (keep (inside a b) l) j 0) × (getD (keep (inside a b) l) j 0 < b) × (below l (getD (keep (inside a b) l) j 0) ≡ below l a + j)
+pub keep-cut : (a b : ℕ) (l : List ℕ) (j : ℕ) → a ≤ b → Strict l → j < count (inside a b) l
+    → (a ≤ getD (keep (inside a b) l) j 0) × (getD (keep (inside a b) l) j 0 < b) × (countBelow (getD (keep (inside a b) l) j 0) l ≡ countBelow a l + j)
 keep-cut a b l j h u m =
-    let i : below l a + j < below l b = omega (arith, count-inside a b l h) in
-    let k : below l a + j < length l = omega (arith, count-le (λ s. ltb s b) l) in
-    rw (keep-at a b l j h u m) (from (parted (getD l (below l a + j) 0) a) k, below-less l b (below l a + j) u i, below-at l (below l a + j) u k)
+    let i : countBelow a l + j < countBelow b l = omega (arith, count-inside a b l h) in
+    let k : countBelow a l + j < length l = omega (arith, count-le-length b l) in
+    rw (keep-at a b l j h u m) (from (lt-or-le (getD l (countBelow a l + j) 0) a) k, count-lt b l (strict-sorted l u) (countBelow a l + j) i, count-at l u (countBelow a l + j) k)
   where
-    from : (getD l (below l a + j) 0 < a) ⊎ (a ≤ getD l (below l a + j) 0) → below l a + j < length l → a ≤ getD l (below l a + j) 0
-    from (inl c) k = absurd (omega (arith, below-more l a (below l a + j) u k c))
+    from : (getD l (countBelow a l + j) 0 < a) ⊎ (a ≤ getD l (countBelow a l + j) 0) → countBelow a l + j < length l → a ≤ getD l (countBelow a l + j) 0
+    from (inl c) k = absurd (omega (arith, count-gt a l (strict-sorted l u) (countBelow a l + j) k c))
     from (inr c) k = c
 
 -- a sum after one term was made two

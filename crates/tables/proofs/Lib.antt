@@ -1,2 +1,6 @@
 -- The laws that callers cite.
+pub mod Leading
+pub mod Passing
+pub mod Steps
+pub mod Moves
 pub mod Walks

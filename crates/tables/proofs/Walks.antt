@@ -1,4 +1,4 @@
--- The index of a place, counted by starts: holders after a cut, the starts that a walk passes, the stretch of starts under an image.
+-- The index of a place, counted by starts: the starts that a walk passes, and the stretch of starts under an image.
 use Prim.Native.Nat.{ℕ, zero, suc, _+_, _-_, _≤_, _<_, suc-le-suc}
 use mathlib.Core.Path.{_≡_, refl, sym, ap, _∙_, fun-ext}
 use mathlib.Core.Bool.{Bool, true, _&&_}
@@ -11,7 +11,9 @@ use lib.Dec.{leb, ltb, eqb, leb·suc-suc}
 use borrow.Author.Tests.{lt-ltb, le-ltb, eq-eqb, ne-eqb}
 use Rattle.runs.specs.Outcome.{_then_else_}
 use Rattle.runs.specs.Search.{keep, leading}
-use Rattle.runs.proofs.Sums.{parted, bit, inside, count, length-keep, count-le, count-inside, keep-slice, keep-at, Up, up-tail, below, below-mono, below-more, below-less, below-none, below-at}
+use Rattle.order.specs.Order.{Strict, bit, count, countBelow}
+use Rattle.order.proofs.Laws.{lt-or-le, strict-sorted, count-le-length, count-mono, count-lt, count-gt, count-at}
+use Rattle.runs.proofs.Sums.{inside, length-keep, count-inside, keep-slice, keep-at, none-below}
 use Rattle.runs.specs.Legal.{Legal}
 use Rattle.runs.specs.Runs.{Runs, countOf, startOf, imageOf, endOf, imageEnd, runAt, carry, mapOf}
 use Rattle.tables.specs.Under.{under, weight}
@@ -21,20 +23,20 @@ up-to : (j : ℕ) → _≡_ {A = ℕ → Bool} (λ s. leb s j) (λ s. ltb s (suc
 up-to j = fun-ext (λ s. sym (leb·suc-suc s j))
 
 -- in a rising list the leading elements below t are all that are
-pub leading-below : (l : List ℕ) (t : ℕ) → Up l → leading (λ s. ltb s t) l ≡ below l t
+pub leading-below : (l : List ℕ) (t : ℕ) → Strict l → leading (λ s. ltb s t) l ≡ countBelow t l
 leading-below [] t u = refl
-leading-below (s ∷ ss) t u = go (parted s t) (leading-below ss t (up-tail s ss u))
+leading-below (s ∷ ss) t u = go (lt-or-le s t) (leading-below ss t (u .1))
   where
-    go : (s < t) ⊎ (t ≤ s) → leading (λ s. ltb s t) ss ≡ below ss t → leading (λ s. ltb s t) (s ∷ ss) ≡ below (s ∷ ss) t
+    go : (s < t) ⊎ (t ≤ s) → leading (λ s. ltb s t) ss ≡ countBelow t ss → leading (λ s. ltb s t) (s ∷ ss) ≡ countBelow t (s ∷ ss)
     go (inl l) i = rw (lt-ltb s t l, leading) (omega arith)
-    go (inr l) i = rw (below-none s ss t u l .0, le-ltb s t l, leading)
+    go (inr l) i = rw (none-below s ss t u l .0, le-ltb s t l, leading)
 
-pub leading-drop : (l : List ℕ) (t m : ℕ) → Up l → m ≤ below l t → leading (λ s. ltb s t) (drop m l) + m ≡ below l t
+pub leading-drop : (l : List ℕ) (t m : ℕ) → Strict l → m ≤ countBelow t l → leading (λ s. ltb s t) (drop m l) + m ≡ countBelow t l
 leading-drop l t zero u h = omega (arith, leading-below l t u)
 leading-drop [] t (suc m) u h = absurd (not-suc-le-zero h)
-leading-drop (s ∷ ss) t (suc m) u h = go (lt-ltb s t (below-less (s ∷ ss) t 0 u (omega arith))) (leading-drop ss t m (up-tail s ss u))
+leading-drop (s ∷ ss) t (suc m) u h = go (lt-ltb s t (count-lt t (s ∷ ss) (strict-sorted (s ∷ ss) u) 0 (omega arith))) (leading-drop ss t m (u .1))
   where
-    go : ltb s t ≡ true → (m ≤ below ss t → leading (λ s. ltb s t) (drop m ss) + m ≡ below ss t) → leading (λ s. ltb s t) (drop m ss) + suc m ≡ below (s ∷ ss) t
+    go : ltb s t ≡ true → (m ≤ countBelow t ss → leading (λ s. ltb s t) (drop m ss) + m ≡ countBelow t ss) → leading (λ s. ltb s t) (drop m ss) + suc m ≡ countBelow t (s ∷ ss)
     go e i = omega (arith, ap bit e, i (omega (arith, ap bit e)))
 
 -- a weight is a count
@@ -43,18 +45,18 @@ weight-is n r x = length-keep (inside (imageOf r x) (imageEnd n r x)) (r .starts
 
 module _ (n : ℕ) (r : Runs) (c : Parted n r) where
   -- the index of the run that has a place, by counting starts
-  pub run-below : (p : ℕ) → p < n → below (r .starts) (suc p) ≡ suc (runAt n r p)
+  pub run-below : (p : ℕ) → p < n → countBelow (suc p) (r .starts) ≡ suc (runAt n r p)
   run-below p h = go (home n r c p h)
     where
-      go : (x : ℕ) × (x < countOf r) × (startOf r x ≤ p) × (p < endOf n r x) → below (r .starts) (suc p) ≡ suc (runAt n r p)
-      go (x, hx, a, b) = rw (run-at n r c x p hx a b) (at (parted (suc x) (below (r .starts) (suc p))))
+      go : (x : ℕ) × (x < countOf r) × (startOf r x ≤ p) × (p < endOf n r x) → countBelow (suc p) (r .starts) ≡ suc (runAt n r p)
+      go (x, hx, a, b) = rw (run-at n r c x p hx a b) (at (lt-or-le (suc x) (countBelow (suc p) (r .starts))))
         where
-          at : (suc x < below (r .starts) (suc p)) ⊎ (below (r .starts) (suc p) ≤ suc x) → below (r .starts) (suc p) ≡ suc x
-          at (inl l) = absurd (omega (arith, below-less (r .starts) (suc p) (suc x) (c .up) l, end-next n r x (omega (arith, count-le (λ s. ltb s (suc p)) (r .starts)))))
-          at (inr l) = omega (arith, below-more (r .starts) (suc p) x (c .up) hx (suc-le-suc a))
+          at : (suc x < countBelow (suc p) (r .starts)) ⊎ (countBelow (suc p) (r .starts) ≤ suc x) → countBelow (suc p) (r .starts) ≡ suc x
+          at (inl l) = absurd (omega (arith, count-lt (suc p) (r .starts) (strict-sorted (r .starts) (c .up)) (suc x) l, end-next n r x (omega (arith, count-le-length (suc p) (r .starts)))))
+          at (inr l) = omega (arith, count-gt (suc p) (r .starts) (strict-sorted (r .starts) (c .up)) x hx (suc-le-suc a))
 
   pub run-mono : (p q : ℕ) → p ≤ q → q < n → runAt n r p ≤ runAt n r q
-  run-mono p q l h = omega (arith, run-below p (omega arith), run-below q h, below-mono (suc p) (suc q) (r .starts) (suc-le-suc l))
+  run-mono p q l h = omega (arith, run-below p (omega arith), run-below q h, count-mono (suc p) (suc q) (r .starts) (suc-le-suc l))
 
   -- a walk from the run of place i to that of place j passes the starts above i and not above j
   pub walk-passed : (i j : ℕ) → i ≤ j → j < n → leading (λ s. leb s j) (drop (suc (runAt n r i)) (r .starts)) + runAt n r i ≡ runAt n r j
@@ -83,43 +85,43 @@ module _ (n : ℕ) (r : Runs) (c : Legal n r) where
         weight-is n r x,
         count-inside (suc (imageOf r x)) (suc (carry r x p)) (r .starts) (omega arith),
         count-inside (imageOf r x) (imageEnd n r x) (r .starts) (omega arith),
-        below-mono (suc (carry r x p)) (imageEnd n r x) (r .starts) (omega arith),
-        below-mono (imageOf r x) (suc (imageOf r x)) (r .starts) (omega arith),
+        count-mono (suc (carry r x p)) (imageEnd n r x) (r .starts) (omega arith),
+        count-mono (imageOf r x) (suc (imageOf r x)) (r .starts) (omega arith),
       )
 
   -- the stretch of starts under an image
-  pub under-first : (x : ℕ) → x < countOf r → runAt n r (imageOf r x) + (eqb (startOf r (runAt n r (imageOf r x))) (imageOf r x) then 0 else 1) ≡ below (r .starts) (imageOf r x)
+  pub under-first : (x : ℕ) → x < countOf r → runAt n r (imageOf r x) + (eqb (startOf r (runAt n r (imageOf r x))) (imageOf r x) then 0 else 1) ≡ countBelow (imageOf r x) (r .starts)
   under-first x hx = go (home n r (homes n r c) (imageOf r x) below-n)
     where
       below-n : imageOf r x < n
       below-n = omega (arith, homes n r c .lasting x hx, c .within x hx)
 
       go : (y : ℕ) × (y < countOf r) × (startOf r y ≤ imageOf r x) × (imageOf r x < endOf n r y)
-          → runAt n r (imageOf r x) + (eqb (startOf r (runAt n r (imageOf r x))) (imageOf r x) then 0 else 1) ≡ below (r .starts) (imageOf r x)
-      go (y, hy, a, b) = let e = run-at n r (homes n r c) y (imageOf r x) hy a b in rw e (at (parted (startOf r y) (imageOf r x)) (rw e at (run-below n r (homes n r c) (imageOf r x) below-n)))
+          → runAt n r (imageOf r x) + (eqb (startOf r (runAt n r (imageOf r x))) (imageOf r x) then 0 else 1) ≡ countBelow (imageOf r x) (r .starts)
+      go (y, hy, a, b) = let e = run-at n r (homes n r c) y (imageOf r x) hy a b in rw e (at (lt-or-le (startOf r y) (imageOf r x)) (rw e at (run-below n r (homes n r c) (imageOf r x) below-n)))
         where
-          at : (startOf r y < imageOf r x) ⊎ (imageOf r x ≤ startOf r y) → below (r .starts) (suc (imageOf r x)) ≡ suc y
-              → y + (eqb (startOf r y) (imageOf r x) then 0 else 1) ≡ below (r .starts) (imageOf r x)
-          at (inl l) k = rw (ne-eqb (startOf r y) (imageOf r x) (λ e. omega arith)) (omega (arith, below-more (r .starts) (imageOf r x) y (homes n r c .up) hy l, below-mono (imageOf r x) (suc (imageOf r x)) (r .starts) (omega arith)))
-          at (inr l) k = let e : startOf r y ≡ imageOf r x = omega arith in rw (eq-eqb (startOf r y) (imageOf r x) e) (omega (arith, below-at (r .starts) y (homes n r c .up) hy, ap (below (r .starts)) e))
+          at : (startOf r y < imageOf r x) ⊎ (imageOf r x ≤ startOf r y) → countBelow (suc (imageOf r x)) (r .starts) ≡ suc y
+              → y + (eqb (startOf r y) (imageOf r x) then 0 else 1) ≡ countBelow (imageOf r x) (r .starts)
+          at (inl l) k = rw (ne-eqb (startOf r y) (imageOf r x) (λ e. omega arith)) (omega (arith, count-gt (imageOf r x) (r .starts) (strict-sorted (r .starts) (homes n r c .up)) y hy l, count-mono (imageOf r x) (suc (imageOf r x)) (r .starts) (omega arith)))
+          at (inr l) k = let e : startOf r y ≡ imageOf r x = omega arith in rw (eq-eqb (startOf r y) (imageOf r x) e) (omega (arith, count-at (r .starts) (homes n r c .up) y hy, ap (λ (t : ℕ). countBelow t (r .starts)) e))
 
-  pub under-count : (x : ℕ) → leading (λ s. ltb s (imageEnd n r x)) (drop (below (r .starts) (imageOf r x)) (r .starts)) ≡ weight n r x
-  under-count x = omega (arith, weight-is n r x, count-inside (imageOf r x) (imageEnd n r x) (r .starts) (omega arith), leading-drop (r .starts) (imageEnd n r x) (below (r .starts) (imageOf r x)) (homes n r c .up) (below-mono (imageOf r x) (imageEnd n r x) (r .starts) (omega arith)))
+  pub under-count : (x : ℕ) → leading (λ s. ltb s (imageEnd n r x)) (drop (countBelow (imageOf r x) (r .starts)) (r .starts)) ≡ weight n r x
+  under-count x = omega (arith, weight-is n r x, count-inside (imageOf r x) (imageEnd n r x) (r .starts) (omega arith), leading-drop (r .starts) (imageEnd n r x) (countBelow (imageOf r x) (r .starts)) (homes n r c .up) (count-mono (imageOf r x) (imageEnd n r x) (r .starts) (omega arith)))
 
-  pub under-is : (x : ℕ) → under n r x ≡ take (weight n r x) (drop (below (r .starts) (imageOf r x)) (r .starts))
+  pub under-is : (x : ℕ) → under n r x ≡ take (weight n r x) (drop (countBelow (imageOf r x) (r .starts)) (r .starts))
   under-is x =
-      let e : weight n r x ≡ below (r .starts) (imageEnd n r x) - below (r .starts) (imageOf r x) = omega (arith, weight-is n r x, count-inside (imageOf r x) (imageEnd n r x) (r .starts) (omega arith)) in
+      let e : weight n r x ≡ countBelow (imageEnd n r x) (r .starts) - countBelow (imageOf r x) (r .starts) = omega (arith, weight-is n r x, count-inside (imageOf r x) (imageEnd n r x) (r .starts) (omega arith)) in
       rw e (keep-slice (imageOf r x) (imageEnd n r x) (r .starts) (omega arith) (homes n r c .up))
 
   -- the (m + 1)th start under an image is found by its index
-  pub weight-less : (x m : ℕ) → m < weight n r x → (below (r .starts) (imageOf r x) + m < countOf r) × (startOf r (below (r .starts) (imageOf r x) + m) < imageEnd n r x)
+  pub weight-less : (x m : ℕ) → m < weight n r x → (countBelow (imageOf r x) (r .starts) + m < countOf r) × (startOf r (countBelow (imageOf r x) (r .starts) + m) < imageEnd n r x)
   weight-less x m l =
-      let i : below (r .starts) (imageOf r x) + m < below (r .starts) (imageEnd n r x) = omega (arith, weight-is n r x, count-inside (imageOf r x) (imageEnd n r x) (r .starts) (omega arith)) in
-      (omega (arith, count-le (λ s. ltb s (imageEnd n r x)) (r .starts)), below-less (r .starts) (imageEnd n r x) (below (r .starts) (imageOf r x) + m) (homes n r c .up) i)
+      let i : countBelow (imageOf r x) (r .starts) + m < countBelow (imageEnd n r x) (r .starts) = omega (arith, weight-is n r x, count-inside (imageOf r x) (imageEnd n r x) (r .starts) (omega arith)) in
+      (omega (arith, count-le-length (imageEnd n r x) (r .starts)), count-lt (imageEnd n r x) (r .starts) (strict-sorted (r .starts) (homes n r c .up)) (countBelow (imageOf r x) (r .starts) + m) i)
 
-  pub weight-more : (x m : ℕ) → below (r .starts) (imageOf r x) + m < countOf r → startOf r (below (r .starts) (imageOf r x) + m) < imageEnd n r x → m < weight n r x
+  pub weight-more : (x m : ℕ) → countBelow (imageOf r x) (r .starts) + m < countOf r → startOf r (countBelow (imageOf r x) (r .starts) + m) < imageEnd n r x → m < weight n r x
   weight-more x m h l =
-      omega (arith, weight-is n r x, count-inside (imageOf r x) (imageEnd n r x) (r .starts) (omega arith), below-more (r .starts) (imageEnd n r x) (below (r .starts) (imageOf r x) + m) (homes n r c .up) h l)
+      omega (arith, weight-is n r x, count-inside (imageOf r x) (imageEnd n r x) (r .starts) (omega arith), count-gt (imageEnd n r x) (r .starts) (strict-sorted (r .starts) (homes n r c .up)) (countBelow (imageOf r x) (r .starts) + m) h l)
 
-  pub under-at : (x m : ℕ) → m < weight n r x → getD (under n r x) m 0 ≡ startOf r (below (r .starts) (imageOf r x) + m)
+  pub under-at : (x m : ℕ) → m < weight n r x → getD (under n r x) m 0 ≡ startOf r (countBelow (imageOf r x) (r .starts) + m)
   under-at x m l = keep-at (imageOf r x) (imageEnd n r x) (r .starts) m (omega arith) (homes n r c .up) (omega (arith, weight-is n r x))

@@ -4,3 +4,4 @@ pub mod Move
 pub mod Inverse
 pub mod Under
 pub mod Bookmark
+pub mod Passed

@@ -1,4 +1,10 @@
 // The move table of a run list (starts, images, holders), with any numbers in it, and the walks through it.
+mod checks;
+mod walk;
+
+ghost use mathlib.Core.Path.{_≡_};
+ghost use Rattle.tables.specs.Tables.{tables};
+ghost use Rattle.tables.specs.Move.{foundSays, movedSays, findOf, moveOf, movesOf};
 
 // Where a move or a repeated move ends, and how many interval starts it passed.
 pub struct Step {
@@ -45,4 +51,48 @@ pub enum Weighed {
 pub struct Marked {
     pub bookmark: Bookmark,
     pub moved: Moved,
+}
+
+// The interval that a walk from the first one reaches for place i.
+pub fn find(n: u32, starts: &[u32], images: &[u32], holders: &[u32], i: u32) -> Found
+    ensures { λ r. ⌜ foundSays r ≡ findOf n (tables (now (starts .entry)) (now (images .entry)) (now (holders .entry))) i ⌝ }
+{
+    if checks::is_misshapen(n, starts, images, holders) {
+        return Found::Refused(runs::Refusal::TableShape);
+    }
+    if n <= i {
+        return Found::Refused(runs::Refusal::PlaceRange(i));
+    }
+    if i < starts[0] {
+        return Found::Refused(runs::Refusal::PlaceRange(i));
+    }
+    Found::At(walk::leading_up_to(starts, 1, i) as u32)
+}
+
+// One move from place i of interval x.
+pub fn move_query(n: u32, starts: &[u32], images: &[u32], holders: &[u32], x: u32, i: u32) -> Moved
+    ensures { λ r. ⌜ movedSays r ≡ moveOf n (tables (now (starts .entry)) (now (images .entry)) (now (holders .entry))) x i ⌝ }
+{
+    match checks::locate(n, starts, images, holders, x, i) {
+        Moved::Refused(r) => Moved::Refused(r),
+        Moved::To(_) => walk::advance(n, starts, images, holders, x, i),
+    }
+}
+
+// m moves from place i of interval x, with the sum of the counts.
+pub fn repeated_moves(
+    n: u32,
+    starts: &[u32],
+    images: &[u32],
+    holders: &[u32],
+    x: u32,
+    i: u32,
+    m: u32,
+) -> Moved
+    ensures { λ r. ⌜ movedSays r ≡ movesOf n (tables (now (starts .entry)) (now (images .entry)) (now (holders .entry))) m x i ⌝ }
+{
+    match checks::locate(n, starts, images, holders, x, i) {
+        Moved::Refused(r) => Moved::Refused(r),
+        Moved::To(_) => walk::moves_from(n, starts, images, holders, x, i, m),
+    }
 }

@@ -1,0 +1,54 @@
+-- The file (document 01, "The file and the listing"). A file is a list of bytes.
+use Prim.Native.Nat.{ℕ, _+_, _*_}
+use mathlib.Core.Bool.{Bool, not, _||_}
+use mathlib.Core.List.{List, [], _∷_, _++_}
+use lib.ListN.{length, getD, take, drop}
+use lib.Dec.{ltb, eqb}
+use Rattle.runs.specs.Outcome.{Outcome, done, refused, Test, test, judge, mapDone}
+use Rattle.runs.specs.Refusal.{refusalSays}
+use Rattle.runs.specs.Runs.{Runs, runs}
+use Rattle.runs.specs.Check.{listTests, maxRuns}
+use Rattle.balance.specs.Lent.{degreeTest}
+use Rattle.listfile.specs.declared.Header.{Header}
+use Rattle.listfile.specs.declared.FileChecked.{FileChecked}
+use Rattle.listfile.specs.declared.FileChecked.the-variants.{Read, Refused}
+
+-- "32-bit words, least byte first"; bytes left over make no word
+abbrev pub wordsOf : List ℕ → List ℕ
+wordsOf [] = []
+wordsOf (a ∷ []) = []
+wordsOf (a ∷ b ∷ []) = []
+wordsOf (a ∷ b ∷ c ∷ []) = []
+wordsOf (a ∷ b ∷ c ∷ e ∷ bytes) = (a + 256 * b + 65536 * c + 16777216 * e) ∷ wordsOf bytes
+
+abbrev pub wordOf : List ℕ → ℕ → ℕ
+wordOf bytes i = getD (wordsOf bytes) i 0
+
+-- "n, k, d, byte offset of the starts, byte offset of the images, then k starts and k images"
+abbrev pub headerOf : List ℕ → Header
+headerOf bytes = record { n = wordOf bytes 0; k = wordOf bytes 1; d = wordOf bytes 2 }
+
+abbrev pub runsOf : List ℕ → Runs
+runsOf bytes =
+    let k = wordOf bytes 1 in
+    runs (take k (drop 5 (wordsOf bytes))) (take k (drop (5 + k) (wordsOf bytes)))
+
+-- the file's own order of tests, for files of at most `most` runs
+unfoldable pub fileTests : ℕ → List ℕ → List Test
+fileTests most bytes =
+    let k = wordOf bytes 1 in
+    test 15 (ltb (length bytes) 20) 0 ∷
+    test 1 (eqb (wordOf bytes 0) 0 || eqb k 0) 0 ∷
+    test 2 (ltb most k) 0 ∷
+    test 15 (not (eqb (wordOf bytes 3) 20)) 12 ∷
+    test 15 (not (eqb (wordOf bytes 4) (20 + 4 * k))) 16 ∷
+    test 15 (not (eqb (length bytes) (20 + 8 * k))) 20 ∷
+    (listTests (wordOf bytes 0) (runsOf bytes) ++ (degreeTest (wordOf bytes 2) ∷ []))
+
+unfoldable pub fileOf : ℕ → List ℕ → Outcome Header
+fileOf most bytes = judge (fileTests most bytes) (headerOf bytes)
+
+-- the outcome that each answer is
+abbrev pub fileSays : FileChecked → Outcome Header
+fileSays (Read h) = done h
+fileSays (Refused r) = refusalSays r
