@@ -1,32 +1,23 @@
 -- `checkOf` accepts a list if and only if it is legal and has at most 16,384 runs: each test that does not apply is one
 -- of the conditions of `Legal`.
 use Prim.Native.Nat.{ℕ, zero, suc, _-_, _≤_, _<_}
-use mathlib.Core.Path.{_≡_, refl, sym, _∙_}
-use mathlib.Core.Bool.{Bool, true, false, false≢true}
+use mathlib.Core.Path.{_≡_, sym, _∙_}
+use mathlib.Core.Bool.{Bool, false, false≢true}
 use mathlib.Core.Logic.{_⊎_, inl, inr, _≢_}
-use mathlib.Core.List.{List, _∷_}
 use native.Mathlib.Omega.{arith}
 use lib.ListN.{length}
 use borrow.Author.Tests.{ltb-false, lt-ltb, lt-leb, eq-eqb, ne-eqb, eqb-true, not-false}
 use Rattle.order.proofs.Laws.{lt-or-le}
-use Rattle.runs.specs.Outcome.{done, refused, Test, judge, _then_else_}
+use Rattle.runs.specs.Outcome.{done}
 use Rattle.runs.specs.Search.{firstBelow}
 use Rattle.runs.specs.Runs.{Runs, countOf, startOf, imageOf}
 use Rattle.runs.specs.Legal.{Legal}
 use Rattle.runs.specs.Check.{maxRuns, unmatched, disordered, overruns, overlaps, listTests, checkTests, checkOf}
+use Rattle.runs.proofs.Judging.{judge-first}
 use Rattle.runs.proofs.Searches.{any-none, any-false}
 use Rattle.runs.proofs.Legality.{homes}
 use Rattle.runs.proofs.Checking.{Within, matched, in-order-all, rises, none-true, overruns-false, overruns-within, check-accepts}
 use Rattle.runs.proofs.Sweeping.{Shared, overlaps-true, overlaps-false}
-
--- where the result is given, the first test does not apply
-judge-done : {A : Type 0} (t : Test) (ts : List Test) (a b : A) → judge (t ∷ ts) a ≡ done b → (t .applies ≡ false) × (judge ts a ≡ done b)
-unfolding judge
-judge-done t ts a b e = go (t .applies) refl e
-  where
-    go : (s : Bool) → t .applies ≡ s → (s then refused (t .number) (t .place) else judge ts a) ≡ done b → (s ≡ false) × (judge ts a ≡ done b)
-    go true q e = let z : _≡_ {A = ℕ} 0 1 = cc in absurd (omega arith)
-    go false q e = (refl, e)
 
 -- two numbers are the same if they cannot differ
 pub same : (x y : ℕ) → (x ≢ y → ⊥) → x ≡ y
@@ -46,12 +37,12 @@ module _ (n : ℕ) (r : Runs) where
   accepted : checkOf n r ≡ done tt → Within n r × ((x : ℕ) → x < countOf r → overlaps n r x ≡ false)
   unfolding checkOf checkTests listTests
   accepted e =
-      let one = judge-done _ _ tt tt e in
-      let two = judge-done _ _ tt tt (one .1) in
-      let three = judge-done _ _ tt tt (two .1) in
-      let four = judge-done _ _ tt tt (three .1) in
-      let five = judge-done _ _ tt tt (four .1) in
-      let six = judge-done _ _ tt tt (five .1) in (
+      let one = judge-first _ _ tt tt (sym e) in
+      let two = judge-first _ _ tt tt (one .1) in
+      let three = judge-first _ _ tt tt (two .1) in
+      let four = judge-first _ _ tt tt (three .1) in
+      let five = judge-first _ _ tt tt (four .1) in
+      let six = judge-first _ _ tt tt (five .1) in (
         record {
           rising = record {
             begun = record { matched = one .0; few = ltb-false _ _ (two .0); first = eqb-true _ _ (not-false _ (three .0)) };
