@@ -6,3 +6,9 @@ pub mod Legality
 mod Searching
 mod Checking
 mod Sweeping
+pub mod Accepted
+mod Mapped
+pub mod Intervals
+pub mod Bijection
+pub mod Tiling
+pub mod Inversion
