@@ -3,4 +3,5 @@ pub mod Leading
 pub mod Passing
 pub mod Steps
 pub mod Moves
+pub mod Sources
 pub mod Walks

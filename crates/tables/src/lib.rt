@@ -1,9 +1,11 @@
 // The move table of a run list (starts, images, holders), with any numbers in it, and the walks through it.
 mod checks;
+mod preimage;
 mod walk;
 
 ghost use mathlib.Core.Path.{_≡_};
 ghost use Rattle.tables.specs.Tables.{tables};
+ghost use Rattle.tables.specs.Inverse.{invertedSays, inverseOf};
 ghost use Rattle.tables.specs.Move.{foundSays, movedSays, findOf, moveOf, movesOf};
 
 // Where a move or a repeated move ends, and how many interval starts it passed.
@@ -95,4 +97,24 @@ pub fn repeated_moves(
         Moved::Refused(r) => Moved::Refused(r),
         Moved::To(_) => walk::moves_from(n, starts, images, holders, x, i, m),
     }
+}
+
+// The place that j is reached from, and its interval.
+pub fn inverse(n: u32, starts: &[u32], images: &[u32], holders: &[u32], j: u32) -> Inverted
+    ensures { λ r. ⌜ invertedSays r ≡ inverseOf n (tables (now (starts .entry)) (now (images .entry)) (now (holders .entry))) j ⌝ }
+{
+    if checks::is_misshapen(n, starts, images, holders) {
+        return Inverted::Refused(runs::Refusal::TableShape);
+    }
+    if n <= j {
+        return Inverted::Refused(runs::Refusal::PlaceRange(j));
+    }
+    let x = preimage::first_source(n, starts, images, j);
+    if starts.len() <= x {
+        return Inverted::Refused(runs::Refusal::NoPreimage(j));
+    }
+    Inverted::From(Source {
+        place: starts[x] + (j - images[x]),
+        interval: x as u32,
+    })
 }
