@@ -3,3 +3,4 @@ mod Reading
 mod Writing
 mod Digits
 mod Signs
+mod Heading

@@ -1,4 +1,5 @@
 // The file of a run list and the text of its listing: bytes in, bytes out.
+mod layout;
 mod text;
 mod words;
 
