@@ -4,4 +4,5 @@ pub mod Passing
 pub mod Steps
 pub mod Moves
 pub mod Sources
+pub mod Stretches
 pub mod Walks

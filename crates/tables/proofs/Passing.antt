@@ -10,7 +10,7 @@ use Rattle.runs.specs.Runs.{startOf, imageOf, endOf, carry}
 use Rattle.tables.specs.Tables.{Tables, sizeOf, holderOf, maxIntervals, misshapen, outside, unheld, broken}
 use Rattle.tables.specs.Passed.{Shaped}
 
-or-left : (a b : Bool) → (a || b) ≡ false → a ≡ false
+pub or-left : (a b : Bool) → (a || b) ≡ false → a ≡ false
 or-left true b e = e
 or-left false b e = refl
 
