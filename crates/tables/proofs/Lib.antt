@@ -5,4 +5,5 @@ pub mod Steps
 pub mod Moves
 pub mod Sources
 pub mod Stretches
+pub mod Marks
 pub mod Walks

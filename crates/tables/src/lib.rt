@@ -1,11 +1,13 @@
 // The move table of a run list (starts, images, holders), with any numbers in it, and the walks through it.
 mod checks;
+mod marking;
 mod preimage;
 mod under;
 mod walk;
 
 ghost use mathlib.Core.Path.{_≡_};
 ghost use Rattle.tables.specs.Tables.{tables};
+ghost use Rattle.tables.specs.Bookmark.{Advances};
 ghost use Rattle.tables.specs.Inverse.{invertedSays, inverseOf};
 ghost use Rattle.tables.specs.Move.{foundSays, movedSays, findOf, moveOf, movesOf};
 ghost use Rattle.tables.specs.Under.{weighedSays, weightOf, startsUnderOf};
@@ -150,5 +152,18 @@ pub fn starts_under<'a>(
             let from = under::first(starts, images, holders, x);
             &starts[from..from + w as usize]
         }
+    }
+}
+
+// A bookmark's move: its answer and the bookmark after it, which a refusal leaves as it was.
+pub fn advanced(n: u32, starts: &[u32], images: &[u32], holders: &[u32], b: Bookmark) -> Marked
+    ensures { λ r. ⌜ Advances n (tables (now (starts .entry)) (now (images .entry)) (now (holders .entry))) b r ⌝ }
+{
+    match move_query(n, starts, images, holders, b.interval, b.place) {
+        Moved::Refused(r) => Marked {
+            bookmark: b,
+            moved: Moved::Refused(r),
+        },
+        Moved::To(s) => marking::mark(b, s),
     }
 }
