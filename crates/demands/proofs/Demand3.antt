@@ -89,7 +89,7 @@ module _ (n : ℕ) (r : Runs) (d : ℕ) (c : Legal n r) (many : 2 ≤ d) (few : 
     all-moves = λ p h cs. (
       counts-length n r t cs p,
       counts-sum n r t cs p,
-      omega (arith, counts-length n r t cs p, counts-sum n r t cs p, sum-most (2 * d - 1) (walkCounts n r t p cs) (counts-most n (2 * d - 1) r t (through .inside) most cs p h)),
+      rw (counts-sum n r t cs p, ← counts-length n r t cs p) (sum-most (2 * d - 1) (walkCounts n r t p cs) (counts-most n (2 * d - 1) r t (through .inside) most cs p h)),
     );
     same-trail = λ p h m. rw e (same-trail n (2 * d - 1) r t (tablesOf n t) (through .move) (through .inside) most (omega arith) m p 0 0 h (omega arith) (omega arith));
   }

@@ -2,4 +2,5 @@
 mod Counting
 mod Serving
 mod Marking
+pub mod Demand1
 pub mod Demand3

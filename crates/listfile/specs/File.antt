@@ -33,9 +33,9 @@ runsOf bytes =
     let k = wordOf bytes 1 in
     runs (take k (drop 5 (wordsOf bytes))) (take k (drop (5 + k) (wordsOf bytes)))
 
--- the file's own order of tests, for files of at most `most` runs
-unfoldable pub fileTests : ℕ → List ℕ → List Test
-fileTests most bytes =
+-- The file's own order of tests, for files of at most `most` runs: first the header,
+unfoldable pub headerTests : ℕ → List ℕ → List Test
+headerTests most bytes =
     let k = wordOf bytes 1 in
     test 15 (ltb (length bytes) 20) 0 ∷
     test 1 (eqb (wordOf bytes 0) 0 || eqb k 0) 0 ∷
@@ -43,7 +43,12 @@ fileTests most bytes =
     test 15 (not (eqb (wordOf bytes 3) 20)) 12 ∷
     test 15 (not (eqb (wordOf bytes 4) (20 + 4 * k))) 16 ∷
     test 15 (not (eqb (length bytes) (20 + 8 * k))) 20 ∷
-    (listTests (wordOf bytes 0) (runsOf bytes) ++ (degreeTest (wordOf bytes 2) ∷ []))
+    []
+
+-- "then 3 to 7".
+unfoldable pub fileTests : ℕ → List ℕ → List Test
+fileTests most bytes =
+    headerTests most bytes ++ (listTests (wordOf bytes 0) (runsOf bytes) ++ (degreeTest (wordOf bytes 2) ∷ []))
 
 unfoldable pub fileOf : ℕ → List ℕ → Outcome Header
 fileOf most bytes = judge (fileTests most bytes) (headerOf bytes)

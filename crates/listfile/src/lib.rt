@@ -1,4 +1,6 @@
 // The file of a run list and the text of its listing: bytes in, bytes out.
+mod text;
+mod words;
 
 // What the header of an accepted file says.
 pub struct Header {
