@@ -7,3 +7,4 @@ pub mod Sources
 pub mod Stretches
 pub mod Marks
 pub mod Walks
+pub mod LegalTables
