@@ -1,32 +1,35 @@
 -- Through the tables of a legal list, balanced or not, the walks give the list's function, its powers and its inverse,
 -- and the starts under an image are those of the definition; no call on a place below n is refused. A holder is the
 -- index of the run that has the image, so a walk from it passes the starts up to the place reached (Walks).
-use Prim.Native.Nat.{ℕ, zero, suc, _+_, _-_, _^_, _≤_, _<_}
+use Prim.Native.Nat.{ℕ, zero, suc, _+_, _^_, _≤_, _<_}
 use mathlib.Core.Path.{_≡_, refl, sym, ap, _∙_}
-use mathlib.Core.Bool.{Bool, true, false}
+use mathlib.Core.Bool.{true, false}
 use mathlib.Core.List.{map}
 use native.Mathlib.Omega.{arith}
-use lib.ListN.{length, getD, take, drop, length-map, List·getD-map}
-use lib.Dec.{ltb, leb}
-use borrow.Author.Tests.{le-leb, lt-leb, lt-ltb}
-use Rattle.runs.specs.Outcome.{Outcome, done, refused, mapDone, andThen, judge}
+use lib.ListN.{drop, length-map, List·getD-map}
+use lib.Dec.{leb}
+use borrow.Author.Tests.{le-leb, lt-ltb}
+use Rattle.order.specs.Order.{countBelow}
+use Rattle.runs.specs.Outcome.{done, mapDone, andThen, judge}
 use Rattle.runs.specs.Search.{leading}
-use Rattle.runs.specs.Runs.{Runs, countOf, startOf, imageOf, endOf, imageEnd, runAt, carry, mapOf, powerOf}
+use Rattle.runs.specs.Runs.{Runs, countOf, startOf, imageOf, endOf, runAt, mapOf, powerOf}
 use Rattle.runs.specs.Legal.{Legal}
 use Rattle.runs.proofs.Searches.{getD-default, first-only}
 use Rattle.runs.proofs.Legality.{homes, home, run-at}
 use Rattle.runs.proofs.Bijection.{map-below, map-onto}
 use Rattle.tables.specs.Tables.{tablesOf, holderOf, unheld, maxIntervals}
-use Rattle.tables.specs.Move.{passed, findOf, stepOf, moveOf, movesOf, onwards}
+use Rattle.tables.specs.Move.{passed, findOf, moveOf, movesOf, onwards}
 use Rattle.tables.specs.Inverse.{carryBack, sends, sourceOf, inverseOf}
-use Rattle.tables.specs.Under.{under, weight, unplaced, underFirst, underCount, weightOf, stretch, startsUnderOf}
+use Rattle.tables.specs.Under.{under, weight, underFirst, underCount, weightOf, stretch, startsUnderOf}
 use Rattle.tables.specs.Bookmark.{bookmarkOf}
 use Rattle.tables.specs.Function.{passedFrom, stepFrom, passedIn, stepsFrom}
-use Rattle.tables.specs.Passed.{Shaped, Located, advanceOf}
-use Rattle.tables.specs.declared.Step.{Step}
+use Rattle.tables.specs.Passed.{Shaped, Located, advanceOf, markOf, stretchOf}
 use Rattle.tables.specs.declared.Bookmark.{Bookmark}
 use Rattle.tables.proofs.Passing.{fitting, shaped, held, whole}
 use Rattle.tables.proofs.Steps.{find-at, locate-in, move-located, advance-to}
+use Rattle.tables.proofs.Sources.{sends-is, inverse-from}
+use Rattle.tables.proofs.Stretches.{placed, weight-indexed}
+use Rattle.tables.proofs.Marks.{unspent, mark-on, bookmark-on}
 use Rattle.tables.proofs.Walks.{walk-passed, walk-count, above-to, map-in, under-first, under-count, under-is}
 
 module _ (n : ℕ) (r : Runs) (c : Legal n r) (few : countOf r ≤ maxIntervals) where
@@ -96,3 +99,60 @@ module _ (n : ℕ) (r : Runs) (c : Legal n r) (few : countOf r ≤ maxIntervals)
   unfolding movesOf onwards andThen mapDone powerOf passedIn
   legal-moves zero p h = sym (locate-in n (tablesOf n r) (runAt n r p) p (legal-located p h))
   legal-moves (suc m) p h = rw (legal-moves m p h, legal-move (powerOf n r m p) (power-below m p h))
+
+  -- a bookmark that stands in the run that has its place makes that move, but for 13
+  pub legal-bookmark : (b : Bookmark) → b .place < n → b .interval ≡ runAt n r (b .place)
+      → bookmarkOf n (tablesOf n r) b ≡ markOf b (stepFrom n r (b .place))
+  legal-bookmark b h e =
+      let m : moveOf n (tablesOf n r) (b .interval) (b .place) ≡ done (stepFrom n r (b .place)) = rw e (legal-move (b .place) h) in
+      sym (bookmark-on n (tablesOf n r) b (stepFrom n r (b .place)) (sym m))
+
+  pub legal-bookmark-on : (b : Bookmark) → b .place < n → b .interval ≡ runAt n r (b .place)
+      → b .moves + 1 < 2 ^ 32 → b .passed + passedFrom n r (b .place) < 2 ^ 64
+      → bookmarkOf n (tablesOf n r) b ≡ done (stepFrom n r (b .place))
+  legal-bookmark-on b h e l m = legal-bookmark b h e ∙ sym (mark-on b (stepFrom n r (b .place)) _ refl (unspent b (stepFrom n r (b .place)) l m))
+
+  -- inverse gives the place that comes to j, and the run that has it
+  sends-own : (p : ℕ) → p < n → sends n r (mapOf n r p) (runAt n r p) ≡ true
+  unfolding sends
+  sends-own p h =
+      let x = own p h in
+      simp (le-leb _ _ (map-in n r c p h .0), lt-ltb (carryBack r (runAt n r p) (mapOf n r p)) (endOf n r (runAt n r p)) (omega arith))
+
+  source-own : (p : ℕ) → p < n → runAt n r p ≡ sourceOf n r (mapOf n r p)
+  unfolding sourceOf
+  source-own p h =
+      let x = own p h in
+      let i = map-in n r c p h in
+      sym
+      (first-only (sends n r (mapOf n r p)) (countOf r) (runAt n r p) (x .0) (sends-own p h)
+      (λ y l e. let j = sends-is n r (mapOf n r p) y e in c .apart y (runAt n r p) (mapOf n r p) l (x .0) (j .0) (omega arith) (i .0) (i .1)))
+
+  pub legal-inverse : (p : ℕ) → p < n → inverseOf n (tablesOf n r) (mapOf n r p) ≡ done (record { place = p; interval = runAt n r p })
+  legal-inverse p h =
+      let x = own p h in
+      let z : carryBack r (runAt n r p) (mapOf n r p) ≡ p = omega arith in
+      sym (inverse-from n (tablesOf n r) (mapOf n r p) shape (map-in n r c p h .2) (runAt n r p) (source-own p h) (x .0))
+      ∙ ap (λ (q : ℕ). done (record { place = q; interval = runAt n r p })) z
+
+  pub legal-preimage : (j : ℕ) → j < n
+      → (p : ℕ) × (p < n) × (mapOf n r p ≡ j) × (inverseOf n (tablesOf n r) j ≡ done (record { place = p; interval = runAt n r p }))
+  legal-preimage j h =
+      let q = map-onto n r c j h in
+      (q .0, q .1, q .2, rw (q .2) at (legal-inverse (q .0) (q .1)))
+
+  -- the starts under an image are the definition's, and the weight their number
+  module _ (x : ℕ) (h : x < countOf r) where
+    legal-first : underFirst (tablesOf n r) x ≡ countBelow (imageOf r x) (r .starts)
+    unfolding underFirst
+    legal-first = rw (holder-is x h) (under-first n r c x h)
+
+    pub legal-weight : weightOf n (tablesOf n r) x ≡ done (weight n r x)
+    unfolding stretchOf underCount judge
+    legal-weight =
+        let p = placed n (tablesOf n r) x (legal-held x h) (homes n r c .lasting x h) (c .within x h) in
+        weight-indexed n (tablesOf n r) x (record { shape = shape; index = h }) ∙ simp (p, legal-first) (ap done (under-count n r c x))
+
+    pub legal-under : startsUnderOf n (tablesOf n r) x ≡ under n r x
+    unfolding startsUnderOf stretch
+    legal-under = rw (legal-weight, legal-first) (sym (under-is n r c x))

@@ -1,5 +1,5 @@
 -- A bookmark's move is a move with test 13 after it; a refusal leaves the bookmark as it was.
-use Prim.Native.Nat.{ℕ, _+_, _-_, _≤_, _<_}
+use Prim.Native.Nat.{ℕ, _+_, _-_, _^_, _≤_, _<_}
 use mathlib.Core.Path.{_≡_, sym, ap, _∙_}
 use mathlib.Core.Bool.{Bool, true, false}
 use mathlib.Core.Logic.{_⊎_, inl, inr}
@@ -33,6 +33,10 @@ module _ (b : Bookmark) (s : Step) where
           → ltb (18446744073709551615 - s .count) (b .passed) ≡ leb 18446744073709551616 (b .passed + s .count)
       go (inl h) = rw (lt-ltb _ _ h, le-leb 18446744073709551616 (b .passed + s .count) (omega arith))
       go (inr h) = rw (le-ltb _ _ h, lt-leb 18446744073709551616 (b .passed + s .count) (omega arith))
+
+  pub unspent : b .moves + 1 < 2 ^ 32 → b .passed + s .count < 2 ^ 64 → spent b s ≡ false
+  unfolding spent
+  unspent l m = simp (lt-leb _ _ l, lt-leb _ _ m)
 
   module _ (t : Bool) (e : t ≡ spent b s) where
     pub room : t ≡ false → (b .moves + 1 < 4294967296) × (b .passed + s .count < 18446744073709551616)
