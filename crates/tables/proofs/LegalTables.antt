@@ -10,7 +10,7 @@ use lib.ListN.{drop, length-map, List·getD-map}
 use lib.Dec.{leb}
 use borrow.Author.Tests.{le-leb, lt-ltb}
 use Rattle.order.specs.Order.{countBelow}
-use Rattle.runs.specs.Outcome.{done, mapDone, andThen, judge}
+use Rattle.runs.specs.Outcome.{done, refused, mapDone, andThen, judge}
 use Rattle.runs.specs.Search.{leading}
 use Rattle.runs.specs.Runs.{Runs, countOf, startOf, imageOf, endOf, runAt, mapOf, powerOf}
 use Rattle.runs.specs.Legal.{Legal}
@@ -26,7 +26,7 @@ use Rattle.tables.specs.Function.{passedFrom, stepFrom, passedIn, stepsF
 use Rattle.tables.specs.Passed.{Shaped, Located, advanceOf, markOf, stretchOf}
 use Rattle.tables.specs.declared.Bookmark.{Bookmark}
 use Rattle.tables.proofs.Passing.{fitting, shaped, held, whole}
-use Rattle.tables.proofs.Steps.{find-at, locate-in, move-located, advance-to}
+use Rattle.tables.proofs.Steps.{find-far, find-at, locate-in, move-located, advance-to}
 use Rattle.tables.proofs.Sources.{sends-is, inverse-from}
 use Rattle.tables.proofs.Stretches.{placed, weight-indexed}
 use Rattle.tables.proofs.Marks.{unspent, mark-on, bookmark-on}
@@ -64,6 +64,9 @@ module _ (n : ℕ) (r : Runs) (c : Legal n r) (few : countOf r ≤ maxIntervals)
       let z : runAt n r 0 ≡ 0 = run-at n r (homes n r c) 0 0 (c .some) (omega (arith, c .first)) (omega (arith, homes n r c .lasting 0 (c .some))) in
       let w = rw z at (walk-passed n r (homes n r c) 0 p (omega arith) h) in
       sym (find-at n (tablesOf n r) p shape h (omega (arith, c .first)) (runAt n r p) (omega arith))
+
+  pub legal-find-beyond : (i : ℕ) → n ≤ i → findOf n (tablesOf n r) i ≡ refused 11 i
+  legal-find-beyond i h = sym (find-far n (tablesOf n r) i shape h)
 
   -- a move gives the function's value, the run that has it, and the starts above the image and not above it
   module _ (p : ℕ) (h : p < n) where
