@@ -1,7 +1,10 @@
--- The laws that callers cite.
-pub mod Leading
-pub mod Passing
-pub mod Steps
+-- The laws that callers cite, and what the proofs of this crate's functions do.
+mod Leading
+mod Passing
+mod Steps
 pub mod Moves
-pub mod Sources
+mod Sources
+mod Stretches
+pub mod Marks
 pub mod Walks
+pub mod LegalTables

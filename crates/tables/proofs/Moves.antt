@@ -23,7 +23,7 @@ use Rattle.tables.specs.declared.Step.{Step}
 use Rattle.runs.proofs.Judging.{done-refused, judge-first}
 use Rattle.tables.proofs.Leading.{leading-within, leading-last, leading-next}
 use Rattle.tables.proofs.Passing.{whole-is, held-is}
-use Rattle.tables.proofs.Steps.{locate-in, move-located}
+use Rattle.tables.proofs.Steps.{locate-in, located, move-located}
 
 -- where the walk from interval h to place j ends
 module _ (l : List ℕ) (h j : ℕ) (i : h < length l) where
@@ -185,3 +185,11 @@ module _ (n : ℕ) (t : Tables) (x i : ℕ) (l : Located n t x i) where
       go (refused v w) f g r =
           let s = r p q (f ∙ g) in
           record { made = s .made; fewer = omega arith; step = s .step; so-far = s .so-far; twelve = s .twelve; there = s .there; cause = s .cause }
+
+-- so a refused repeated move is refused by its first tests, or with 12
+pub moves-order : (n : ℕ) (t : Tables) (m x i p q : ℕ) → movesOf n t m x i ≡ refused p q → (movesOf n t 0 x i ≡ refused p q) ⊎ (p ≡ 12)
+moves-order n t m x i p q e = go (movesOf n t 0 x i) refl
+  where
+    go : (o : Outcome Step) → movesOf n t 0 x i ≡ o → (movesOf n t 0 x i ≡ refused p q) ⊎ (p ≡ 12)
+    go (done s) f = inr (moves-stopped n t x i (located n t x i s (sym f)) m p q e .twelve)
+    go (refused v w) f = inl (f ∙ moves-refused n t 0 m x i v w (omega arith) (sym f) ∙ e)

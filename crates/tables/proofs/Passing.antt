@@ -5,16 +5,16 @@ use mathlib.Core.Bool.{Bool, true, false, not, _||_, true≢false}
 use native.Mathlib.Omega.{arith}
 use lib.ListN.{length}
 use lib.Dec.{leb, ltb, eqb}
-use borrow.Author.Tests.{lt-ltb, le-ltb, le-leb, lt-leb, ltb-false, leb-false, eqb-true, eqb-false, not-false}
+use borrow.Author.Tests.{lt-ltb, le-ltb, le-leb, lt-leb, ltb-false, leb-false, eq-eqb, ne-eqb, eqb-true, eqb-false, not-false}
 use Rattle.runs.specs.Runs.{startOf, imageOf, endOf, carry}
 use Rattle.tables.specs.Tables.{Tables, sizeOf, holderOf, maxIntervals, misshapen, outside, unheld, broken}
 use Rattle.tables.specs.Passed.{Shaped}
 
-or-left : (a b : Bool) → (a || b) ≡ false → a ≡ false
+pub or-left : (a b : Bool) → (a || b) ≡ false → a ≡ false
 or-left true b e = e
 or-left false b e = refl
 
-or-right : (a b : Bool) → (a || b) ≡ false → b ≡ false
+pub or-right : (a b : Bool) → (a || b) ≡ false → b ≡ false
 or-right true b e = absurd (true≢false e)
 or-right false b e = e
 
@@ -35,6 +35,11 @@ shaped n t b q f =
       imaged = sym (eqb-true (sizeOf t) _ (not-false _ (or-left (not (eqb (sizeOf t) (length (t .list .images)))) _ e₂)));
       held = sym (eqb-true (sizeOf t) _ (not-false _ (or-left (not (eqb (sizeOf t) (length (t .holders)))) _ e₃)));
     }
+
+pub fitting : (n : ℕ) (t : Tables) → 0 < n → 0 < sizeOf t → sizeOf t ≡ length (t .list .images) → sizeOf t ≡ length (t .holders)
+    → sizeOf t ≤ maxIntervals → misshapen n t ≡ false
+unfolding misshapen
+fitting n t a b c d e = simp (ne-eqb n 0 (λ z. omega arith), ne-eqb (sizeOf t) 0 (λ z. omega arith), eq-eqb _ _ c, eq-eqb _ _ d, le-ltb _ _ e)
 
 module _ (n : ℕ) (t : Tables) (x i : ℕ) where
   -- 11
@@ -93,3 +98,7 @@ module _ (t : Tables) (x : ℕ) where
   pub held-is : unheld t x ≡ false → (holderOf t x < sizeOf t) × (startOf (t .list) (holderOf t x) ≤ imageOf (t .list) x)
   unfolding unheld
   held-is e = (leb-false _ _ (or-left (leb (sizeOf t) (holderOf t x)) _ e), ltb-false _ _ (or-right (leb (sizeOf t) (holderOf t x)) _ e))
+
+  pub held : holderOf t x < sizeOf t → startOf (t .list) (holderOf t x) ≤ imageOf (t .list) x → unheld t x ≡ false
+  unfolding unheld
+  held h l = simp (lt-leb _ _ h, le-ltb _ _ l)

@@ -35,7 +35,7 @@ unfolding sourceOf
 source-is n r j x = first-is (sends n r j) (countOf r) x
 
 -- an interval that sends a place to j
-sends-is : (n : ℕ) (r : Runs) (j x : ℕ) → sends n r j x ≡ true → (imageOf r x ≤ j) × (carryBack r x j < endOf n r x)
+pub sends-is : (n : ℕ) (r : Runs) (j x : ℕ) → sends n r j x ≡ true → (imageOf r x ≤ j) × (carryBack r x j < endOf n r x)
 unfolding sends
 sends-is n r j x e = let f = and-true (leb (imageOf r x) j) _ e in (leb-true _ _ (f .0), ltb-true _ _ (f .1))
 

@@ -7,7 +7,7 @@ ghost use Prim.Native.Nat.{suc, _<_};
 ghost use lib.ListN.{length, getD};
 ghost use Rattle.tables.specs.Tables.{tables, misshapen, unheld};
 ghost use Rattle.tables.specs.Move.{movedSays, movesOf};
-ghost use Rattle.tables.specs.Passed.{Indexed};
+ghost use Rattle.tables.specs.Passed.{Entered};
 
 // A number at a wider type: the bound is for the sums that it stands in.
 pub(crate) fn wide(x: u32) -> u64
@@ -47,8 +47,8 @@ pub(crate) fn is_misshapen(n: u32, starts: &[u32], images: &[u32], holders: &[u3
 }
 
 // Whether interval x has no holder that can be: test 12 but for what is reached.
-pub(crate) fn is_unheld(n: u32, starts: &[u32], images: &[u32], holders: &[u32], x: u32) -> bool
-    requires { ⌜ Indexed n (tables (now starts) (now images) (now holders)) x ⌝ }
+pub(crate) fn is_unheld(starts: &[u32], images: &[u32], holders: &[u32], x: u32) -> bool
+    requires { ⌜ Entered (tables (now starts) (now images) (now holders)) x ⌝ }
     ensures { λ r. ⌜ r ≡ unheld (tables (now (starts .entry)) (now (images .entry)) (now (holders .entry))) x ⌝ }
 {
     let at = x as usize;

@@ -1,12 +1,16 @@
 // The move table of a run list (starts, images, holders), with any numbers in it, and the walks through it.
 mod checks;
+mod marking;
 mod preimage;
+mod under;
 mod walk;
 
 ghost use mathlib.Core.Path.{_≡_};
 ghost use Rattle.tables.specs.Tables.{tables};
+ghost use Rattle.tables.specs.Bookmark.{Advances};
 ghost use Rattle.tables.specs.Inverse.{invertedSays, inverseOf};
 ghost use Rattle.tables.specs.Move.{foundSays, movedSays, findOf, moveOf, movesOf};
+ghost use Rattle.tables.specs.Under.{weighedSays, weightOf, startsUnderOf};
 
 // Where a move or a repeated move ends, and how many interval starts it passed.
 pub struct Step {
@@ -117,4 +121,49 @@ pub fn inverse(n: u32, starts: &[u32], images: &[u32], holders: &[u32], j: u32) 
         place: starts[x] + (j - images[x]),
         interval: x as u32,
     })
+}
+
+// How many starts lie under x's image.
+pub fn weight(n: u32, starts: &[u32], images: &[u32], holders: &[u32], x: u32) -> Weighed
+    ensures { λ r. ⌜ weighedSays r ≡ weightOf n (tables (now (starts .entry)) (now (images .entry)) (now (holders .entry))) x ⌝ }
+{
+    if checks::is_misshapen(n, starts, images, holders) {
+        return Weighed::Refused(runs::Refusal::TableShape);
+    }
+    if starts.len() <= x as usize {
+        return Weighed::Refused(runs::Refusal::IntervalIndex(x));
+    }
+    under::size(n, starts, images, holders, x)
+}
+
+// The starts under x's image, as the part of `starts` that they are; empty where `weight` refuses.
+pub fn starts_under<'a>(
+    n: u32,
+    starts: &'a [u32],
+    images: &[u32],
+    holders: &[u32],
+    x: u32,
+) -> &'a [u32]
+    ensures { λ r. ⌜ now r ≡ startsUnderOf n (tables (now (starts .entry)) (now (images .entry)) (now (holders .entry))) x ⌝ }
+{
+    match weight(n, starts, images, holders, x) {
+        Weighed::Refused(_) => &starts[0..0],
+        Weighed::Weight(w) => {
+            let from = under::first(starts, images, holders, x);
+            &starts[from..from + w as usize]
+        }
+    }
+}
+
+// A bookmark's move: its answer and the bookmark after it, which a refusal leaves as it was.
+pub fn advanced(n: u32, starts: &[u32], images: &[u32], holders: &[u32], b: Bookmark) -> Marked
+    ensures { λ r. ⌜ Advances n (tables (now (starts .entry)) (now (images .entry)) (now (holders .entry))) b r ⌝ }
+{
+    match move_query(n, starts, images, holders, b.interval, b.place) {
+        Moved::Refused(r) => Marked {
+            bookmark: b,
+            moved: Moved::Refused(r),
+        },
+        Moved::To(s) => marking::mark(b, s),
+    }
 }

@@ -39,7 +39,7 @@ pub(crate) fn advance(
     requires { ⌜ Located n (tables (now starts) (now images) (now holders)) x i ⌝ }
     ensures { λ r. ⌜ movedSays r ≡ advanceOf n (tables (now (starts .entry)) (now (images .entry)) (now (holders .entry))) x i ⌝ }
 {
-    if checks::is_unheld(n, starts, images, holders, x) {
+    if checks::is_unheld(starts, images, holders, x) {
         return Moved::Refused(Refusal::BrokenInterval(x));
     }
     let at = x as usize;
