@@ -3,7 +3,8 @@ pub mod Refine
 pub mod Cut
 pub mod Weights
 pub mod Balancing
-pub mod Sweep
+pub mod Swept
 pub mod Sweeping
 pub mod Merged
 pub mod Cutlist
+pub mod Progress

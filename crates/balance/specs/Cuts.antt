@@ -2,11 +2,12 @@
 use Prim.Native.Nat.{ℕ, _+_, _-_, _≤_, _<_}
 use mathlib.Core.Path.{_≡_}
 use mathlib.Core.List.{List, _++_, map}
-use lib.ListN.{length, getD}
+use lib.ListN.{length, take, drop, getD}
 use Rattle.order.specs.Order.{All, Strict, countBelow, sortBy, orderOf}
 use Rattle.runs.specs.Legal.{Legal}
 use Rattle.runs.specs.Runs.{Runs, runs, countOf, startOf, imageOf, imageEnd, mapOf}
 use Rattle.tables.specs.Under.{weight}
+use Rattle.balance.specs.Balance.{balanced}
 use Rattle.balance.specs.declared.Piece.{Piece}
 
 -- the starts of a list and those that cuts added, in rising order
@@ -61,3 +62,11 @@ pub record Covers (n : ℕ) (q : Runs) (u p : ℕ) : Type 0 where
   pub at : imageOf q index ≡ p
   pub from : p ≤ u
   pub to : u < imageEnd n q index
+
+-- the first c entries of the working table are the cuts that balance r, and the others are as they were
+pub record BalancingCuts (d n : ℕ) (r : Runs) (entry exit : List ℕ) (c : ℕ) : Type 0 where
+  pub list-is : withCuts n r (take c exit) ≡ balanced d n r
+  pub starts : Starts n (r .starts) (take c exit)
+  pub counted : c + countOf r ≡ countOf (balanced d n r)
+  pub fits : c ≤ length exit
+  pub rest : drop c exit ≡ drop c entry

@@ -4,7 +4,8 @@ ghost use Prim.Native.Nat.{_+_, _≤_, _<_};
 ghost use lib.ListN.{length, getD};
 ghost use Rattle.order.specs.Order.{Sorted, countBelow};
 ghost use Rattle.runs.specs.Runs.{runs, mapOf};
-ghost use Rattle.balance.specs.Cuts.{merged, withCuts, firstFrom, lastTo, Starts, Ranked, Begins, PieceAt, Covers};
+ghost use Rattle.balance.specs.Cuts.{merged, withCuts, firstFrom, lastTo, Starts, Ranked, Begins, PieceAt, Covers, BalancingCuts};
+ghost use Rattle.balance.specs.Balance.{boundOf};
 
 // How many intervals the balanced list has.
 pub enum Balanced {
@@ -120,4 +121,43 @@ fn image_around(
 {
     let v = preimage(n, starts, images, order, ranked, u);
     u - (v - start_to(n, starts, cuts, v))
+}
+
+// Cuts pieces until none is heavy, each time the heavy one with the lowest image: the cuts come to stand in `working`,
+// in rising order. Answers how many there are. Before `q` only the piece at `p` may be heavy; a cut there can make one
+// piece before `q` heavy again, the one under whose image the new start lies.
+fn sweep(
+    n: u32,
+    starts: &[u32],
+    images: &[u32],
+    order: &[u32],
+    ranked: &[u32],
+    d: u32,
+    working: &mut [u32],
+) -> usize
+    requires { ⌜ Ranked n (runs (now starts) (now images)) (now order) (now ranked) × (2 ≤ d) × (d ≤ 64) × (boundOf d (length (now starts)) ≤ length (now working)) ⌝ }
+    ensures { λ r. ⌜ BalancingCuts d n (runs (now (starts .entry)) (now (images .entry))) (now (working .entry)) (now (working .exit)) r ⌝ }
+{
+    let mut cuts = 0;
+    let mut p = 0;
+    let mut q = 0;
+    while p < n {
+        let piece = piece_at(n, starts, images, order, ranked, &working[..cuts], p);
+        if piece.weight < 2 * (d as usize) {
+            if p == q {
+                q = piece.to;
+            }
+            p = q;
+        } else {
+            let s = start_after(n, starts, &working[..cuts], p, d);
+            let u = piece.start + (s - p);
+            order::insert(working, cuts, u);
+            cuts += 1;
+            p = q;
+            if u < q {
+                p = image_around(n, starts, images, order, ranked, &working[..cuts], u);
+            }
+        }
+    }
+    cuts
 }
