@@ -1,15 +1,15 @@
 -- What a file's header comes to, by the facts that its tests show.
 use Prim.Native.Nat.{ℕ, _+_, _*_, _≤_, _<_}
 use mathlib.Core.Path.{_≡_, refl, sym, ap, _∙_}
-use mathlib.Core.Bool.{Bool, true, false, not, _||_}
+use mathlib.Core.Bool.{Bool, true, false, not, _||_, true≢false}
 use mathlib.Core.List.{List, [], _∷_, _++_}
 use native.Mathlib.Omega.{arith}
 use lib.ListN.{length}
 use lib.Dec.{ltb, eqb}
 use borrow.Author.Tests.{lt-ltb, le-ltb, eq-eqb, ne-eqb, ltb-false, eqb-true, eqb-false, not-false}
 use Rattle.runs.specs.Outcome.{Outcome, done, refused, judge, andThen}
-use Rattle.runs.proofs.Judging.{judge-append}
-use Rattle.listfile.specs.File.{wordOf, headerOf, countTests, layoutTests, layoutOf, headerTests, headingOf}
+use Rattle.runs.proofs.Judging.{judge-append, judge-first, judge-done}
+use Rattle.listfile.specs.File.{wordOf, headerOf, countTests, layoutTests, layoutOf, headerTests, headingOf, Laid}
 use Rattle.listfile.specs.declared.Header.{Header}
 
 -- where the starts and the images stand
@@ -79,3 +79,27 @@ module _ (most : ℕ) (bytes : List ℕ) where
               → done (record { n = n; k = k; d = d }) ≡ headingOf most bytes
           unfolding andThen
           heading-read h d g = rw (heading-rest, ← h, e, f, g)
+
+-- what holds of a header that was read
+or-false : (a b : Bool) → (a || b) ≡ false → (a ≡ false) × (b ≡ false)
+or-false true b e = absurd (true≢false e)
+or-false false b e = (refl, e)
+
+pub heading-laid : (most : ℕ) (bytes : List ℕ) (h : Header) → done h ≡ headingOf most bytes → Laid most bytes h
+unfolding headingOf headerTests countTests layoutTests
+heading-laid most bytes h e =
+    let t₁ = judge-first _ _ _ h e in
+    let t₂ = judge-first _ _ _ h (t₁ .1) in
+    let t₃ = judge-first _ _ _ h (t₂ .1) in
+    let t₄ = judge-first _ _ _ h (t₃ .1) in
+    let t₅ = judge-first _ _ _ h (t₄ .1) in
+    let t₆ = judge-first _ _ _ h (t₅ .1) in
+    let same : h ≡ headerOf bytes = sym (judge-done [] (headerOf bytes) h (sym (t₆ .1))) in
+    let zero = or-false (eqb (wordOf bytes 0) 0) (eqb (wordOf bytes 1) 0) (t₂ .0) in
+    record {
+      same = same;
+      places = rw same (omega (arith, eqb-false (wordOf bytes 0) 0 (zero .0)));
+      some = rw same (omega (arith, eqb-false (wordOf bytes 1) 0 (zero .1)));
+      few = rw same (ltb-false most (wordOf bytes 1) (t₃ .0));
+      long = rw same (eqb-true (length bytes) (20 + 8 * wordOf bytes 1) (not-false _ (t₆ .0)));
+    }

@@ -4,3 +4,4 @@ mod Writing
 mod Digits
 mod Signs
 mod Heading
+mod Bodies

@@ -29,10 +29,11 @@ wordOf bytes i = getD (wordsOf bytes) i 0
 abbrev pub headerOf : List ℕ → Header
 headerOf bytes = record { n = wordOf bytes 0; k = wordOf bytes 1; d = wordOf bytes 2 }
 
+abbrev pub runsAt : ℕ → List ℕ → Runs
+runsAt k bytes = runs (take k (drop 5 (wordsOf bytes))) (take k (drop (5 + k) (wordsOf bytes)))
+
 abbrev pub runsOf : List ℕ → Runs
-runsOf bytes =
-    let k = wordOf bytes 1 in
-    runs (take k (drop 5 (wordsOf bytes))) (take k (drop (5 + k) (wordsOf bytes)))
+runsOf bytes = runsAt (wordOf bytes 1) bytes
 
 -- The file's own order of tests, for files of at most `most` runs: the header's numbers,
 unfoldable pub countTests : ℕ → List ℕ → List Test
@@ -59,10 +60,18 @@ headerTests most bytes = countTests most bytes ++ layoutTests (wordOf bytes 1) b
 unfoldable pub headingOf : ℕ → List ℕ → Outcome Header
 headingOf most bytes = judge (headerTests most bytes) (headerOf bytes)
 
+unfoldable pub degreeOf : Header → Outcome Header
+degreeOf h = judge (degreeTest (h .d) ∷ []) h
+
 -- "then 3 to 7".
+unfoldable pub bodyTests : List ℕ → List Test
+bodyTests bytes = listTests (wordOf bytes 0) (runsOf bytes) ++ (degreeTest (wordOf bytes 2) ∷ [])
+
+unfoldable pub bodyOf : List ℕ → Outcome Header
+bodyOf bytes = judge (bodyTests bytes) (headerOf bytes)
+
 unfoldable pub fileTests : ℕ → List ℕ → List Test
-fileTests most bytes =
-    headerTests most bytes ++ (listTests (wordOf bytes 0) (runsOf bytes) ++ (degreeTest (wordOf bytes 2) ∷ []))
+fileTests most bytes = headerTests most bytes ++ bodyTests bytes
 
 unfoldable pub fileOf : ℕ → List ℕ → Outcome Header
 fileOf most bytes = judge (fileTests most bytes) (headerOf bytes)
@@ -74,6 +83,12 @@ pub record Laid (most : ℕ) (bytes : List ℕ) (h : Header) : Type 0 where
   pub some : 0 < h .k
   pub few : h .k ≤ most
   pub long : length bytes ≡ 20 + 8 * h .k
+
+-- the file has k starts and k images, and there is room for them
+pub record ListRoom (bytes : List ℕ) (k : ℕ) (starts images : List ℕ) : Type 0 where
+  pub long : length bytes ≡ 20 + 8 * k
+  pub starts-room : length starts ≡ k
+  pub images-room : length images ≡ k
 
 -- the outcome that each answer is
 abbrev pub fileSays : FileChecked → Outcome Header
