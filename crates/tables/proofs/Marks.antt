@@ -27,7 +27,8 @@ module _ (b : Bookmark) (s : Step) where
   pub spent-passed : b .moves < 4294967295 → s .count < 18446744073709551616
       → ltb (18446744073709551615 - s .count) (b .passed) ≡ spent b s
   unfolding spent
-  spent-passed l m = simp (lt-leb 4294967296 (b .moves + 1) (omega arith)) (go (lt-or-le (18446744073709551615 - s .count) (b .passed)))
+  spent-passed l m =
+      simp (lt-leb 4294967296 (b .moves + 1) (omega arith)) (go (lt-or-le (18446744073709551615 - s .count) (b .passed)))
     where
       go : (18446744073709551615 - s .count < b .passed) ⊎ (b .passed ≤ 18446744073709551615 - s .count)
           → ltb (18446744073709551615 - s .count) (b .passed) ≡ leb 18446744073709551616 (b .passed + s .count)
@@ -43,7 +44,9 @@ module _ (b : Bookmark) (s : Step) where
     unfolding spent
     room f =
         let g = sym e ∙ f in
-        (leb-false 4294967296 (b .moves + 1) (or-left (leb 4294967296 (b .moves + 1)) _ g), leb-false 18446744073709551616 (b .passed + s .count) (or-right (leb 4294967296 (b .moves + 1)) _ g))
+        let l = or-left (leb 4294967296 (b .moves + 1)) _ g in
+        let m = or-right (leb 4294967296 (b .moves + 1)) _ g in
+        (leb-false 4294967296 (b .moves + 1) l, leb-false 18446744073709551616 (b .passed + s .count) m)
 
     pub mark-spent : t ≡ true → refused 13 0 ≡ markOf b s
     unfolding markOf judge
@@ -59,13 +62,15 @@ unfolding markAfter
 after-refused b o k p e = rw (← e)
 
 pub after-done : (b : Bookmark) (o : Outcome Step) (s : Step) → done s ≡ o
-    → record { place = s .place; interval = s .interval; moves = b .moves + 1; passed = b .passed + s .count } ≡ markAfter b o
+    → record { place = s .place; interval = s .interval; moves = b .moves + 1; passed = b .passed + s .count }
+    ≡ markAfter b o
 unfolding markAfter
 after-done b o s e = rw (← e)
 
 -- a bookmark's move is a move, and what is left of it
 module _ (n : ℕ) (t : Tables) (b : Bookmark) where
-  bookmark-is : bookmarkOf n t b ≡ andThen (moveOf n t (b .interval) (b .place)) (λ _. markOf b (stepOf t (b .interval) (b .place)))
+  bookmark-is : bookmarkOf n t b
+      ≡ andThen (moveOf n t (b .interval) (b .place)) (λ _. markOf b (stepOf t (b .interval) (b .place)))
   unfolding bookmarkOf moveOf markOf
   bookmark-is = judge-append (moveTests n t (b .interval) (b .place)) _ _ _
 
