@@ -10,11 +10,12 @@ use Rattle.order.proofs.Laws.{lt-or-le}
 use Rattle.runs.specs.Outcome.{Outcome, done, refused, judge, andThen}
 use Rattle.runs.proofs.Judging.{judge-append, judge-done}
 use Rattle.tables.specs.Tables.{Tables}
-use Rattle.tables.specs.Move.{stepOf, moveOf, moveTests}
-use Rattle.tables.specs.Bookmark.{spent, bookmarkOf, markAfter}
+use Rattle.tables.specs.Move.{movedSays, stepOf, moveOf, moveTests}
+use Rattle.tables.specs.Bookmark.{spent, bookmarkOf, markAfter, Advances}
 use Rattle.tables.specs.Passed.{markOf}
 use Rattle.tables.specs.declared.Step.{Step}
 use Rattle.tables.specs.declared.Bookmark.{Bookmark}
+use Rattle.tables.specs.declared.Marked.{Marked}
 use Rattle.tables.proofs.Passing.{or-left, or-right}
 
 -- 13
@@ -60,6 +61,11 @@ module _ (b : Bookmark) (s : Step) where
 pub after-refused : (b : Bookmark) (o : Outcome Step) (k p : ℕ) → refused k p ≡ o → b ≡ markAfter b o
 unfolding markAfter
 after-refused b o k p e = rw (← e)
+
+-- what is promised of a bookmark's move says so
+pub bookmark-kept : (n : ℕ) (t : Tables) (b : Bookmark) (m : Marked) → Advances n t b m
+    → (k p : ℕ) → movedSays (m .moved) ≡ refused k p → m .bookmark ≡ b
+bookmark-kept n t b m a k p e = a .mark ∙ sym (after-refused b (bookmarkOf n t b) k p (sym e ∙ a .says))
 
 pub after-done : (b : Bookmark) (o : Outcome Step) (s : Step) → done s ≡ o
     → record { place = s .place; interval = s .interval; moves = b .moves + 1; passed = b .passed + s .count }
