@@ -6,7 +6,7 @@ use mathlib.Core.Path.{_≡_, refl, sym, ap, _∙_}
 use mathlib.Core.Bool.{true, false}
 use mathlib.Core.List.{map}
 use native.Mathlib.Omega.{arith}
-use lib.ListN.{drop, length-map, List·getD-map}
+use lib.ListN.{length, drop, length-map, List·getD-map}
 use lib.Dec.{leb}
 use borrow.Author.Tests.{le-leb, lt-ltb}
 use Rattle.order.specs.Order.{countBelow}
@@ -36,12 +36,14 @@ module _ (n : ℕ) (r : Runs) (c : Legal n r) (few : countOf r ≤ maxIntervals)
   shape : Shaped n (tablesOf n r)
   shape =
       let e = sym (c .paired) in
-      shaped n (tablesOf n r) _ refl
-      (fitting n (tablesOf n r) (omega (arith, c .below 0 (c .some))) (c .some) e (e ∙ sym (length-map (r .images) (runAt n r))) few)
+      let f = e ∙ sym (length-map (r .images) (runAt n r)) in
+      shaped n (tablesOf n r) _ refl (fitting n (tablesOf n r) (omega (arith, c .below 0 (c .some))) (c .some) e f few)
 
   -- the run that has a place
   own : (p : ℕ) → p < n → (runAt n r p < countOf r) × (startOf r (runAt n r p) ≤ p) × (p < endOf n r (runAt n r p))
-  own p h = let x = home n r (homes n r c) p h in rw (run-at n r (homes n r c) (x .0) p (x .1) (x .2) (x .3)) (x .1, x .2, x .3)
+  own p h =
+      let x = home n r (homes n r c) p h in
+      rw (run-at n r (homes n r c) (x .0) p (x .1) (x .2) (x .3)) (x .1, x .2, x .3)
 
   pub legal-located : (p : ℕ) → p < n → Located n (tablesOf n r) (runAt n r p) p
   legal-located p h = let x = own p h in record { shape = shape; index = x .0; place = h; low = x .1; high = x .2 }
@@ -52,16 +54,20 @@ module _ (n : ℕ) (r : Runs) (c : Legal n r) (few : countOf r ≤ maxIntervals)
 
     pub holder-is : holderOf (tablesOf n r) x ≡ runAt n r (imageOf r x)
     holder-is =
-        getD-default (map (runAt n r) (r .images)) x 0 (runAt n r 0) (omega (arith, length-map (r .images) (runAt n r), c .paired))
+        let l : x < length (map (runAt n r) (r .images)) = omega (arith, length-map (r .images) (runAt n r), c .paired) in
+        getD-default (map (runAt n r) (r .images)) x 0 (runAt n r 0) l
         ∙ List·getD-map (runAt n r) (r .images) x 0
 
     legal-held : unheld (tablesOf n r) x ≡ false
-    legal-held = let y = own (imageOf r x) image-below in held (tablesOf n r) x (rw holder-is (y .0)) (rw holder-is (y .1))
+    legal-held =
+        let y = own (imageOf r x) image-below in
+        held (tablesOf n r) x (rw holder-is (y .0)) (rw holder-is (y .1))
 
   -- find gives the run that has the place
   pub legal-find : (p : ℕ) → p < n → findOf n (tablesOf n r) p ≡ done (runAt n r p)
   legal-find p h =
-      let z : runAt n r 0 ≡ 0 = run-at n r (homes n r c) 0 0 (c .some) (omega (arith, c .first)) (omega (arith, homes n r c .lasting 0 (c .some))) in
+      let l : 0 < endOf n r 0 = omega (arith, homes n r c .lasting 0 (c .some)) in
+      let z : runAt n r 0 ≡ 0 = run-at n r (homes n r c) 0 0 (c .some) (omega (arith, c .first)) l in
       let w = rw z at (walk-passed n r (homes n r c) 0 p (omega arith) h) in
       sym (find-at n (tablesOf n r) p shape h (omega (arith, c .first)) (runAt n r p) (omega arith))
 
@@ -70,11 +76,13 @@ module _ (n : ℕ) (r : Runs) (c : Legal n r) (few : countOf r ≤ maxIntervals)
 
   -- a move gives the function's value, the run that has it, and the starts above the image and not above it
   module _ (p : ℕ) (h : p < n) where
-    legal-passed : leading (λ s. leb s (mapOf n r p)) (drop (suc (runAt n r (imageOf r (runAt n r p)))) (r .starts)) ≡ passedFrom n r p
+    legal-passed : leading (λ s. leb s (mapOf n r p)) (drop (suc (runAt n r (imageOf r (runAt n r p)))) (r .starts))
+        ≡ passedFrom n r p
     legal-passed =
         let i = imageOf r (runAt n r p) in
         let j = map-in n r c p h in
-        omega (arith, walk-passed n r (homes n r c) i (mapOf n r p) (j .0) (j .2), walk-count n r (homes n r c) i (mapOf n r p) (j .0) (j .2), above-to i (mapOf n r p) (r .starts))
+        let w = walk-passed n r (homes n r c) i (mapOf n r p) (j .0) (j .2) in
+        omega (arith, walk-count n r (homes n r c) i (mapOf n r p) (j .0) (j .2), above-to i (mapOf n r p) (r .starts))
 
     legal-interval : runAt n r (imageOf r (runAt n r p)) + passedFrom n r p ≡ runAt n r (mapOf n r p)
     legal-interval =
@@ -86,7 +94,8 @@ module _ (n : ℕ) (r : Runs) (c : Legal n r) (few : countOf r ≤ maxIntervals)
     legal-advance =
         let x = own p h .0 in
         let b = whole n (tablesOf n r) (runAt n r p) p (legal-held (runAt n r p) x) (map-in n r c p h .2) in
-        sym (advance-to n (tablesOf n r) (runAt n r p) p b (runAt n r (imageOf r (runAt n r p))) (mapOf n r p) (passedFrom n r p) (sym (holder-is (runAt n r p) x)) refl (sym legal-passed))
+        let h = sym (holder-is (runAt n r p) x) in
+        sym (advance-to n (tablesOf n r) (runAt n r p) p b _ (mapOf n r p) (passedFrom n r p) h refl (sym legal-passed))
         ∙ ap (λ (y : ℕ). done (record { place = mapOf n r p; interval = y; count = passedFrom n r p })) legal-interval
 
     pub legal-move : moveOf n (tablesOf n r) (runAt n r p) p ≡ done (stepFrom n r p)
@@ -107,39 +116,47 @@ module _ (n : ℕ) (r : Runs) (c : Legal n r) (few : countOf r ≤ maxIntervals)
   pub legal-bookmark : (b : Bookmark) → b .place < n → b .interval ≡ runAt n r (b .place)
       → bookmarkOf n (tablesOf n r) b ≡ markOf b (stepFrom n r (b .place))
   legal-bookmark b h e =
-      let m : moveOf n (tablesOf n r) (b .interval) (b .place) ≡ done (stepFrom n r (b .place)) = rw e (legal-move (b .place) h) in
-      sym (bookmark-on n (tablesOf n r) b (stepFrom n r (b .place)) (sym m))
+      let s = stepFrom n r (b .place) in
+      let m : moveOf n (tablesOf n r) (b .interval) (b .place) ≡ done s = rw e (legal-move (b .place) h) in
+      sym (bookmark-on n (tablesOf n r) b s (sym m))
 
   pub legal-bookmark-on : (b : Bookmark) → b .place < n → b .interval ≡ runAt n r (b .place)
       → b .moves + 1 < 2 ^ 32 → b .passed + passedFrom n r (b .place) < 2 ^ 64
       → bookmarkOf n (tablesOf n r) b ≡ done (stepFrom n r (b .place))
-  legal-bookmark-on b h e l m = legal-bookmark b h e ∙ sym (mark-on b (stepFrom n r (b .place)) _ refl (unspent b (stepFrom n r (b .place)) l m))
+  legal-bookmark-on b h e l m =
+      let s = stepFrom n r (b .place) in
+      legal-bookmark b h e ∙ sym (mark-on b s _ refl (unspent b s l m))
 
   -- inverse gives the place that comes to j, and the run that has it
   sends-own : (p : ℕ) → p < n → sends n r (mapOf n r p) (runAt n r p) ≡ true
   unfolding sends
   sends-own p h =
       let x = own p h in
-      simp (le-leb _ _ (map-in n r c p h .0), lt-ltb (carryBack r (runAt n r p) (mapOf n r p)) (endOf n r (runAt n r p)) (omega arith))
+      let l : carryBack r (runAt n r p) (mapOf n r p) < endOf n r (runAt n r p) = omega arith in
+      simp (le-leb _ _ (map-in n r c p h .0), lt-ltb _ _ l)
 
   source-own : (p : ℕ) → p < n → runAt n r p ≡ sourceOf n r (mapOf n r p)
   unfolding sourceOf
   source-own p h =
       let x = own p h in
       let i = map-in n r c p h in
-      sym
-      (first-only (sends n r (mapOf n r p)) (countOf r) (runAt n r p) (x .0) (sends-own p h)
-      (λ y l e. let j = sends-is n r (mapOf n r p) y e in c .apart y (runAt n r p) (mapOf n r p) l (x .0) (j .0) (omega arith) (i .0) (i .1)))
+      let one : (y : ℕ) → y < countOf r → sends n r (mapOf n r p) y ≡ true → y ≡ runAt n r p = λ y l e. (
+      let j = sends-is n r (mapOf n r p) y e in
+      c .apart y (runAt n r p) (mapOf n r p) l (x .0) (j .0) (omega arith) (i .0) (i .1)) in
+      sym (first-only (sends n r (mapOf n r p)) (countOf r) (runAt n r p) (x .0) (sends-own p h) one)
 
-  pub legal-inverse : (p : ℕ) → p < n → inverseOf n (tablesOf n r) (mapOf n r p) ≡ done (record { place = p; interval = runAt n r p })
+  pub legal-inverse : (p : ℕ) → p < n
+      → inverseOf n (tablesOf n r) (mapOf n r p) ≡ done (record { place = p; interval = runAt n r p })
   legal-inverse p h =
       let x = own p h in
       let z : carryBack r (runAt n r p) (mapOf n r p) ≡ p = omega arith in
-      sym (inverse-from n (tablesOf n r) (mapOf n r p) shape (map-in n r c p h .2) (runAt n r p) (source-own p h) (x .0))
+      let l = map-in n r c p h .2 in
+      sym (inverse-from n (tablesOf n r) (mapOf n r p) shape l (runAt n r p) (source-own p h) (x .0))
       ∙ ap (λ (q : ℕ). done (record { place = q; interval = runAt n r p })) z
 
   pub legal-preimage : (j : ℕ) → j < n
-      → (p : ℕ) × (p < n) × (mapOf n r p ≡ j) × (inverseOf n (tablesOf n r) j ≡ done (record { place = p; interval = runAt n r p }))
+      → (p : ℕ) × (p < n) × (mapOf n r p ≡ j)
+      × (inverseOf n (tablesOf n r) j ≡ done (record { place = p; interval = runAt n r p }))
   legal-preimage j h =
       let q = map-onto n r c j h in
       (q .0, q .1, q .2, rw (q .2) at (legal-inverse (q .0) (q .1)))
@@ -154,7 +171,8 @@ module _ (n : ℕ) (r : Runs) (c : Legal n r) (few : countOf r ≤ maxIntervals)
     unfolding stretchOf underCount judge
     legal-weight =
         let p = placed n (tablesOf n r) x (legal-held x h) (homes n r c .lasting x h) (c .within x h) in
-        weight-indexed n (tablesOf n r) x (record { shape = shape; index = h }) ∙ simp (p, legal-first) (ap done (under-count n r c x))
+        weight-indexed n (tablesOf n r) x (record { shape = shape; index = h })
+        ∙ simp (p, legal-first) (ap done (under-count n r c x))
 
     pub legal-under : startsUnderOf n (tablesOf n r) x ≡ under n r x
     unfolding startsUnderOf stretch

@@ -10,11 +10,12 @@ use Rattle.order.proofs.Laws.{lt-or-le}
 use Rattle.runs.specs.Outcome.{Outcome, done, refused, judge, andThen}
 use Rattle.runs.proofs.Judging.{judge-append, judge-done}
 use Rattle.tables.specs.Tables.{Tables}
-use Rattle.tables.specs.Move.{stepOf, moveOf, moveTests}
-use Rattle.tables.specs.Bookmark.{spent, bookmarkOf, markAfter}
+use Rattle.tables.specs.Move.{movedSays, stepOf, moveOf, moveTests}
+use Rattle.tables.specs.Bookmark.{spent, bookmarkOf, markAfter, Advances}
 use Rattle.tables.specs.Passed.{markOf}
 use Rattle.tables.specs.declared.Step.{Step}
 use Rattle.tables.specs.declared.Bookmark.{Bookmark}
+use Rattle.tables.specs.declared.Marked.{Marked}
 use Rattle.tables.proofs.Passing.{or-left, or-right}
 
 -- 13
@@ -27,7 +28,8 @@ module _ (b : Bookmark) (s : Step) where
   pub spent-passed : b .moves < 4294967295 → s .count < 18446744073709551616
       → ltb (18446744073709551615 - s .count) (b .passed) ≡ spent b s
   unfolding spent
-  spent-passed l m = simp (lt-leb 4294967296 (b .moves + 1) (omega arith)) (go (lt-or-le (18446744073709551615 - s .count) (b .passed)))
+  spent-passed l m =
+      simp (lt-leb 4294967296 (b .moves + 1) (omega arith)) (go (lt-or-le (18446744073709551615 - s .count) (b .passed)))
     where
       go : (18446744073709551615 - s .count < b .passed) ⊎ (b .passed ≤ 18446744073709551615 - s .count)
           → ltb (18446744073709551615 - s .count) (b .passed) ≡ leb 18446744073709551616 (b .passed + s .count)
@@ -43,7 +45,9 @@ module _ (b : Bookmark) (s : Step) where
     unfolding spent
     room f =
         let g = sym e ∙ f in
-        (leb-false 4294967296 (b .moves + 1) (or-left (leb 4294967296 (b .moves + 1)) _ g), leb-false 18446744073709551616 (b .passed + s .count) (or-right (leb 4294967296 (b .moves + 1)) _ g))
+        let l = or-left (leb 4294967296 (b .moves + 1)) _ g in
+        let m = or-right (leb 4294967296 (b .moves + 1)) _ g in
+        (leb-false 4294967296 (b .moves + 1) l, leb-false 18446744073709551616 (b .passed + s .count) m)
 
     pub mark-spent : t ≡ true → refused 13 0 ≡ markOf b s
     unfolding markOf judge
@@ -58,14 +62,21 @@ pub after-refused : (b : Bookmark) (o : Outcome Step) (k p : ℕ) → refused k 
 unfolding markAfter
 after-refused b o k p e = rw (← e)
 
+-- what is promised of a bookmark's move says so
+pub bookmark-kept : (n : ℕ) (t : Tables) (b : Bookmark) (m : Marked) → Advances n t b m
+    → (k p : ℕ) → movedSays (m .moved) ≡ refused k p → m .bookmark ≡ b
+bookmark-kept n t b m a k p e = a .mark ∙ sym (after-refused b (bookmarkOf n t b) k p (sym e ∙ a .says))
+
 pub after-done : (b : Bookmark) (o : Outcome Step) (s : Step) → done s ≡ o
-    → record { place = s .place; interval = s .interval; moves = b .moves + 1; passed = b .passed + s .count } ≡ markAfter b o
+    → record { place = s .place; interval = s .interval; moves = b .moves + 1; passed = b .passed + s .count }
+    ≡ markAfter b o
 unfolding markAfter
 after-done b o s e = rw (← e)
 
 -- a bookmark's move is a move, and what is left of it
 module _ (n : ℕ) (t : Tables) (b : Bookmark) where
-  bookmark-is : bookmarkOf n t b ≡ andThen (moveOf n t (b .interval) (b .place)) (λ _. markOf b (stepOf t (b .interval) (b .place)))
+  bookmark-is : bookmarkOf n t b
+      ≡ andThen (moveOf n t (b .interval) (b .place)) (λ _. markOf b (stepOf t (b .interval) (b .place)))
   unfolding bookmarkOf moveOf markOf
   bookmark-is = judge-append (moveTests n t (b .interval) (b .place)) _ _ _
 

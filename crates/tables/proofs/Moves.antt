@@ -43,10 +43,9 @@ module _ (l : List ℕ) (h j : ℕ) (i : h < length l) where
 
   reached-high : (n : ℕ) → j < n → j < getD l (suc (h + passed l h j)) n
   unfolding passed
-  reached-high n b = go (lt-or-le (suc (h + leading (λ s. leb s j) (drop (suc h) l))) (length l))
+  reached-high n b = go (lt-or-le (suc (h + passed l h j)) (length l))
     where
-      go : (suc (h + leading (λ s. leb s j) (drop (suc h) l)) < length l) ⊎ (length l ≤ suc (h + leading (λ s. leb s j) (drop (suc h) l)))
-          → j < getD l (suc (h + leading (λ s. leb s j) (drop (suc h) l))) n
+      go : (suc (h + passed l h j) < length l) ⊎ (length l ≤ suc (h + passed l h j)) → j < getD l (suc (h + passed l h j)) n
       go (inl k) =
           let c = leading (λ s. leb s j) (drop (suc h) l) in
           let z : suc (h + c) ≡ suc h + c = omega arith in
@@ -83,7 +82,8 @@ module _ (n : ℕ) (t : Tables) (x i : ℕ) (s : Step) (e : done s ≡ advanceOf
   step-count f =
       let w = step-is in
       let h = held-is t x (w .0) in
-      omega (arith, ap (λ (s : Step). s .count) (w .2), reached-index (t .list .starts) (holderOf t x) (carry (t .list) x i) (h .0))
+      let l = reached-index (t .list .starts) (holderOf t x) (carry (t .list) x i) (h .0) in
+      omega (arith, ap (λ (s : Step). s .count) (w .2))
 
 -- one move more
 moves-more : (n : ℕ) (t : Tables) (k x i : ℕ) (a : Outcome Step)
@@ -92,7 +92,8 @@ unfolding movesOf
 moves-more n t k x i a e = rw (add-one, e)
 
 -- a refusal stays
-pub moves-refused : (n : ℕ) (t : Tables) (k m x i p q : ℕ) → k ≤ m → refused p q ≡ movesOf n t k x i → refused p q ≡ movesOf n t m x i
+pub moves-refused : (n : ℕ) (t : Tables) (k m x i p q : ℕ) → k ≤ m
+    → refused p q ≡ movesOf n t k x i → refused p q ≡ movesOf n t m x i
 unfolding movesOf andThen
 moves-refused n t k zero x i p q l e = let z : k ≡ 0 = omega arith in rw z at e
 moves-refused n t k (suc m) x i p q l e = go (lt-or-le m k) (moves-refused n t k m x i p q)
@@ -112,10 +113,14 @@ pub record Walking (n : ℕ) (t : Tables) (x i m place interval count made : ℕ
 pub walking-start : (n : ℕ) (t : Tables) (x i m : ℕ) → Located n t x i → Walking n t x i m i x 0 0
 walking-start n t x i m l = record { within = omega arith; here = l; said = locate-in n t x i l; small = omega arith }
 
-module _ (n : ℕ) (t : Tables) (x i m place interval count made : ℕ) (w : Walking n t x i m place interval count made) where
-  next-move : (a : Outcome Step) → a ≡ advanceOf n t interval place → mapDone (counted count) a ≡ movesOf n t (made + 1) x i
+module _ (n : ℕ) (t : Tables) (x i m place interval count made : ℕ)
+    (w : Walking n t x i m place interval count made) where
+  next-move : (a : Outcome Step) → a ≡ advanceOf n t interval place
+      → mapDone (counted count) a ≡ movesOf n t (made + 1) x i
   unfolding onwards andThen
-  next-move a e = ap (mapDone (counted count)) (e ∙ sym (move-located n t interval place (w .here))) ∙ sym (moves-more n t made x i _ (w .said))
+  next-move a e =
+      ap (mapDone (counted count)) (e ∙ sym (move-located n t interval place (w .here)))
+      ∙ sym (moves-more n t made x i _ (w .said))
 
   module _ (s : Step) (e : done s ≡ advanceOf n t interval place) (l : made < m) where
     pub walking-sum : count + s .count ≤ (made + 1) * maxIntervals
@@ -131,7 +136,8 @@ module _ (n : ℕ) (t : Tables) (x i m place interval count made : ℕ) (w : Wal
           small = walking-sum;
         }
 
-  pub walking-refused : (p q : ℕ) → refused p q ≡ advanceOf n t interval place → made < m → refused p q ≡ movesOf n t m x i
+  pub walking-refused : (p q : ℕ) → refused p q ≡ advanceOf n t interval place → made < m
+      → refused p q ≡ movesOf n t m x i
   unfolding mapDone
   walking-refused p q e l = moves-refused n t (made + 1) m x i p q (omega arith) (next-move (refused p q) e)
 
@@ -152,17 +158,24 @@ module _ (n : ℕ) (t : Tables) (x i : ℕ) (l : Located n t x i) where
   -- on the way the place lies in its interval
   pub moves-located : (m : ℕ) (s : Step) → movesOf n t m x i ≡ done s → Located n t (s .interval) (s .place)
   unfolding movesOf andThen onwards mapDone
-  moves-located zero s e = let z : record { place = i; interval = x; count = 0 } ≡ s = cc (locate-in n t x i l) in rw (← z) l
+  moves-located zero s e =
+      let z : record { place = i; interval = x; count = 0 } ≡ s = cc (locate-in n t x i l) in
+      rw (← z) l
   moves-located (suc m) s e = go (movesOf n t m x i) refl e (moves-located m)
     where
-      next : (a : Step) → Located n t (a .interval) (a .place) → (o : Outcome Step) → o ≡ advanceOf n t (a .interval) (a .place)
+      next : (a : Step) → Located n t (a .interval) (a .place)
+          → (o : Outcome Step) → o ≡ advanceOf n t (a .interval) (a .place)
           → mapDone (counted (a .count)) o ≡ done s → Located n t (s .interval) (s .place)
-      next a k (done b) f g = let z : counted (a .count) b ≡ s = cc in rw (← z) (step-located n t (a .interval) (a .place) b f k)
+      next a k (done b) f g =
+          let z : counted (a .count) b ≡ s = cc in
+          rw (← z) (step-located n t (a .interval) (a .place) b f k)
       next a k (refused p q) f g = absurd (done-refused s p q (sym g))
 
       go : (o : Outcome Step) → movesOf n t m x i ≡ o → andThen o (onwards n t) ≡ done s
-          → ((a : Step) → movesOf n t m x i ≡ done a → Located n t (a .interval) (a .place)) → Located n t (s .interval) (s .place)
-      go (done a) f g r = next a (r a f) (moveOf n t (a .interval) (a .place)) (move-located n t (a .interval) (a .place) (r a f)) g
+          → ((a : Step) → movesOf n t m x i ≡ done a → Located n t (a .interval) (a .place))
+          → Located n t (s .interval) (s .place)
+      go (done a) f g r =
+          next a (r a f) (moveOf n t (a .interval) (a .place)) (move-located n t (a .interval) (a .place) (r a f)) g
       go (refused p q) f g r = absurd (done-refused s p q (sym g))
 
   -- a repeated move is refused by 12 alone
@@ -172,7 +185,8 @@ module _ (n : ℕ) (t : Tables) (x i : ℕ) (l : Located n t x i) where
   moves-stopped (suc m) p q e = go (movesOf n t m x i) refl e (moves-stopped m)
     where
       at : (a : Step) → movesOf n t m x i ≡ done a → (b : Bool) → broken n t (a .interval) (a .place) ≡ b
-          → mapDone (counted (a .count)) (b then refused 12 (a .interval) else done (stepOf t (a .interval) (a .place))) ≡ refused p q
+          → mapDone (counted (a .count)) (b then refused 12 (a .interval) else done (stepOf t (a .interval) (a .place)))
+          ≡ refused p q
           → Stopped n t (suc m) x i p q
       at a f true g h =
           let z : refused 12 (a .interval) ≡ refused p q = h in
@@ -181,13 +195,24 @@ module _ (n : ℕ) (t : Tables) (x i : ℕ) (l : Located n t x i) where
 
       go : (o : Outcome Step) → movesOf n t m x i ≡ o → andThen o (onwards n t) ≡ refused p q
           → ((p q : ℕ) → movesOf n t m x i ≡ refused p q → Stopped n t m x i p q) → Stopped n t (suc m) x i p q
-      go (done a) f g r = at a f (broken n t (a .interval) (a .place)) refl (ap (mapDone (counted (a .count))) (sym (move-located n t (a .interval) (a .place) (moves-located m a f))) ∙ g)
+      go (done a) f g r =
+          let e = move-located n t (a .interval) (a .place) (moves-located m a f) in
+          at a f (broken n t (a .interval) (a .place)) refl (ap (mapDone (counted (a .count))) (sym e) ∙ g)
       go (refused v w) f g r =
           let s = r p q (f ∙ g) in
-          record { made = s .made; fewer = omega arith; step = s .step; so-far = s .so-far; twelve = s .twelve; there = s .there; cause = s .cause }
+          record {
+            made = s .made;
+            fewer = omega arith;
+            step = s .step;
+            so-far = s .so-far;
+            twelve = s .twelve;
+            there = s .there;
+            cause = s .cause;
+          }
 
 -- so a refused repeated move is refused by its first tests, or with 12
-pub moves-order : (n : ℕ) (t : Tables) (m x i p q : ℕ) → movesOf n t m x i ≡ refused p q → (movesOf n t 0 x i ≡ refused p q) ⊎ (p ≡ 12)
+pub moves-order : (n : ℕ) (t : Tables) (m x i p q : ℕ) → movesOf n t m x i ≡ refused p q
+    → (movesOf n t 0 x i ≡ refused p q) ⊎ (p ≡ 12)
 moves-order n t m x i p q e = go (movesOf n t 0 x i) refl
   where
     go : (o : Outcome Step) → movesOf n t 0 x i ≡ o → (movesOf n t 0 x i ≡ refused p q) ⊎ (p ≡ 12)

@@ -36,10 +36,14 @@ shaped n t b q f =
       held = sym (eqb-true (sizeOf t) _ (not-false _ (or-left (not (eqb (sizeOf t) (length (t .holders)))) _ e₃)));
     }
 
-pub fitting : (n : ℕ) (t : Tables) → 0 < n → 0 < sizeOf t → sizeOf t ≡ length (t .list .images) → sizeOf t ≡ length (t .holders)
-    → sizeOf t ≤ maxIntervals → misshapen n t ≡ false
+pub fitting : (n : ℕ) (t : Tables) → 0 < n → 0 < sizeOf t
+    → sizeOf t ≡ length (t .list .images) → sizeOf t ≡ length (t .holders) → sizeOf t ≤ maxIntervals
+    → misshapen n t ≡ false
 unfolding misshapen
-fitting n t a b c d e = simp (ne-eqb n 0 (λ z. omega arith), ne-eqb (sizeOf t) 0 (λ z. omega arith), eq-eqb _ _ c, eq-eqb _ _ d, le-ltb _ _ e)
+fitting n t a b c d e =
+    let f = ne-eqb n 0 (λ z. omega arith) in
+    let g = ne-eqb (sizeOf t) 0 (λ z. omega arith) in
+    simp (f, g, eq-eqb _ _ c, eq-eqb _ _ d, le-ltb _ _ e)
 
 module _ (n : ℕ) (t : Tables) (x i : ℕ) where
   -- 11
@@ -97,7 +101,9 @@ module _ (t : Tables) (x : ℕ) where
 
   pub held-is : unheld t x ≡ false → (holderOf t x < sizeOf t) × (startOf (t .list) (holderOf t x) ≤ imageOf (t .list) x)
   unfolding unheld
-  held-is e = (leb-false _ _ (or-left (leb (sizeOf t) (holderOf t x)) _ e), ltb-false _ _ (or-right (leb (sizeOf t) (holderOf t x)) _ e))
+  held-is e =
+      let b = leb (sizeOf t) (holderOf t x) in
+      (leb-false _ _ (or-left b _ e), ltb-false _ _ (or-right b _ e))
 
   pub held : holderOf t x < sizeOf t → startOf (t .list) (holderOf t x) ≤ imageOf (t .list) x → unheld t x ≡ false
   unfolding unheld

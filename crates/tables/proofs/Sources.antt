@@ -21,12 +21,15 @@ use Rattle.tables.specs.Inverse.{carryBack, sends, sourceOf, inverseOf}
 use Rattle.tables.specs.Passed.{Shaped}
 
 -- where a search from below ends
-first-is : (p : ℕ → Bool) (k x : ℕ) → x ≤ k → ((y : ℕ) → y < x → p y ≡ false) → (x < k → p x ≡ true) → x ≡ firstBelow p k
+first-is : (p : ℕ → Bool) (k x : ℕ) → x ≤ k → ((y : ℕ) → y < x → p y ≡ false) → (x < k → p x ≡ true)
+    → x ≡ firstBelow p k
 first-is p k x h none here = go (lt-or-le (firstBelow p k) x) (lt-or-le x (firstBelow p k))
   where
     go : (firstBelow p k < x) ⊎ (x ≤ firstBelow p k) → (x < firstBelow p k) ⊎ (firstBelow p k ≤ x) → x ≡ firstBelow p k
     go (inl l) m = absurd (true≢false (sym (first-true p k (omega arith)) ∙ none (firstBelow p k) l))
-    go (inr l) (inl m) = absurd (omega (arith, first-le p k, first-least p k x (omega (arith, first-le p k)) (here (omega (arith, first-le p k)))))
+    go (inr l) (inl m) =
+        let i : x < k = omega (arith, first-le p k) in
+        absurd (omega (arith, first-least p k x i (here i)))
     go (inr l) (inr m) = omega arith
 
 pub source-is : (n : ℕ) (r : Runs) (j x : ℕ) → x ≤ countOf r → ((y : ℕ) → y < x → sends n r j y ≡ false)
@@ -39,7 +42,8 @@ pub sends-is : (n : ℕ) (r : Runs) (j x : ℕ) → sends n r j x ≡ true → (
 unfolding sends
 sends-is n r j x e = let f = and-true (leb (imageOf r x) j) _ e in (leb-true _ _ (f .0), ltb-true _ _ (f .1))
 
-pub source-sends : (n : ℕ) (r : Runs) (j x : ℕ) → x ≡ sourceOf n r j → x < countOf r → (imageOf r x ≤ j) × (carryBack r x j < endOf n r x)
+pub source-sends : (n : ℕ) (r : Runs) (j x : ℕ) → x ≡ sourceOf n r j → x < countOf r
+    → (imageOf r x ≤ j) × (carryBack r x j < endOf n r x)
 unfolding sourceOf
 source-sends n r j x e h = rw e (sends-is n r j (sourceOf n r j) (first-true (sends n r j) (countOf r) (rw e at h)))
 
@@ -70,6 +74,6 @@ end-fits n r x h l = go (lt-or-le (suc x) (countOf r))
     go (inl k) = rw (end-next n r x k) (h (suc x))
     go (inr k) = rw (end-last n r x k) l
 
-pub source-fits : (n : ℕ) (r : Runs) (j x : ℕ) → x ≡ sourceOf n r j → x < countOf r → ((i : ℕ) → Fits w32 (startOf r i)) → Fits w32 n
-    → Fits w32 (carryBack r x j)
+pub source-fits : (n : ℕ) (r : Runs) (j x : ℕ) → x ≡ sourceOf n r j → x < countOf r
+    → ((i : ℕ) → Fits w32 (startOf r i)) → Fits w32 n → Fits w32 (carryBack r x j)
 source-fits n r j x e l h f = omega (arith, source-sends n r j x e l, end-fits n r x h f)

@@ -32,7 +32,8 @@ module _ (n : ℕ) (t : Tables) (i : ℕ) where
     unfolding findOf judge
     find-low h l = simp (s .fits, lt-leb _ _ h, lt-ltb _ _ l)
 
-    pub find-at : i < n → startOf (t .list) 0 ≤ i → (x : ℕ) → x ≡ leading (λ s. leb s i) (drop 1 (t .list .starts)) → done x ≡ findOf n t i
+    pub find-at : i < n → startOf (t .list) 0 ≤ i
+        → (x : ℕ) → x ≡ leading (λ s. leb s i) (drop 1 (t .list .starts)) → done x ≡ findOf n t i
     unfolding findOf passed judge
     find-at h l x e = simp (s .fits, lt-leb _ _ h, le-ltb _ _ l, e)
 
@@ -82,7 +83,8 @@ module _ (n : ℕ) (t : Tables) (x i : ℕ) where
   advance-broken b = simp b
 
   pub advance-to : broken n t x i ≡ false
-      → (h j c : ℕ) → h ≡ holderOf t x → j ≡ carry (t .list) x i → c ≡ leading (λ s. leb s j) (drop (suc h) (t .list .starts))
+      → (h j c : ℕ) → h ≡ holderOf t x → j ≡ carry (t .list) x i
+      → c ≡ leading (λ s. leb s j) (drop (suc h) (t .list .starts))
       → done (record { place = j; interval = h + c; count = c }) ≡ advanceOf n t x i
   unfolding advanceOf stepOf passed judge
   advance-to b h j c p q r = simp (b, r, p, q)

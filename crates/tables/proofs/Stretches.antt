@@ -69,11 +69,13 @@ up-to b h = fun-ext (λ s. let z : b ≡ suc (b - 1) = omega arith in sym (leb·
 
 module _ (n : ℕ) (t : Tables) (x : ℕ) where
   pub stretch-to : unplaced n t x ≡ false
-      → (f e w : ℕ) → f ≡ underFirst t x → e ≡ imageEnd n (t .list) x → 0 < e → w ≡ leading (λ s. leb s (e - 1)) (drop f (t .list .starts))
+      → (f e w : ℕ) → f ≡ underFirst t x → e ≡ imageEnd n (t .list) x → 0 < e
+      → w ≡ leading (λ s. leb s (e - 1)) (drop f (t .list .starts))
       → done w ≡ stretchOf n t x
   unfolding stretchOf underCount judge
   stretch-to b f e w p q h r =
-      let z : w ≡ underCount n t x = r ∙ ap (λ (g : ℕ → Bool). leading g (drop f (t .list .starts))) (up-to e h) ∙ simp (q, p) in
+      let u = ap (λ (g : ℕ → Bool). leading g (drop f (t .list .starts))) (up-to e h) in
+      let z : w ≡ underCount n t x = r ∙ u ∙ simp (q, p) in
       simp (b, z)
 
   -- 9 and 10, and what is left of a weight
@@ -97,7 +99,8 @@ module _ (n : ℕ) (t : Tables) (x : ℕ) where
         let f = judge-first (shapeTest n t) _ _ w e in
         let g = judge-first (indexTest t x) _ _ w (f .1) in
         let h = judge-first (test 12 (unplaced n t x) x) [] (underCount n t x) w (g .1) in
-        (record { shape = shaped n t _ refl (f .0); index = leb-false _ _ (g .0) }, h .0, sym (judge-done [] _ w (sym (h .1))))
+        let i : Indexed n t x = record { shape = shaped n t _ refl (f .0); index = leb-false _ _ (g .0) } in
+        (i, h .0, sym (judge-done [] _ w (sym (h .1))))
 
     pub weight-held : holderOf t x < sizeOf t
     unfolding unplaced
@@ -112,7 +115,8 @@ module _ (n : ℕ) (t : Tables) (x : ℕ) where
     unfolding underCount unplaced
     stretch-within f p =
         let h = first-within t x (underFirst t x) refl (or-left (unheld t x) _ (passes .1)) in
-        omega (arith, p, passes .2, leading-within (λ s. ltb s (imageEnd n (t .list) x)) (t .list .starts) (underFirst t x) h)
+        let l = leading-within (λ s. ltb s (imageEnd n (t .list) x)) (t .list .starts) (underFirst t x) h in
+        omega (arith, p, passes .2)
 
     pub under-part : (f : ℕ) → f ≡ underFirst t x → take (f + w - f) (drop f (t .list .starts)) ≡ startsUnderOf n t x
     unfolding startsUnderOf stretch

@@ -1,4 +1,4 @@
--- What the walks come to on the tables of a legal list (proofs/LegalTables), said by the list's function and its starts.
+-- What the walks come to on the tables of a legal list (proofs/LegalTables), by the list's function and its starts.
 use Prim.Native.Nat.{ℕ, zero, suc, _+_}
 use mathlib.Core.Bool.{_&&_}
 use lib.ListN.{length}

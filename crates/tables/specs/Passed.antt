@@ -1,4 +1,4 @@
--- What is known once tests have passed: what the private functions ask of their callers.
+-- What is known once tests have passed, and what is left of a call then: the private functions' contracts cite these.
 use Prim.Native.Nat.{ℕ, _≤_, _<_}
 use mathlib.Core.Path.{_≡_}
 use mathlib.Core.Bool.{false}

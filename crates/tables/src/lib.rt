@@ -1,4 +1,7 @@
 // The move table of a run list (starts, images, holders), with any numbers in it, and the walks through it.
+//
+// Each operation's contract is one equation with its definition in specs/, for every input. On the tables of a legal
+// list these are the list's function, its powers and its inverse (proofs/LegalTables).
 mod checks;
 mod marking;
 mod preimage;

@@ -86,8 +86,8 @@ pub(crate) fn moves_from(
         made += 1;
     }
     Moved::To(Step {
-        place: place,
-        interval: interval,
-        count: count,
+        place,
+        interval,
+        count,
     })
 }

@@ -16,10 +16,12 @@ enum-told : tie.Need-enum-told
 enum-told c = search needs
 
 advance-requires : tie.Need-advance-requires
-advance-requires c κs = located _ _ _ _ _ (ap movedSays (sym (c .enum-told .given .1)) ∙ c .before .before .locate .ensures)
+advance-requires c κs =
+    located _ _ _ _ _ (ap movedSays (sym (c .enum-told .given .1)) ∙ c .before .before .locate .ensures)
 
 returns : tie.Need-returns
-returns c = move-refused _ _ _ _ _ _ (ap movedSays (sym (c .before .r .given .1)) ∙ c .before .before .before .locate .ensures)
+returns c =
+    move-refused _ _ _ _ _ _ (ap movedSays (sym (c .before .r .given .1)) ∙ c .before .before .before .locate .ensures)
 
 returns-2 : tie.Need-returns-2
 returns-2 c =

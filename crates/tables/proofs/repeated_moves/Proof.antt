@@ -18,7 +18,8 @@ enum-told : tie.Need-enum-told
 enum-told c = search needs
 
 moves-from-requires : tie.Need-moves-from-requires
-moves-from-requires c κs = located _ _ _ _ _ (ap movedSays (sym (c .enum-told .given .1)) ∙ c .before .before .locate .ensures)
+moves-from-requires c κs =
+    located _ _ _ _ _ (ap movedSays (sym (c .enum-told .given .1)) ∙ c .before .before .locate .ensures)
 
 returns : tie.Need-returns
 returns c =

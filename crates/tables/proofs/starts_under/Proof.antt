@@ -60,12 +60,15 @@ part-result-end-2 c =
     stretch-within _ _ _ _ e _ (c .first .ensures)
 
 returns : tie.Need-returns
-returns c = under-none _ _ _ _ _ (ap weighedSays (sym (c .before .enum-told .given .1)) ∙ c .before .before .before .weight .ensures)
+returns c =
+    let w = c .before .before .before in
+    under-none _ _ _ _ _ (ap weighedSays (sym (c .before .enum-told .given .1)) ∙ w .weight .ensures)
 
 returns-2 : tie.Need-returns-2
 returns-2 c =
     let f = c .before .before .before in
-    under-part _ _ _ _ (ap weighedSays (sym (f .w .given .1)) ∙ f .before .before .weight .ensures) _ (c .before .first .ensures)
+    let e = ap weighedSays (sym (f .w .given .1)) ∙ f .before .before .weight .ensures in
+    under-part _ _ _ _ e _ (c .before .first .ensures)
 
 pub starts-under-spec : {M : Type 1} → statement M
 starts-under-spec =

@@ -48,7 +48,8 @@ returns-6 : tie.Need-returns-6
 returns-6 c =
     let e = c .before .before .before .before .before .before in
     let s = shaped _ _ _ (e .before .is-misshapen .ensures) (e .if1 .left) in
-    locate-in _ _ _ _ (record { shape = s; index = omega arith; place = omega arith; low = omega arith; high = omega arith })
+    locate-in _ _ _ _
+    (record { shape = s; index = omega arith; place = omega arith; low = omega arith; high = omega arith })
 
 pub locate-spec : {M : Type 1} → statement M
 locate-spec =

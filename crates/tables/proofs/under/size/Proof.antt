@@ -52,7 +52,8 @@ wide-requires-3 c κs = search needs
 returns-3 : tie.Need-returns-3
 returns-3 c =
     let e = c .before .before .before .before .before .before .before .before in
-    stretch-broken _ _ _ (unplaced-far _ _ _ (sym (e .before .is-unheld .ensures) ∙ e .if1 .left) (omega arith) (omega arith))
+    let f = sym (e .before .is-unheld .ensures) ∙ e .if1 .left in
+    stretch-broken _ _ _ (unplaced-far _ _ _ f (omega arith) (omega arith))
 
 first-requires : tie.Need-first-requires
 first-requires c κs =
@@ -78,7 +79,8 @@ returns-4 : tie.Need-returns-4
 returns-4 c =
     let e = c .before .before .before .before .before .before .before .before .before .before in
     let f = sym (e .before .is-unheld .ensures) ∙ e .if1 .left in
-    stretch-to _ _ _ (placed _ _ _ f (omega arith) (omega arith)) _ _ _ (c .before .first .ensures) (omega arith) (omega arith) (c .leading-up-to .ensures .0)
+    stretch-to _ _ _ (placed _ _ _ f (omega arith) (omega arith)) _ _ _ (c .before .first .ensures) (omega arith) (omega arith)
+    (c .leading-up-to .ensures .0)
 
 pub size-spec : {M : Type 1} → statement M
 size-spec =

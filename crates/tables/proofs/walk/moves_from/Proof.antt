@@ -11,7 +11,8 @@ use Rattle.tables.proofs.walk.moves_from.Statement.{statement}
 use Rattle.tables.proofs.walk.moves_from.Tie as tie
 
 abbrev Inv-loop : tie.InvT-loop
-Inv-loop n starts images holders x i m place₀ interval₀ count₀ made₀ place interval count made = Walking n (tables starts images holders) x i m place interval count made
+Inv-loop n starts images holders x i m place₀ interval₀ count₀ made₀ place interval count made =
+    Walking n (tables starts images holders) x i m place interval count made
 
 abbrev μ-loop : tie.MeasureT-loop
 μ-loop n starts images holders x i m place₀ interval₀ count₀ made₀ place interval count made = m - made
@@ -29,7 +30,8 @@ returns : tie.Need-returns Inv-loop μ-loop
 returns c =
     let a = c .before .before .before in
     let l = a .before .before in
-    walking-refused _ _ _ _ _ _ _ _ _ (l .loop .inv) _ _ (ap movedSays (sym (c .before .r .given .1)) ∙ a .advance .ensures) (omega arith)
+    let e = ap movedSays (sym (c .before .r .given .1)) ∙ a .advance .ensures in
+    walking-refused _ _ _ _ _ _ _ _ _ (l .loop .inv) _ _ e (omega arith)
 
 enum-known-s : tie.Need-enum-known-s Inv-loop μ-loop
 enum-known-s c = search needs
@@ -39,7 +41,8 @@ add-count c =
     let s = c .before .before in
     let a = s .before .before in
     let l = a .before .before in
-    let h = walking-sum _ _ _ _ _ _ _ _ _ (l .loop .inv) _ (ap movedSays (sym (s .s .given .1)) ∙ a .advance .ensures) (a .before .loop-test .taken) in
+    let e = ap movedSays (sym (s .s .given .1)) ∙ a .advance .ensures in
+    let h = walking-sum _ _ _ _ _ _ _ _ _ (l .loop .inv) _ e (a .before .loop-test .taken) in
     omega arith
 
 add-made : tie.Need-add-made Inv-loop μ-loop
@@ -53,7 +56,8 @@ loop-again c =
     let s = c .before .before in
     let a = s .before .before in
     let l = a .before .before in
-    walking-more _ _ _ _ _ _ _ _ _ (l .loop .inv) _ (ap movedSays (sym (s .s .given .1)) ∙ a .advance .ensures) (a .before .loop-test .taken)
+    let e = ap movedSays (sym (s .s .given .1)) ∙ a .advance .ensures in
+    walking-more _ _ _ _ _ _ _ _ _ (l .loop .inv) _ e (a .before .loop-test .taken)
 
 returns-2 : tie.Need-returns-2 Inv-loop μ-loop
 returns-2 c = walking-end _ _ _ _ _ _ _ _ _ (c .before .loop .inv) (omega arith)
