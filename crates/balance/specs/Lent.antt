@@ -34,10 +34,12 @@ unfoldable pub tooShort : ℕ → Lent → Bool
 tooShort b l =
     ltb (length (l .starts)) b || (ltb (length (l .images)) b || (ltb (length (l .holders)) b || ltb (length (l .working)) b))
 
+abbrev pub balanceTests : ℕ → Runs → ℕ → Lent → List Test
+balanceTests n r d l =
+    checkTests n r ++ (degreeTest d ∷ test 8 (tooShort (boundOf d (countOf r)) l) (boundOf d (countOf r)) ∷ [])
+
 unfoldable pub balanceOf : ℕ → Runs → ℕ → Lent → Outcome Tables
-balanceOf n r d l =
-    judge (checkTests n r ++ (degreeTest d ∷ test 8 (tooShort (boundOf d (countOf r)) l) (boundOf d (countOf r)) ∷ []))
-    (tablesOf n (balanced d n r))
+balanceOf n r d l = judge (balanceTests n r d l) (tablesOf n (balanced d n r))
 
 -- What `balance` promises: "Balancing answers K. Afterwards the first K entries of each table are the balanced list,
 -- the working table's first B entries are 0, and all other entries keep their numbers."

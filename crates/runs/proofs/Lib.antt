@@ -1,4 +1,16 @@
--- The laws that callers cite.
+-- The laws that callers cite, and what the proofs of this crate's functions do.
+pub mod Judging
 pub mod Sums
 pub mod Searches
 pub mod Legality
+mod Searching
+mod Checking
+mod Sweeping
+pub mod Accepted
+mod Mapped
+pub mod Intervals
+pub mod Bijection
+pub mod Tiling
+pub mod Inversion
+mod Writing
+mod Shifting

@@ -6,7 +6,7 @@ use mathlib.Core.List.{List, [], _∷_, _++_, map}
 use lib.ListN.{length}
 use lib.Dec.{ltb}
 use Rattle.order.specs.Order.{orderOf}
-use Rattle.runs.specs.Outcome.{Outcome, test, judge, mapDone, filled}
+use Rattle.runs.specs.Outcome.{Outcome, Test, test, judge, mapDone, filled}
 use Rattle.runs.specs.Refusal.{checkedSays}
 use Rattle.runs.specs.Runs.{Runs, runs, countOf, startOf, imageOf}
 use Rattle.runs.specs.Check.{checkTests}
@@ -17,11 +17,12 @@ unfoldable pub inverseRuns : Runs → Runs
 inverseRuns r = runs (map (imageOf r) (orderOf (r .images))) (map (startOf r) (orderOf (r .images)))
 
 -- tests 1 to 6, then 8: a lent table below k entries
+abbrev pub inverseListTests : ℕ → Runs → List ℕ → List ℕ → List Test
+inverseListTests n r toStarts toImages =
+    checkTests n r ++ (test 8 (ltb (length toStarts) (countOf r) || ltb (length toImages) (countOf r)) (countOf r) ∷ [])
+
 unfoldable pub inverseListOf : ℕ → Runs → List ℕ → List ℕ → Outcome Runs
-inverseListOf n r toStarts toImages =
-    judge
-    (checkTests n r ++ (test 8 (ltb (length toStarts) (countOf r) || ltb (length toImages) (countOf r)) (countOf r) ∷ []))
-    (inverseRuns r)
+inverseListOf n r toStarts toImages = judge (inverseListTests n r toStarts toImages) (inverseRuns r)
 
 -- what `inverse_list` promises: its answer, and both lent tables at exit
 pub record InverseListed (n : ℕ) (r : Runs) (starts images starts′ images′ : List ℕ) (answer : Checked) : Type 0 where

@@ -6,3 +6,4 @@ pub mod Runs
 pub mod Legal
 pub mod Check
 pub mod Inverse
+pub mod Parts

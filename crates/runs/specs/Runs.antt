@@ -1,5 +1,5 @@
 -- A run list and its function (document 01, "The collection's objects"). Places are counted from 0.
-use Prim.Native.Nat.{ℕ, suc, _+_, _-_}
+use Prim.Native.Nat.{ℕ, zero, suc, _+_, _-_}
 use mathlib.Core.Bool.{Bool, _&&_}
 use mathlib.Core.List.{List}
 use lib.ListN.{length, getD}
@@ -53,3 +53,8 @@ carry r x p = imageOf r x + (p - startOf r x)
 
 abbrev pub mapOf : ℕ → Runs → ℕ → ℕ
 mapOf n r p = carry r (runAt n r p) p
+
+-- the function applied m times
+unfoldable pub powerOf : ℕ → Runs → ℕ → ℕ → ℕ
+powerOf n r zero p = p
+powerOf n r (suc m) p = mapOf n r (powerOf n r m p)

@@ -4,6 +4,20 @@
 // end, the next start or n, to as many places from its image on. The definitions that the contracts cite are in
 // specs/, one idea a file.
 
+mod conditions;
+mod inverse;
+mod sweep;
+
+ghost use mathlib.Core.Path.{_≡_};
+ghost use Prim.Native.Nat.{_≤_};
+ghost use lib.ListN.{length};
+ghost use lib.IntN.{subℕ};
+ghost use Rattle.runs.specs.Refusal.{checkedSays};
+ghost use Rattle.runs.specs.Runs.{runs};
+ghost use Rattle.runs.specs.Check.{maxRuns, checkOf};
+ghost use Rattle.runs.specs.Inverse.{InverseListed};
+ghost use Rattle.runs.specs.Parts.{CheckedInto};
+
 // Why a call is refused. specs/Refusal.antt gives the paper's number and place of each.
 pub enum Refusal {
     Empty,
@@ -27,4 +41,71 @@ pub enum Refusal {
 pub enum Checked {
     Accepted,
     Refused(Refusal),
+}
+
+// The most runs that a list may have.
+pub const MAX_RUNS: usize = 16384;
+
+// Tests 1 to 6. `order` is room for the order of the runs by image, and holds it if the list is accepted.
+fn check_into(n: u32, starts: &[u32], images: &[u32], order: &mut [u32]) -> Checked
+    requires { ⌜ maxRuns ≤ length (now order) ⌝ }
+    ensures { λ r. ⌜ CheckedInto n (runs (now (starts .entry)) (now (images .entry))) (now (order .exit)) r ⌝ }
+{
+    if conditions::is_unmatched(n, starts, images) {
+        return Checked::Refused(Refusal::Empty);
+    }
+    let k = starts.len();
+    if MAX_RUNS < k {
+        return Checked::Refused(Refusal::TooManyRuns);
+    }
+    if starts[0] != 0 {
+        return Checked::Refused(Refusal::FirstStart);
+    }
+    let disordered = conditions::first_disordered(n, starts);
+    if disordered < k {
+        return Checked::Refused(Refusal::StartOrder(disordered as u32));
+    }
+    let overrun = conditions::first_overrun(n, starts, images);
+    if overrun < k {
+        return Checked::Refused(Refusal::ImageRange(overrun as u32));
+    }
+    let overlap = sweep::first_overlap(n, starts, images, order);
+    if overlap < k {
+        return Checked::Refused(Refusal::ImageOverlap(overlap as u32));
+    }
+    Checked::Accepted
+}
+
+// Whether the list is legal and has at most 16,384 runs. Tests 1 to 6; O(k log k) for every input.
+pub fn check(n: u32, starts: &[u32], images: &[u32]) -> Checked
+    ensures { λ r. ⌜ checkedSays r ≡ checkOf n (runs (now (starts .entry)) (now (images .entry))) ⌝ }
+{
+    let mut order: [u32; MAX_RUNS] = [0; MAX_RUNS];
+    check_into(n, starts, images, &mut order)
+}
+
+// Writes the inverse list to the first k entries of two tables, and leaves the others. Tests 1 to 6 and 8.
+pub fn inverse_list(
+    n: u32,
+    starts: &[u32],
+    images: &[u32],
+    to_starts: &mut [u32],
+    to_images: &mut [u32],
+) -> Checked
+    ensures { λ r. ⌜ InverseListed n (runs (now (starts .entry)) (now (images .entry)))
+        (now («to_starts» .entry)) (now («to_images» .entry)) (now («to_starts» .exit)) (now («to_images» .exit)) r ⌝ }
+{
+    let mut order: [u32; MAX_RUNS] = [0; MAX_RUNS];
+    let checked = check_into(n, starts, images, &mut order);
+    match checked {
+        Checked::Refused(refusal) => Checked::Refused(refusal),
+        Checked::Accepted => inverse::write(starts, images, &order, to_starts, to_images),
+    }
+}
+
+// The shift of a run, its image minus its start.
+pub fn shift(start: u32, image: u32) -> i64
+    ensures { λ r. ⌜ r ≡ subℕ image start ⌝ }
+{
+    image as i64 - start as i64
 }

@@ -1,2 +1,10 @@
--- The laws that callers cite.
+-- The laws that callers cite, and what the proofs of this crate's functions do.
+mod Leading
+mod Passing
+mod Steps
+pub mod Moves
+mod Sources
+mod Stretches
+pub mod Marks
 pub mod Walks
+pub mod LegalTables

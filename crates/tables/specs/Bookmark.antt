@@ -2,9 +2,9 @@
 use Prim.Native.Nat.{ℕ, _+_, _^_}
 use mathlib.Core.Path.{_≡_}
 use mathlib.Core.Bool.{Bool, _||_}
-use mathlib.Core.List.{[], _∷_, _++_}
+use mathlib.Core.List.{List, [], _∷_, _++_}
 use lib.Dec.{leb}
-use Rattle.runs.specs.Outcome.{Outcome, done, refused, test, judge}
+use Rattle.runs.specs.Outcome.{Outcome, done, refused, Test, test, judge}
 use Rattle.tables.specs.Tables.{Tables}
 use Rattle.tables.specs.Move.{movedSays, stepOf, moveTests}
 use Rattle.tables.specs.declared.Step.{Step}
@@ -20,10 +20,12 @@ unfoldable pub spent : Bookmark → Step → Bool
 spent b s = leb (2 ^ 32) (b .moves + 1) || leb (2 ^ 64) (b .passed + s .count)
 
 -- "moved on the spot, by one move": the answer is that move's
+abbrev pub bookmarkTests : ℕ → Tables → Bookmark → List Test
+bookmarkTests n t b =
+    moveTests n t (b .interval) (b .place) ++ (test 13 (spent b (stepOf t (b .interval) (b .place))) 0 ∷ [])
+
 unfoldable pub bookmarkOf : ℕ → Tables → Bookmark → Outcome Step
-bookmarkOf n t b =
-    judge (moveTests n t (b .interval) (b .place) ++ (test 13 (spent b (stepOf t (b .interval) (b .place))) 0 ∷ []))
-    (stepOf t (b .interval) (b .place))
+bookmarkOf n t b = judge (bookmarkTests n t b) (stepOf t (b .interval) (b .place))
 
 -- the bookmark after an answer: further by the step, or as it was
 unfoldable pub markAfter : Bookmark → Outcome Step → Bookmark

@@ -3,7 +3,7 @@ use Prim.Native.Nat.{ℕ, _+_, _-_}
 use mathlib.Core.Bool.{Bool, not, _&&_}
 use mathlib.Core.List.{List, [], _∷_}
 use lib.Dec.{ltb, leb}
-use Rattle.runs.specs.Outcome.{Outcome, done, refused, test, judge}
+use Rattle.runs.specs.Outcome.{Outcome, done, Test, test, judge}
 use Rattle.runs.specs.Refusal.{refusalSays}
 use Rattle.runs.specs.Search.{firstBelow, anyBelow}
 use Rattle.runs.specs.Runs.{Runs, countOf, startOf, imageOf, endOf}
@@ -29,8 +29,11 @@ unfoldable pub sourceOf : ℕ → Runs → ℕ → ℕ
 sourceOf n r j = firstBelow (sends n r j) (countOf r)
 
 -- 14 applies where "no interval qualifies"
+abbrev pub inverseTests : ℕ → Tables → ℕ → List Test
+inverseTests n t j =
+    shapeTest n t ∷ test 11 (leb n j) j ∷ test 14 (not (anyBelow (sends n (t .list) j) (countOf (t .list)))) j ∷ []
+
 unfoldable pub inverseOf : ℕ → Tables → ℕ → Outcome Source
 inverseOf n t j =
-    judge
-    (shapeTest n t ∷ test 11 (leb n j) j ∷ test 14 (not (anyBelow (sends n (t .list) j) (countOf (t .list)))) j ∷ [])
+    judge (inverseTests n t j)
     (record { place = carryBack (t .list) (sourceOf n (t .list) j) j; interval = sourceOf n (t .list) j })

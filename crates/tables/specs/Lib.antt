@@ -4,3 +4,5 @@ pub mod Move
 pub mod Inverse
 pub mod Under
 pub mod Bookmark
+pub mod Function
+pub mod Passed

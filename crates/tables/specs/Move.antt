@@ -4,7 +4,7 @@ use mathlib.Core.Bool.{_||_}
 use mathlib.Core.List.{List, [], _∷_}
 use lib.ListN.{drop}
 use lib.Dec.{ltb, leb}
-use Rattle.runs.specs.Outcome.{Outcome, done, refused, Test, test, judge, mapDone, andThen}
+use Rattle.runs.specs.Outcome.{Outcome, done, Test, test, judge, mapDone, andThen}
 use Rattle.runs.specs.Refusal.{refusalSays}
 use Rattle.runs.specs.Search.{leading}
 use Rattle.runs.specs.Runs.{startOf, carry}
@@ -29,9 +29,11 @@ unfoldable pub passed : List ℕ → ℕ → ℕ → ℕ
 passed starts h j = leading (λ s. leb s j) (drop (suc h) starts)
 
 -- Find: "from interval 0, go on while the next start is at most i". 11 here: i not below n, or below the first start.
+abbrev pub findTests : ℕ → Tables → ℕ → List Test
+findTests n t i = shapeTest n t ∷ test 11 (leb n i || ltb i (startOf (t .list) 0)) i ∷ []
+
 unfoldable pub findOf : ℕ → Tables → ℕ → Outcome ℕ
-findOf n t i =
-    judge (shapeTest n t ∷ test 11 (leb n i || ltb i (startOf (t .list) 0)) i ∷ []) (passed (t .list .starts) 0 i)
+findOf n t i = judge (findTests n t i) (passed (t .list .starts) 0 i)
 
 -- Move: the place reached, the interval that the walk from the holder reaches, and as count the starts passed, "the
 -- index reached minus h".

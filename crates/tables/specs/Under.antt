@@ -5,7 +5,7 @@ use mathlib.Core.Bool.{Bool, _&&_, _||_}
 use mathlib.Core.List.{List, [], _∷_}
 use lib.ListN.{length, take, drop}
 use lib.Dec.{ltb, leb, eqb}
-use Rattle.runs.specs.Outcome.{Outcome, done, refused, test, judge, _then_else_}
+use Rattle.runs.specs.Outcome.{Outcome, done, refused, Test, test, judge, _then_else_}
 use Rattle.runs.specs.Refusal.{refusalSays}
 use Rattle.runs.specs.Search.{leading, keep}
 use Rattle.runs.specs.Runs.{Runs, startOf, imageOf, endOf, imageEnd}
@@ -39,8 +39,11 @@ unfoldable pub underCount : ℕ → Tables → ℕ → ℕ
 underCount n t x = leading (λ s. ltb s (imageEnd n (t .list) x)) (drop (underFirst t x) (t .list .starts))
 
 -- "Weight gives its size or the number."
+abbrev pub underTests : ℕ → Tables → ℕ → List Test
+underTests n t x = shapeTest n t ∷ indexTest t x ∷ test 12 (unplaced n t x) x ∷ []
+
 unfoldable pub weightOf : ℕ → Tables → ℕ → Outcome ℕ
-weightOf n t x = judge (shapeTest n t ∷ indexTest t x ∷ test 12 (unplaced n t x) x ∷ []) (underCount n t x)
+weightOf n t x = judge (underTests n t x) (underCount n t x)
 
 -- the stretch itself; "it is empty on a refusal"
 unfoldable pub stretch : Outcome ℕ → List ℕ → List ℕ

@@ -1,0 +1,81 @@
+-- What the moves of a plain walk count: if each passes at most b starts, so does every move of every list of calls, and
+-- all counts together are at most b for each move.
+use Prim.Native.Nat.{ℕ, zero, suc, _+_, _*_, _≤_, _<_}
+use mathlib.Core.Path.{_≡_, refl, sym, ap, _∙_}
+use mathlib.Core.Bool.{Bool, true, false}
+use mathlib.Core.List.{List, [], _∷_, _++_}
+use native.Mathlib.Omega.{arith}
+use lib.ListN.{length, length-append}
+use lib.Dec.{ltb}
+use borrow.Author.Tests.{ltb-true}
+use Rattle.order.specs.Order.{All, sumOf}
+use Rattle.order.proofs.Laws.{all-append, sum-append}
+use Rattle.runs.specs.Outcome.{Outcome, _then_else_}
+use Rattle.runs.specs.Runs.{Runs, runAt, mapOf}
+use Rattle.demands.specs.Calls.{Call, find, move, moves, allMoves, allCounts, countIn, movesIn}
+use Rattle.demands.specs.PlainWalk.{plainMove, plainMoves, plainFind, plainWalk, movesCounts, walkCounts}
+use Rattle.demands.proofs.Serving.{move-below, moves-below}
+
+module _ (n : ℕ) (r t : Runs) where
+  moves-length : (m p : ℕ) → length (movesCounts n r t m p) ≡ m
+  unfolding movesCounts
+  moves-length zero p = refl
+  moves-length (suc m) p =
+      length-append (movesCounts n r t m p) _ ∙ omega (arith, moves-length m p)
+
+  moves-sum : (m p : ℕ) → sumOf (λ c. c) (movesCounts n r t m p) ≡ plainMoves n r t m p .count
+  unfolding movesCounts plainMoves
+  moves-sum zero p = refl
+  moves-sum (suc m) p =
+      sum-append (λ c. c) (movesCounts n r t m p) (plainMove n r t (plainMoves n r t m p .place) .count ∷ [])
+      ∙ omega (arith, moves-sum m p)
+
+  -- one count for each move
+  pub counts-length : (cs : List Call) (p : ℕ) → length (walkCounts n r t p cs) ≡ allMoves cs
+  unfolding walkCounts
+  counts-length [] p = refl
+  counts-length (find i ∷ cs) p = omega (arith, counts-length cs (ltb i n then i else p))
+  counts-length (move ∷ cs) p = omega (arith, counts-length cs (plainMove n r t p .place))
+  counts-length (moves m ∷ cs) p =
+      length-append (movesCounts n r t m p) _
+      ∙ omega (arith, moves-length m p, counts-length cs (plainMoves n r t m p .place))
+
+  -- the replies count what the moves count
+  pub counts-sum : (cs : List Call) (p : ℕ) → allCounts (plainWalk n r t p cs) ≡ sumOf (λ c. c) (walkCounts n r t p cs)
+  unfolding walkCounts plainWalk
+  counts-sum [] p = refl
+  counts-sum (find i ∷ cs) p = omega (arith, counts-sum cs (ltb i n then i else p))
+  counts-sum (move ∷ cs) p = omega (arith, counts-sum cs (plainMove n r t p .place))
+  counts-sum (moves m ∷ cs) p =
+      omega (
+        arith,
+        moves-sum m p,
+        counts-sum cs (plainMoves n r t m p .place),
+        sum-append (λ c. c) (movesCounts n r t m p) (walkCounts n r t (plainMoves n r t m p .place) cs),
+      )
+
+-- a sum of numbers that are at most b
+pub sum-most : (b : ℕ) (l : List ℕ) → All (λ c. c ≤ b) l → sumOf (λ c. c) l ≤ length l * b
+sum-most b [] a = omega arith
+sum-most b (c ∷ l) a = omega (arith, a .0, sum-most b l (a .1))
+
+module _ (n b : ℕ) (r t : Runs) (below : (p : ℕ) → p < n → mapOf n r p < n)
+    (most : (p : ℕ) → p < n → plainMove n r t p .count ≤ b) where
+  moves-most : (m p : ℕ) → p < n → All (λ c. c ≤ b) (movesCounts n r t m p)
+  unfolding movesCounts
+  moves-most zero p h = tt
+  moves-most (suc m) p h =
+      all-append (λ c. c ≤ b) (movesCounts n r t m p) _ (moves-most m p h) (most _ (moves-below n r t below m p h), tt)
+
+  pub counts-most : (cs : List Call) (p : ℕ) → p < n → All (λ c. c ≤ b) (walkCounts n r t p cs)
+  unfolding walkCounts
+  counts-most [] p h = tt
+  counts-most (find i ∷ cs) p h = counts-most cs (ltb i n then i else p) (go (ltb i n) refl)
+    where
+      go : (d : Bool) → ltb i n ≡ d → (d then i else p) < n
+      go true e = ltb-true i n e
+      go false e = h
+  counts-most (move ∷ cs) p h = (most p h, counts-most cs (plainMove n r t p .place) (move-below n r t below p h))
+  counts-most (moves m ∷ cs) p h =
+      all-append (λ c. c ≤ b) (movesCounts n r t m p) _ (moves-most m p h)
+      (counts-most cs (plainMoves n r t m p .place) (moves-below n r t below m p h))

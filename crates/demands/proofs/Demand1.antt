@@ -1,0 +1,127 @@
+-- Demand 1. The order of conditions of each operation is read off its definition; what `judge` gives is proved once for
+-- all of them; and a refusal leaves what was lent, since `filled` and `markAfter` do.
+use Prim.Native.Nat.{ℕ, zero, suc, _+_, _≤_, _<_, suc-le-suc}
+use mathlib.Core.Path.{_≡_, refl, sym, ap, _∙_}
+use mathlib.Core.Bool.{Bool, true, false}
+use mathlib.Core.Logic.{_⊎_, inl, inr}
+use mathlib.Core.List.{List, [], _∷_}
+use native.Mathlib.Nat.{not-suc-le-zero, le-of-suc-le-suc}
+use native.Mathlib.Omega.{arith}
+use lib.ListN.{length, getD}
+use Rattle.runs.specs.Outcome.{Outcome, done, refused, Test, test, judge, mapDone, filled, _then_else_}
+use Rattle.runs.specs.Refusal.{checkedSays}
+use Rattle.runs.specs.Runs.{Runs}
+use Rattle.runs.specs.Check.{listTests, checkTests}
+use Rattle.runs.specs.Inverse.{inverseListOf, inverseListTests, InverseListed}
+use Rattle.runs.specs.declared.Checked.{Checked}
+use Rattle.runs.proofs.Judging.{done-refused}
+use Rattle.tables.specs.Tables.{Tables, sizeOf}
+use Rattle.tables.specs.Move.{movedSays, movesOf}
+use Rattle.tables.specs.Bookmark.{markAfter, bookmarkOf, Advances}
+use Rattle.tables.specs.declared.Step.{Step}
+use Rattle.tables.specs.declared.Bookmark.{Bookmark}
+use Rattle.tables.specs.declared.Marked.{Marked}
+use Rattle.tables.proofs.Steps.{located}
+use Rattle.tables.proofs.Moves.{moves-refused, moves-stopped}
+use Rattle.balance.specs.Lent.{Lent, balancedSays, balanceOf, balanceTests, Balances}
+use Rattle.balance.specs.declared.Balanced.{Balanced}
+use Rattle.demands.specs.Demands.{NoneOf, RefusedBy, Judged, Demand1, numbers}
+
+-- the first test decides, or the others do
+none-first : (t : Test) (ts : List Test) (i : ℕ) → t .applies ≡ false → NoneOf i ts → NoneOf (suc i) (t ∷ ts)
+none-first t ts i e h zero l = e
+none-first t ts i e h (suc j) l = h j (le-of-suc-le-suc l)
+
+refused-first : (t : Test) (ts : List Test) (k p : ℕ) → t .applies ≡ false → RefusedBy ts k p → RefusedBy (t ∷ ts) k p
+refused-first t ts k p e r = record {
+  index = suc (r .index);
+  among = suc-le-suc (r .among);
+  given = r .given;
+  before-it = none-first t ts (r .index) e (r .before-it);
+}
+
+module _ {A : Type 0} (a : A) where
+  judge-passes : (ts : List Test) (b : A) → judge ts a ≡ done b → (b ≡ a) × NoneOf (length ts) ts
+  unfolding judge
+  judge-passes [] b e = (cc, λ j l. absurd (not-suc-le-zero l))
+  judge-passes (t ∷ ts) b e = go (t .applies) refl e (judge-passes ts b)
+    where
+      go : (s : Bool) → t .applies ≡ s → (s then refused (t .number) (t .place) else judge ts a) ≡ done b
+          → (judge ts a ≡ done b → (b ≡ a) × NoneOf (length ts) ts) → (b ≡ a) × NoneOf (suc (length ts)) (t ∷ ts)
+      go true q e rest = absurd (done-refused b (t .number) (t .place) (sym e))
+      go false q e rest = (rest e .0, none-first t ts (length ts) q (rest e .1))
+
+  judge-refuses : (ts : List Test) (k p : ℕ) → judge ts a ≡ refused k p → RefusedBy ts k p
+  unfolding judge
+  judge-refuses [] k p e = absurd (done-refused a k p e)
+  judge-refuses (t ∷ ts) k p e = go (t .applies) refl e (judge-refuses ts k p)
+    where
+      go : (s : Bool) → t .applies ≡ s → (s then refused (t .number) (t .place) else judge ts a) ≡ refused k p
+          → (judge ts a ≡ refused k p → RefusedBy ts k p) → RefusedBy (t ∷ ts) k p
+      go true q e rest = record {
+        index = 0;
+        among = omega arith;
+        given = let f : t .number ≡ k = cc in let g : t .place ≡ p = cc in λ i. test (f i) (q i) (g i);
+        before-it = λ j l. absurd (not-suc-le-zero l);
+      }
+      go false q e rest = refused-first t ts k p q (rest e)
+
+-- a refusal goes through to the lent tables
+map-refused : {A B : Type 0} (f : A → B) (o : Outcome A) (k p : ℕ) → mapDone f o ≡ refused k p → o ≡ refused k p
+unfolding mapDone
+map-refused f (done a) k p e = absurd (done-refused (f a) k p e)
+map-refused f (refused k′ p′) k p e = cc
+
+filled-refused : {A : Type 0} (l : A → List ℕ) (o : Outcome A) (k p : ℕ) (t : List ℕ) → o ≡ refused k p → filled l o t ≡ t
+unfolding filled
+filled-refused l o k p t e = rw e
+
+inverse-list-kept : (n : ℕ) (r : Runs) (a b a′ b′ : List ℕ) (o : Checked) → InverseListed n r a b a′ b′ o
+    → (k p : ℕ) → checkedSays o ≡ refused k p → (a′ ≡ a) × (b′ ≡ b)
+inverse-list-kept n r a b a′ b′ o c k p e =
+    let q = map-refused (λ q. tt) (inverseListOf n r a b) k p (sym (c .says) ∙ e) in (
+      c .starts-at-exit ∙ filled-refused (λ q. q .starts) _ k p a q,
+      c .images-at-exit ∙ filled-refused (λ q. q .images) _ k p b q,
+    )
+
+balance-kept : (n : ℕ) (r : Runs) (d : ℕ) (entry exit : Lent) (o : Balanced) → Balances n r d entry exit o
+    → (k p : ℕ) → balancedSays o ≡ refused k p → exit ≡ entry
+balance-kept n r d entry exit o c k p e =
+    let q = map-refused sizeOf (balanceOf n r d entry) k p (sym (c .says) ∙ e) in
+    let s = c .starts ∙ filled-refused _ _ k p (entry .starts) q in
+    let i = c .images ∙ filled-refused _ _ k p (entry .images) q in
+    let h = c .holders ∙ filled-refused _ _ k p (entry .holders) q in
+    let w = c .working ∙ filled-refused _ _ k p (entry .working) q in
+    λ j. record { starts = s j; images = i j; holders = h j; working = w j }
+
+bookmark-kept : (n : ℕ) (t : Tables) (b : Bookmark) (m : Marked) → Advances n t b m
+    → (k p : ℕ) → movedSays (m .moved) ≡ refused k p → m .bookmark ≡ b
+unfolding markAfter
+bookmark-kept n t b m c k p e = let q : bookmarkOf n t b ≡ refused k p = sym (c .says) ∙ e in c .mark ∙ rw q
+
+-- the first tests refuse, or else only 12 can
+moves-order : (n : ℕ) (t : Tables) (m x i k p : ℕ) → movesOf n t m x i ≡ refused k p → (movesOf n t 0 x i ≡ refused k p) ⊎ (k ≡ 12)
+moves-order n t m x i k p e = go (movesOf n t 0 x i) refl
+  where
+    go : (o : Outcome Step) → movesOf n t 0 x i ≡ o → (movesOf n t 0 x i ≡ refused k p) ⊎ (k ≡ 12)
+    go (done s) f = inr (moves-stopped n t x i (located n t x i s (sym f)) m k p e .twelve)
+    go (refused k′ p′) f = inl (f ∙ moves-refused n t 0 m x i k′ p′ (omega arith) (sym f) ∙ e)
+
+pub demand1 : Demand1
+unfolding listTests checkTests
+demand1 = record {
+  judged = λ A ts a. record { when-done = judge-passes a ts; when-refused = judge-refuses a ts };
+  check-order = λ n r. refl;
+  inverse-list-order = λ n r a b. refl;
+  balance-order = λ n r d l. refl;
+  find-order = λ n t i. refl;
+  move-order = λ n t x i. refl;
+  no-move-order = λ n t x i. refl;
+  inverse-order = λ n t j. refl;
+  under-order = λ n t x. refl;
+  bookmark-order = λ n t b. refl;
+  moves-order = moves-order;
+  inverse-list-kept = inverse-list-kept;
+  balance-kept = balance-kept;
+  bookmark-kept = bookmark-kept;
+}

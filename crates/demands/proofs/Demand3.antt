@@ -1,0 +1,111 @@
+-- Demand 3. What `balance` promises puts the tables of the balanced list at the head of the lent ones; through these the
+-- single calls are the plain walk's, so whole lists of calls are (Serving, Marking); and since no interval is heavy, no
+-- move passes more than 2d − 1 starts (Counting).
+use Prim.Native.Nat.{ℕ, suc, _+_, _-_, _*_, _^_, _≤_, _<_}
+use mathlib.Core.Path.{_≡_, refl, sym, ap, _∙_}
+use mathlib.Core.List.{List, [], _∷_, _++_}
+use native.Mathlib.Omega.{arith}
+use native.Mathlib.Nat.{mul-le-mul-left}
+use lib.ListN.{length, take, drop, length-map}
+use lib.Seq.{take-append-seam}
+use borrow.Author.Tests.{le-ltb}
+use Rattle.order.specs.Order.{All, sumOf}
+use Rattle.runs.specs.Outcome.{Outcome, done, refused, judge, mapDone, andThen, filled}
+use Rattle.runs.specs.Runs.{Runs, countOf, startOf, imageOf, endOf, runAt, carry, mapOf}
+use Rattle.runs.specs.Legal.{Legal}
+use Rattle.runs.specs.Check.{checkTests, checkOf}
+use Rattle.runs.proofs.Judging.{judge-append}
+use Rattle.runs.proofs.Legality.{homes, home, run-at}
+use Rattle.tables.specs.Tables.{Tables, tables, tablesOf, sizeOf}
+use Rattle.tables.specs.Under.{weight}
+use Rattle.tables.proofs.Walks.{above-to, walk-bound}
+use Rattle.tables.specs.Move.{findOf}
+use Rattle.balance.specs.Balance.{balanced, boundOf}
+use Rattle.balance.specs.Lent.{Lent, balancedSays, balanceOf, balanceTests, tooShort, Balances}
+use Rattle.balance.specs.declared.Balanced.{Balanced}
+use Rattle.balance.proofs.Balancing.{balanced-legal, balanced-map, balanced-light, balanced-count, balanced-cuts}
+use Rattle.demands.specs.Calls.{Call, allMoves, allCounts}
+use Rattle.demands.specs.PlainWalk.{plainMove, plainWalk, walkCounts}
+use Rattle.demands.specs.Demands.{Through, Roomy, firstOf, Serves, Demand3}
+use Rattle.demands.proofs.Serving.{same-replies}
+use Rattle.demands.proofs.Counting.{counts-length, counts-sum, counts-most, sum-most}
+use Rattle.demands.proofs.Marking.{same-trail}
+
+-- balancing an accepted list into roomy tables is not refused
+balance-done : (n : ℕ) (r : Runs) (d : ℕ) (l : Lent) → checkOf n r ≡ done tt → 2 ≤ d → d ≤ 64 → Roomy (boundOf d (countOf r)) l
+    → balanceOf n r d l ≡ done (tablesOf n (balanced d n r))
+unfolding balanceOf checkOf tooShort judge andThen
+balance-done n r d l a many few m =
+    judge-append {A = Unit {0}} (checkTests n r) _ tt (tablesOf n (balanced d n r))
+    ∙ rw a
+    (simp (
+      le-ltb d 2 many,
+      le-ltb 64 d few,
+      le-ltb _ _ (m .starts),
+      le-ltb _ _ (m .images),
+      le-ltb _ _ (m .holders),
+      le-ltb _ _ (m .working),
+    ))
+
+-- what is written to the head of a table stands there
+filled-head : {A : Type 0} (l : A → List ℕ) (a : A) (o : Outcome A) (k : ℕ) (table : List ℕ) → o ≡ done a → length (l a) ≡ k
+    → take k (filled l o table) ≡ l a
+unfolding filled
+filled-head l a o k table e h = rw (e, ← h) (take-append-seam (l a) (drop (length (l a)) table))
+
+-- no move of a walk over a light list passes 2d starts
+move-most : (n d : ℕ) (r t : Runs) → Legal n t → ((p : ℕ) → p < n → mapOf n t p ≡ mapOf n r p)
+    → ((x : ℕ) → x < countOf t → weight n t x < 2 * d) → (p : ℕ) → p < n → plainMove n r t p .count ≤ 2 * d - 1
+unfolding plainMove
+move-most n d r t c same light p h = go (home n t (homes n t c) p h)
+  where
+    go : (x : ℕ) × (x < countOf t) × (startOf t x ≤ p) × (p < endOf n t x) → plainMove n r t p .count ≤ 2 * d - 1
+    go (x, hx, a, b) =
+        rw (← same p h, run-at n t (homes n t c) x p hx a b)
+        (omega (arith, above-to (imageOf t x) (carry t x p) (t .starts), walk-bound n t c x p hx a b, light x hx))
+
+module _ (n : ℕ) (r : Runs) (d : ℕ) (c : Legal n r) (many : 2 ≤ d) (few : d ≤ 64)
+    (through : Through n r (balanced d n r))
+    (not-found : (i : ℕ) → n ≤ i → findOf n (tablesOf n (balanced d n r)) i ≡ refused 11 i) where
+  t : Runs
+  t = balanced d n r
+
+  legal : Legal n t
+  unfolding t
+  legal = balanced-legal d n many r c
+
+  most : (p : ℕ) → p < n → plainMove n r t p .count ≤ 2 * d - 1
+  unfolding t
+  most = move-most n d r t legal (balanced-map d n many r c) (balanced-light d n many r c)
+
+  -- the tables of the balanced list serve the plain walk
+  tables-serve : (l : Lent) → firstOf (countOf t) l ≡ tablesOf n t → Serves n r d (countOf t) l
+  unfolding t
+  tables-serve l e = record {
+    fits = balanced-count d n many r c;
+    same-permutation = λ p h. ap (λ (τ : Tables). mapOf n (τ .list) p) e ∙ balanced-map d n many r c p h;
+    same-replies = λ p h cs. rw e (same-replies n r t (tablesOf n t) (through .find) not-found (through .move) (λ m q i. through .moves m q i .0) (through .inside) cs p h);
+    each-move = λ p h cs. counts-most n (2 * d - 1) r t (through .inside) most cs p h;
+    all-moves = λ p h cs. (
+      counts-length n r t cs p,
+      counts-sum n r t cs p,
+      rw (counts-sum n r t cs p, ← counts-length n r t cs p) (sum-most (2 * d - 1) (walkCounts n r t p cs) (counts-most n (2 * d - 1) r t (through .inside) most cs p h)),
+    );
+    same-trail = λ p h m. rw e (same-trail n (2 * d - 1) r t (tablesOf n t) (through .move) (through .inside) most (omega arith) m p 0 0 h (omega arith) (omega arith));
+  }
+
+-- the head of the lent tables after balancing
+module _ (n : ℕ) (r : Runs) (d : ℕ) (entry exit : Lent) (answer : Balanced) (b : Balances n r d entry exit answer)
+    (e : balanceOf n r d entry ≡ done (tablesOf n (balanced d n r)))
+    (paired : length (balanced d n r .images) ≡ countOf (balanced d n r)) where
+  answer-is : balancedSays answer ≡ done (countOf (balanced d n r))
+  unfolding mapDone
+  answer-is = b .says ∙ rw e
+
+  head-is : firstOf (countOf (balanced d n r)) exit ≡ tablesOf n (balanced d n r)
+  head-is =
+      let τ = tablesOf n (balanced d n r) in
+      let s = ap (take (countOf (balanced d n r))) (b .starts) ∙ filled-head (λ u. u .list .starts) τ _ _ (entry .starts) e refl in
+      let i = ap (take (countOf (balanced d n r))) (b .images) ∙ filled-head (λ u. u .list .images) τ _ _ (entry .images) e paired in
+      let h = ap (take (countOf (balanced d n r))) (b .holders) ∙ filled-head (λ u. u .holders) τ _ _ (entry .holders) e (length-map (balanced d n r .images) (runAt n (balanced d n r)) ∙ paired) in
+      λ j. tables (s j) (i j) (h j)

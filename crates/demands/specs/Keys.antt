@@ -1,0 +1,115 @@
+-- The keys that document 01 gives and marks to be proved about the definitions: one table, one statement. Its rows are
+-- written from the paper: on the left what is asked of a definition, on the right the paper's numbers.
+use Prim.Native.Nat.{ℕ, suc}
+use mathlib.Core.Path.{_≡_, refl}
+use mathlib.Core.List.{List, [], _∷_, _++_, map}
+use lib.IntN.{ℤ, pos, negsuc}
+use Rattle.runs.specs.Outcome.{Outcome, done, refused, judge, mapDone, andThen}
+use Rattle.runs.specs.Runs.{Runs, runs, countOf, startOf, imageOf, shiftOf}
+use Rattle.runs.specs.Check.{unmatched, disordered, overruns, overlap, overlaps, listTests, checkTests, checkOf}
+use Rattle.tables.specs.Tables.{Tables, tablesOf, holderOf, misshapen, outside, unheld, broken}
+use Rattle.tables.specs.Move.{passed, stepOf, moveOf, onwards, movesOf}
+use Rattle.tables.specs.Inverse.{sends, sourceOf, inverseOf}
+use Rattle.tables.specs.Under.{weight}
+use Rattle.tables.specs.declared.Step.{Step}
+use Rattle.tables.specs.declared.Source.{Source}
+use Rattle.balance.specs.Balance.{cutting, balanced}
+
+-- An outcome as a row of numbers: 0 and its values, or the refusal's number and place.
+abbrev pub rowFrom : {A : Type 0} → (A → List ℕ) → Outcome A → List ℕ
+rowFrom values (done a) = 0 ∷ values a
+rowFrom values (refused number place) = number ∷ place ∷ []
+
+abbrev pub checkedRow : Outcome (Unit {0}) → List ℕ
+checkedRow o = rowFrom (λ u. []) o
+
+abbrev pub movedRow : Outcome Step → List ℕ
+movedRow o = rowFrom (λ s. s .place ∷ s .interval ∷ s .count ∷ []) o
+
+abbrev pub invertedRow : Outcome Source → List ℕ
+invertedRow o = rowFrom (λ s. s .place ∷ s .interval ∷ []) o
+
+-- an integer as its sign, 0 or below 0 a 1, and its size
+abbrev pub signedRow : ℤ → List ℕ
+signedRow (pos v) = 0 ∷ v ∷ []
+signedRow (negsuc v) = 1 ∷ suc v ∷ []
+
+-- interval x of the listing: index, start, image, shift, holder, weight
+abbrev pub listedRow : ℕ → Tables → ℕ → List ℕ
+listedRow n t x =
+    x ∷ startOf (t .list) x ∷ imageOf (t .list) x ∷ [] ++ (signedRow (shiftOf (t .list) x) ++ (holderOf t x ∷ weight n (t .list) x ∷ []))
+
+-- the lists of the keys
+abbrev pub example : Runs
+example = runs (0 ∷ 2 ∷ 4 ∷ 6 ∷ 8 ∷ []) (14 ∷ 12 ∷ 10 ∷ 8 ∷ 0 ∷ [])
+
+abbrev pub exampleTables : Tables
+exampleTables = tablesOf 16 (balanced 2 16 example)
+
+abbrev pub uncut : Runs
+uncut = runs (0 ∷ 2 ∷ 4 ∷ 6 ∷ []) (10 ∷ 8 ∷ 6 ∷ 0 ∷ [])
+
+abbrev pub fullest : Runs
+fullest = runs (0 ∷ 3 ∷ 5 ∷ 7 ∷ 8 ∷ []) (8 ∷ 11 ∷ 13 ∷ 0 ∷ 1 ∷ [])
+
+abbrev pub single : Runs
+single = runs (0 ∷ []) (0 ∷ [])
+
+abbrev pub halves : List ℕ → Runs
+halves images = runs (0 ∷ 2 ∷ []) images
+
+abbrev pub largest : Runs
+largest = runs (0 ∷ 4294967294 ∷ []) (1 ∷ 0 ∷ [])
+
+-- source document 001's ψ
+abbrev pub psi : Runs
+psi =
+    runs (0 ∷ 1 ∷ 5 ∷ 6 ∷ 12 ∷ 17 ∷ 19 ∷ 22 ∷ 25 ∷ 32 ∷ 34 ∷ 42 ∷ 43 ∷ [])
+    (11 ∷ 28 ∷ 2 ∷ 22 ∷ 32 ∷ 38 ∷ 42 ∷ 12 ∷ 15 ∷ 0 ∷ 3 ∷ 37 ∷ 40 ∷ [])
+
+-- a row of the table
+infix 4 _is_
+pub data Key : Type 0 where
+  _is_ : List ℕ → List ℕ → Key
+
+abbrev pub computed : Key → List ℕ
+computed (a is b) = a
+
+abbrev pub given : Key → List ℕ
+given (a is b) = b
+
+abbrev pub keys : List Key
+keys =
+    -- the listing's list: K, and the weight of run 4; then its printed rows
+    (countOf (balanced 2 16 example) ∷ weight 16 example 4 ∷ [] is 6 ∷ 4 ∷ []) ∷
+    (listedRow 16 exampleTables 0 is 0 ∷ 0 ∷ 14 ∷ 0 ∷ 14 ∷ 5 ∷ 0 ∷ []) ∷
+    (listedRow 16 exampleTables 1 is 1 ∷ 2 ∷ 12 ∷ 0 ∷ 10 ∷ 5 ∷ 1 ∷ []) ∷
+    (listedRow 16 exampleTables 2 is 2 ∷ 4 ∷ 10 ∷ 0 ∷ 6 ∷ 4 ∷ 0 ∷ []) ∷
+    (listedRow 16 exampleTables 3 is 3 ∷ 6 ∷ 8 ∷ 0 ∷ 2 ∷ 4 ∷ 1 ∷ []) ∷
+    (listedRow 16 exampleTables 4 is 4 ∷ 8 ∷ 0 ∷ 1 ∷ 8 ∷ 0 ∷ 2 ∷ []) ∷
+    (listedRow 16 exampleTables 5 is 5 ∷ 12 ∷ 4 ∷ 1 ∷ 8 ∷ 2 ∷ 2 ∷ []) ∷
+    -- place 11, interval 4; then four moves from place 0, by 14, 6, 8
+    (movedRow (moveOf 16 exampleTables 4 11) is 0 ∷ 3 ∷ 1 ∷ 1 ∷ []) ∷
+    (movedRow (movesOf 16 exampleTables 1 0 0) is 0 ∷ 14 ∷ 5 ∷ 0 ∷ []) ∷
+    (movedRow (movesOf 16 exampleTables 2 0 0) is 0 ∷ 6 ∷ 3 ∷ 1 ∷ []) ∷
+    (movedRow (movesOf 16 exampleTables 3 0 0) is 0 ∷ 8 ∷ 4 ∷ 1 ∷ []) ∷
+    (movedRow (movesOf 16 exampleTables 4 0 0) is 0 ∷ 0 ∷ 0 ∷ 1 ∷ []) ∷
+    (invertedRow (inverseOf 16 exampleTables 9) is 0 ∷ 7 ∷ 3 ∷ []) ∷
+    -- weight 3, no cut; the most starts that a move may pass
+    (weight 12 uncut 3 ∷ countOf (balanced 2 12 uncut) ∷ [] is 3 ∷ 4 ∷ []) ∷
+    (countOf (balanced 2 15 fullest) ∷ [] is 5 ∷ []) ∷
+    (movedRow (moveOf 15 (tablesOf 15 (balanced 2 15 fullest)) 4 14) is 0 ∷ 7 ∷ 3 ∷ 3 ∷ []) ∷
+    -- accepted and refused lists
+    (checkedRow (checkOf 1 single) ++ (countOf (balanced 2 1 single) ∷ []) is 0 ∷ 1 ∷ []) ∷
+    (checkedRow (checkOf 4 (halves (2 ∷ 0 ∷ []))) is 0 ∷ []) ∷
+    (checkedRow (checkOf 4 (halves (0 ∷ 1 ∷ []))) is 6 ∷ 0 ∷ []) ∷
+    (checkedRow (checkOf 4 (halves (0 ∷ 3 ∷ []))) is 5 ∷ 1 ∷ []) ∷
+    (checkedRow (checkOf 4294967295 largest) ++ signedRow (shiftOf largest 1) is 0 ∷ 1 ∷ 4294967294 ∷ []) ∷
+    -- ψ: no cut at d 2; place 15, interval 4
+    (countOf (balanced 2 45 psi) ∷ [] is 13 ∷ []) ∷
+    (movedRow (moveOf 45 (tablesOf 45 (balanced 2 45 psi)) 4 15) is 0 ∷ 35 ∷ 10 ∷ 1 ∷ []) ∷
+    []
+
+pub keys-hold : map computed keys ≡ map given keys
+unfolding judge mapDone andThen unmatched disordered overruns overlap overlaps listTests checkTests checkOf misshapen outside unheld broken passed stepOf moveOf onwards movesOf sends sourceOf inverseOf cutting balanced
+keys-hold = refl

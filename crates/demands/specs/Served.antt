@@ -1,0 +1,44 @@
+-- The same calls served by tables (document 01, "Demand 3 is a single claim about the whole list of calls").
+use Prim.Native.Nat.{ℕ, zero, suc}
+use mathlib.Core.List.{List, [], _∷_}
+use Rattle.runs.specs.Outcome.{Outcome, done, refused}
+use Rattle.tables.specs.Tables.{Tables}
+use Rattle.tables.specs.Move.{findOf, moveOf, movesOf}
+use Rattle.tables.specs.Bookmark.{bookmarkOf, markAfter}
+use Rattle.tables.specs.declared.Step.{Step}
+use Rattle.tables.specs.declared.Bookmark.{Bookmark}
+use Rattle.demands.specs.Calls.{Call, find, move, moves, Reply, found, moved, Marking, marking}
+
+-- What a call leaves to the next: the place and the interval that it gave, "a find's place with the interval found, or
+-- after a refusal the ones before".
+abbrev pub placeAfter : Outcome Step → ℕ → ℕ
+placeAfter (done s) p = s .place
+placeAfter (refused k q) p = p
+
+abbrev pub intervalAfter : Outcome Step → ℕ → ℕ
+intervalAfter (done s) x = s .interval
+intervalAfter (refused k q) x = x
+
+abbrev pub placeFound : Outcome ℕ → ℕ → ℕ → ℕ
+placeFound (done y) i p = i
+placeFound (refused k q) i p = p
+
+abbrev pub intervalFound : Outcome ℕ → ℕ → ℕ
+intervalFound (done y) x = y
+intervalFound (refused k q) x = x
+
+module _ (n : ℕ) (t : Tables) where
+  unfoldable pub served : ℕ → ℕ → List Call → List Reply
+  served p x [] = []
+  served p x (find i ∷ cs) =
+      let a = findOf n t i in found a ∷ served (placeFound a i p) (intervalFound a x) cs
+  served p x (move ∷ cs) =
+      let a = moveOf n t x p in moved a ∷ served (placeAfter a p) (intervalAfter a x) cs
+  served p x (moves m ∷ cs) =
+      let a = movesOf n t m x p in moved a ∷ served (placeAfter a p) (intervalAfter a x) cs
+
+  -- "A bookmark's moves stand in a list of their own": k of them
+  unfoldable pub servedTrail : ℕ → Bookmark → List Marking
+  servedTrail zero b = []
+  servedTrail (suc k) b =
+      let a = bookmarkOf n t b in marking a (markAfter b a) ∷ servedTrail k (markAfter b a)

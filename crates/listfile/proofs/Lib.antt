@@ -1,0 +1,6 @@
+-- The laws that the proofs of this crate cite.
+mod Reading
+mod Writing
+mod Digits
+mod Signs
+mod Heading

@@ -1,0 +1,12 @@
+-- `is_negative` meets its contract: the bits of v have its sign.
+use Rattle.listfile.proofs.Signs.{bits-sign}
+use Rattle.listfile.proofs.text.is_negative.Statement.{statement}
+use Rattle.listfile.proofs.text.is_negative.Tie as tie
+use Rattle.listfile.proofs.text.is_negative.Reads as reads
+use Rattle.listfile.proofs.text.is_negative.Lts as lts
+
+returns : tie.Need-returns
+returns c = bits-sign _ (c .fits .v)
+
+pub is-negative-spec : {M : Type 1} → statement M
+is-negative-spec = tie.close (tie.spec returns)

@@ -1,0 +1,23 @@
+-- `put` meets its contract: a store is a text of one byte.
+use native.Mathlib.Omega.{arith}
+use Rattle.listfile.proofs.Writing.{wrote-byte}
+use borrow.Author.Needs.{needs}
+use Rattle.listfile.proofs.text.put.Statement.{statement}
+use Rattle.listfile.proofs.text.put.Tie as tie
+use Rattle.listfile.proofs.text.put.Reads as reads
+use Rattle.listfile.proofs.text.put.Lts as lts
+
+slice-write-page : tie.Need-slice-write-page
+slice-write-page c = search needs
+
+add-result : tie.Need-add-result
+add-result c = search needs
+
+same-length : tie.Need-same-length
+same-length c = search needs
+
+returns : tie.Need-returns
+returns c = wrote-byte _ _ _ (omega arith)
+
+pub put-spec : {M : Type 1} → statement M
+put-spec = tie.close (tie.spec slice-write-page add-result same-length returns)

@@ -1,0 +1,44 @@
+-- Laws of `judge`: more tests after the first ones, and what a passed or a refused list of tests says.
+use Prim.Native.Nat.{ℕ}
+use mathlib.Core.Path.{_≡_, refl, sym}
+use mathlib.Core.Bool.{Bool, true, false}
+use mathlib.Core.List.{List, [], _∷_, _++_}
+use native.Mathlib.Omega.{arith}
+use Rattle.runs.specs.Outcome.{Outcome, done, refused, Test, judge, andThen, _then_else_}
+
+-- what is done is not refused
+pub done-refused : {A : Type 0} (a : A) (k p : ℕ) → done a ≡ refused k p → ⊥
+done-refused a k p e = let z : _≡_ {A = ℕ} 0 1 = cc in omega arith
+
+-- more tests, after others that come to any result
+pub judge-append : {A B : Type 0} (ts us : List Test) (a : A) (b : B)
+    → judge (ts ++ us) b ≡ andThen (judge ts a) (λ _. judge us b)
+unfolding judge andThen
+judge-append [] us a b = refl
+judge-append (t ∷ ts) us a b = go (t .applies) (judge-append ts us a b)
+  where
+    go : (s : Bool) → judge (ts ++ us) b ≡ andThen (judge ts a) (λ _. judge us b)
+        → (s then refused (t .number) (t .place) else judge (ts ++ us) b)
+        ≡ andThen (s then refused (t .number) (t .place) else judge ts a) (λ _. judge us b)
+    go true i = refl
+    go false i = i
+
+-- the first test of a list that passes
+pub judge-first : {A : Type 0} (t : Test) (ts : List Test) (a b : A)
+    → done b ≡ judge (t ∷ ts) a → (t .applies ≡ false) × (done b ≡ judge ts a)
+unfolding judge
+judge-first t ts a b e = go (t .applies) e
+  where
+    go : (s : Bool) → done b ≡ (s then refused (t .number) (t .place) else judge ts a) → (s ≡ false) × (done b ≡ judge ts a)
+    go true e = absurd (done-refused b (t .number) (t .place) e)
+    go false e = (refl, e)
+
+-- what tests that pass give is the result, and that tests further on follow
+pub judge-done : {A : Type 0} (ts : List Test) (a b : A) → judge ts a ≡ done b → a ≡ b
+unfolding judge
+judge-done [] a b e = cc
+judge-done (t ∷ ts) a b e = judge-done ts a b (sym (judge-first t ts a b (sym e) .1))
+
+pub judge-on : {A : Type 0} (ts us : List Test) (a b : A) → judge ts a ≡ done b → judge (ts ++ us) a ≡ judge us a
+unfolding andThen
+judge-on ts us a b e = rw (judge-append ts us a a, e)

@@ -1,0 +1,161 @@
+-- Through the tables of a legal list, balanced or not, the walks give the list's function, its powers and its inverse,
+-- and the starts under an image are those of the definition; no call on a place below n is refused. A holder is the
+-- index of the run that has the image, so a walk from it passes the starts up to the place reached (Walks).
+use Prim.Native.Nat.{ℕ, zero, suc, _+_, _^_, _≤_, _<_}
+use mathlib.Core.Path.{_≡_, refl, sym, ap, _∙_}
+use mathlib.Core.Bool.{true, false}
+use mathlib.Core.List.{map}
+use native.Mathlib.Omega.{arith}
+use lib.ListN.{drop, length-map, List·getD-map}
+use lib.Dec.{leb}
+use borrow.Author.Tests.{le-leb, lt-ltb}
+use Rattle.order.specs.Order.{countBelow}
+use Rattle.runs.specs.Outcome.{done, refused, mapDone, andThen, judge}
+use Rattle.runs.specs.Search.{leading}
+use Rattle.runs.specs.Runs.{Runs, countOf, startOf, imageOf, endOf, runAt, mapOf, powerOf}
+use Rattle.runs.specs.Legal.{Legal}
+use Rattle.runs.proofs.Searches.{getD-default, first-only}
+use Rattle.runs.proofs.Legality.{homes, home, run-at}
+use Rattle.runs.proofs.Bijection.{map-below, map-onto}
+use Rattle.tables.specs.Tables.{tablesOf, holderOf, unheld, maxIntervals}
+use Rattle.tables.specs.Move.{passed, findOf, moveOf, movesOf, onwards}
+use Rattle.tables.specs.Inverse.{carryBack, sends, sourceOf, inverseOf}
+use Rattle.tables.specs.Under.{under, weight, underFirst, underCount, weightOf, stretch, startsUnderOf}
+use Rattle.tables.specs.Bookmark.{bookmarkOf}
+use Rattle.tables.specs.Function.{passedFrom, stepFrom, passedIn, stepsFrom}
+use Rattle.tables.specs.Passed.{Shaped, Located, advanceOf, markOf, stretchOf}
+use Rattle.tables.specs.declared.Bookmark.{Bookmark}
+use Rattle.tables.proofs.Passing.{fitting, shaped, held, whole}
+use Rattle.tables.proofs.Steps.{find-far, find-at, locate-in, move-located, advance-to}
+use Rattle.tables.proofs.Sources.{sends-is, inverse-from}
+use Rattle.tables.proofs.Stretches.{placed, weight-indexed}
+use Rattle.tables.proofs.Marks.{unspent, mark-on, bookmark-on}
+use Rattle.tables.proofs.Walks.{walk-passed, walk-count, above-to, map-in, under-first, under-count, under-is}
+
+module _ (n : ℕ) (r : Runs) (c : Legal n r) (few : countOf r ≤ maxIntervals) where
+  shape : Shaped n (tablesOf n r)
+  shape =
+      let e = sym (c .paired) in
+      shaped n (tablesOf n r) _ refl
+      (fitting n (tablesOf n r) (omega (arith, c .below 0 (c .some))) (c .some) e (e ∙ sym (length-map (r .images) (runAt n r))) few)
+
+  -- the run that has a place
+  own : (p : ℕ) → p < n → (runAt n r p < countOf r) × (startOf r (runAt n r p) ≤ p) × (p < endOf n r (runAt n r p))
+  own p h = let x = home n r (homes n r c) p h in rw (run-at n r (homes n r c) (x .0) p (x .1) (x .2) (x .3)) (x .1, x .2, x .3)
+
+  pub legal-located : (p : ℕ) → p < n → Located n (tablesOf n r) (runAt n r p) p
+  legal-located p h = let x = own p h in record { shape = shape; index = x .0; place = h; low = x .1; high = x .2 }
+
+  module _ (x : ℕ) (h : x < countOf r) where
+    image-below : imageOf r x < n
+    image-below = omega (arith, homes n r c .lasting x h, c .within x h)
+
+    pub holder-is : holderOf (tablesOf n r) x ≡ runAt n r (imageOf r x)
+    holder-is =
+        getD-default (map (runAt n r) (r .images)) x 0 (runAt n r 0) (omega (arith, length-map (r .images) (runAt n r), c .paired))
+        ∙ List·getD-map (runAt n r) (r .images) x 0
+
+    legal-held : unheld (tablesOf n r) x ≡ false
+    legal-held = let y = own (imageOf r x) image-below in held (tablesOf n r) x (rw holder-is (y .0)) (rw holder-is (y .1))
+
+  -- find gives the run that has the place
+  pub legal-find : (p : ℕ) → p < n → findOf n (tablesOf n r) p ≡ done (runAt n r p)
+  legal-find p h =
+      let z : runAt n r 0 ≡ 0 = run-at n r (homes n r c) 0 0 (c .some) (omega (arith, c .first)) (omega (arith, homes n r c .lasting 0 (c .some))) in
+      let w = rw z at (walk-passed n r (homes n r c) 0 p (omega arith) h) in
+      sym (find-at n (tablesOf n r) p shape h (omega (arith, c .first)) (runAt n r p) (omega arith))
+
+  pub legal-find-beyond : (i : ℕ) → n ≤ i → findOf n (tablesOf n r) i ≡ refused 11 i
+  legal-find-beyond i h = sym (find-far n (tablesOf n r) i shape h)
+
+  -- a move gives the function's value, the run that has it, and the starts above the image and not above it
+  module _ (p : ℕ) (h : p < n) where
+    legal-passed : leading (λ s. leb s (mapOf n r p)) (drop (suc (runAt n r (imageOf r (runAt n r p)))) (r .starts)) ≡ passedFrom n r p
+    legal-passed =
+        let i = imageOf r (runAt n r p) in
+        let j = map-in n r c p h in
+        omega (arith, walk-passed n r (homes n r c) i (mapOf n r p) (j .0) (j .2), walk-count n r (homes n r c) i (mapOf n r p) (j .0) (j .2), above-to i (mapOf n r p) (r .starts))
+
+    legal-interval : runAt n r (imageOf r (runAt n r p)) + passedFrom n r p ≡ runAt n r (mapOf n r p)
+    legal-interval =
+        let i = imageOf r (runAt n r p) in
+        let j = map-in n r c p h in
+        omega (arith, walk-passed n r (homes n r c) i (mapOf n r p) (j .0) (j .2), legal-passed)
+
+    legal-advance : advanceOf n (tablesOf n r) (runAt n r p) p ≡ done (stepFrom n r p)
+    legal-advance =
+        let x = own p h .0 in
+        let b = whole n (tablesOf n r) (runAt n r p) p (legal-held (runAt n r p) x) (map-in n r c p h .2) in
+        sym (advance-to n (tablesOf n r) (runAt n r p) p b (runAt n r (imageOf r (runAt n r p))) (mapOf n r p) (passedFrom n r p) (sym (holder-is (runAt n r p) x)) refl (sym legal-passed))
+        ∙ ap (λ (y : ℕ). done (record { place = mapOf n r p; interval = y; count = passedFrom n r p })) legal-interval
+
+    pub legal-move : moveOf n (tablesOf n r) (runAt n r p) p ≡ done (stepFrom n r p)
+    legal-move = move-located n (tablesOf n r) (runAt n r p) p (legal-located p h) ∙ legal-advance
+
+  -- repeated moves give the m-fold function, the run that has its value, and the sum of the counts
+  pub power-below : (m p : ℕ) → p < n → powerOf n r m p < n
+  unfolding powerOf
+  power-below zero p h = h
+  power-below (suc m) p h = map-below n r c (powerOf n r m p) (power-below m p h)
+
+  pub legal-moves : (m p : ℕ) → p < n → movesOf n (tablesOf n r) m (runAt n r p) p ≡ done (stepsFrom n r m p)
+  unfolding movesOf onwards andThen mapDone powerOf passedIn
+  legal-moves zero p h = sym (locate-in n (tablesOf n r) (runAt n r p) p (legal-located p h))
+  legal-moves (suc m) p h = rw (legal-moves m p h, legal-move (powerOf n r m p) (power-below m p h))
+
+  -- a bookmark that stands in the run that has its place makes that move, but for 13
+  pub legal-bookmark : (b : Bookmark) → b .place < n → b .interval ≡ runAt n r (b .place)
+      → bookmarkOf n (tablesOf n r) b ≡ markOf b (stepFrom n r (b .place))
+  legal-bookmark b h e =
+      let m : moveOf n (tablesOf n r) (b .interval) (b .place) ≡ done (stepFrom n r (b .place)) = rw e (legal-move (b .place) h) in
+      sym (bookmark-on n (tablesOf n r) b (stepFrom n r (b .place)) (sym m))
+
+  pub legal-bookmark-on : (b : Bookmark) → b .place < n → b .interval ≡ runAt n r (b .place)
+      → b .moves + 1 < 2 ^ 32 → b .passed + passedFrom n r (b .place) < 2 ^ 64
+      → bookmarkOf n (tablesOf n r) b ≡ done (stepFrom n r (b .place))
+  legal-bookmark-on b h e l m = legal-bookmark b h e ∙ sym (mark-on b (stepFrom n r (b .place)) _ refl (unspent b (stepFrom n r (b .place)) l m))
+
+  -- inverse gives the place that comes to j, and the run that has it
+  sends-own : (p : ℕ) → p < n → sends n r (mapOf n r p) (runAt n r p) ≡ true
+  unfolding sends
+  sends-own p h =
+      let x = own p h in
+      simp (le-leb _ _ (map-in n r c p h .0), lt-ltb (carryBack r (runAt n r p) (mapOf n r p)) (endOf n r (runAt n r p)) (omega arith))
+
+  source-own : (p : ℕ) → p < n → runAt n r p ≡ sourceOf n r (mapOf n r p)
+  unfolding sourceOf
+  source-own p h =
+      let x = own p h in
+      let i = map-in n r c p h in
+      sym
+      (first-only (sends n r (mapOf n r p)) (countOf r) (runAt n r p) (x .0) (sends-own p h)
+      (λ y l e. let j = sends-is n r (mapOf n r p) y e in c .apart y (runAt n r p) (mapOf n r p) l (x .0) (j .0) (omega arith) (i .0) (i .1)))
+
+  pub legal-inverse : (p : ℕ) → p < n → inverseOf n (tablesOf n r) (mapOf n r p) ≡ done (record { place = p; interval = runAt n r p })
+  legal-inverse p h =
+      let x = own p h in
+      let z : carryBack r (runAt n r p) (mapOf n r p) ≡ p = omega arith in
+      sym (inverse-from n (tablesOf n r) (mapOf n r p) shape (map-in n r c p h .2) (runAt n r p) (source-own p h) (x .0))
+      ∙ ap (λ (q : ℕ). done (record { place = q; interval = runAt n r p })) z
+
+  pub legal-preimage : (j : ℕ) → j < n
+      → (p : ℕ) × (p < n) × (mapOf n r p ≡ j) × (inverseOf n (tablesOf n r) j ≡ done (record { place = p; interval = runAt n r p }))
+  legal-preimage j h =
+      let q = map-onto n r c j h in
+      (q .0, q .1, q .2, rw (q .2) at (legal-inverse (q .0) (q .1)))
+
+  -- the starts under an image are the definition's, and the weight their number
+  module _ (x : ℕ) (h : x < countOf r) where
+    legal-first : underFirst (tablesOf n r) x ≡ countBelow (imageOf r x) (r .starts)
+    unfolding underFirst
+    legal-first = rw (holder-is x h) (under-first n r c x h)
+
+    pub legal-weight : weightOf n (tablesOf n r) x ≡ done (weight n r x)
+    unfolding stretchOf underCount judge
+    legal-weight =
+        let p = placed n (tablesOf n r) x (legal-held x h) (homes n r c .lasting x h) (c .within x h) in
+        weight-indexed n (tablesOf n r) x (record { shape = shape; index = h }) ∙ simp (p, legal-first) (ap done (under-count n r c x))
+
+    pub legal-under : startsUnderOf n (tablesOf n r) x ≡ under n r x
+    unfolding startsUnderOf stretch
+    legal-under = rw (legal-weight, legal-first) (sym (under-is n r c x))

@@ -1,0 +1,80 @@
+-- A bookmark's move is a move with test 13 after it; a refusal leaves the bookmark as it was.
+use Prim.Native.Nat.{ℕ, _+_, _-_, _^_, _≤_, _<_}
+use mathlib.Core.Path.{_≡_, sym, ap, _∙_}
+use mathlib.Core.Bool.{Bool, true, false}
+use mathlib.Core.Logic.{_⊎_, inl, inr}
+use native.Mathlib.Omega.{arith}
+use lib.Dec.{leb, ltb}
+use borrow.Author.Tests.{lt-ltb, le-ltb, le-leb, lt-leb, leb-false}
+use Rattle.order.proofs.Laws.{lt-or-le}
+use Rattle.runs.specs.Outcome.{Outcome, done, refused, judge, andThen}
+use Rattle.runs.proofs.Judging.{judge-append, judge-done}
+use Rattle.tables.specs.Tables.{Tables}
+use Rattle.tables.specs.Move.{stepOf, moveOf, moveTests}
+use Rattle.tables.specs.Bookmark.{spent, bookmarkOf, markAfter}
+use Rattle.tables.specs.Passed.{markOf}
+use Rattle.tables.specs.declared.Step.{Step}
+use Rattle.tables.specs.declared.Bookmark.{Bookmark}
+use Rattle.tables.proofs.Passing.{or-left, or-right}
+
+-- 13
+module _ (b : Bookmark) (s : Step) where
+  pub spent-moves : b .moves ≡ 4294967295 → true ≡ spent b s
+  unfolding spent
+  spent-moves e = simp (le-leb 4294967296 (b .moves + 1) (omega arith))
+
+  -- the code asks whether the rest of 64 bits is too little, so that no sum wraps
+  pub spent-passed : b .moves < 4294967295 → s .count < 18446744073709551616
+      → ltb (18446744073709551615 - s .count) (b .passed) ≡ spent b s
+  unfolding spent
+  spent-passed l m = simp (lt-leb 4294967296 (b .moves + 1) (omega arith)) (go (lt-or-le (18446744073709551615 - s .count) (b .passed)))
+    where
+      go : (18446744073709551615 - s .count < b .passed) ⊎ (b .passed ≤ 18446744073709551615 - s .count)
+          → ltb (18446744073709551615 - s .count) (b .passed) ≡ leb 18446744073709551616 (b .passed + s .count)
+      go (inl h) = rw (lt-ltb _ _ h, le-leb 18446744073709551616 (b .passed + s .count) (omega arith))
+      go (inr h) = rw (le-ltb _ _ h, lt-leb 18446744073709551616 (b .passed + s .count) (omega arith))
+
+  pub unspent : b .moves + 1 < 2 ^ 32 → b .passed + s .count < 2 ^ 64 → spent b s ≡ false
+  unfolding spent
+  unspent l m = simp (lt-leb _ _ l, lt-leb _ _ m)
+
+  module _ (t : Bool) (e : t ≡ spent b s) where
+    pub room : t ≡ false → (b .moves + 1 < 4294967296) × (b .passed + s .count < 18446744073709551616)
+    unfolding spent
+    room f =
+        let g = sym e ∙ f in
+        (leb-false 4294967296 (b .moves + 1) (or-left (leb 4294967296 (b .moves + 1)) _ g), leb-false 18446744073709551616 (b .passed + s .count) (or-right (leb 4294967296 (b .moves + 1)) _ g))
+
+    pub mark-spent : t ≡ true → refused 13 0 ≡ markOf b s
+    unfolding markOf judge
+    mark-spent f = simp (sym e ∙ f)
+
+    pub mark-on : t ≡ false → done s ≡ markOf b s
+    unfolding markOf judge
+    mark-on f = simp (sym e ∙ f)
+
+-- the bookmark that comes back
+pub after-refused : (b : Bookmark) (o : Outcome Step) (k p : ℕ) → refused k p ≡ o → b ≡ markAfter b o
+unfolding markAfter
+after-refused b o k p e = rw (← e)
+
+pub after-done : (b : Bookmark) (o : Outcome Step) (s : Step) → done s ≡ o
+    → record { place = s .place; interval = s .interval; moves = b .moves + 1; passed = b .passed + s .count } ≡ markAfter b o
+unfolding markAfter
+after-done b o s e = rw (← e)
+
+-- a bookmark's move is a move, and what is left of it
+module _ (n : ℕ) (t : Tables) (b : Bookmark) where
+  bookmark-is : bookmarkOf n t b ≡ andThen (moveOf n t (b .interval) (b .place)) (λ _. markOf b (stepOf t (b .interval) (b .place)))
+  unfolding bookmarkOf moveOf markOf
+  bookmark-is = judge-append (moveTests n t (b .interval) (b .place)) _ _ _
+
+  pub bookmark-refused : (k p : ℕ) → refused k p ≡ moveOf n t (b .interval) (b .place) → refused k p ≡ bookmarkOf n t b
+  unfolding andThen
+  bookmark-refused k p e = rw (bookmark-is, ← e)
+
+  pub bookmark-on : (s : Step) → done s ≡ moveOf n t (b .interval) (b .place) → markOf b s ≡ bookmarkOf n t b
+  unfolding moveOf andThen
+  bookmark-on s e =
+      let z = judge-done (moveTests n t (b .interval) (b .place)) (stepOf t (b .interval) (b .place)) s (sym e) in
+      rw (bookmark-is, ← e) (ap (markOf b) (sym z))

@@ -1,0 +1,195 @@
+-- After a move the place lies in the interval reached; so a repeated move is a loop over the step, which can only meet
+-- 12 on the way.
+use Prim.Native.Nat.{ℕ, zero, suc, _+_, _*_, _≤_, _<_}
+use mathlib.Core.Path.{_≡_, refl, sym, ap, _∙_}
+use mathlib.Core.Bool.{Bool, true, false}
+use mathlib.Core.Logic.{_⊎_, inl, inr}
+use mathlib.Core.List.{List, []}
+use native.Mathlib.Numerals.{add-one}
+use native.Mathlib.Omega.{arith}
+use lib.ListN.{length, getD, drop, length-drop, List·getD-eq-default}
+use lib.Seq.{getD-drop}
+use lib.Dec.{leb}
+use borrow.Author.Tests.{leb-true, leb-false}
+use Rattle.order.proofs.Laws.{lt-or-le}
+use Rattle.runs.proofs.Searches.{getD-default}
+use Rattle.runs.specs.Outcome.{Outcome, done, refused, judge, mapDone, andThen, _then_else_}
+use Rattle.runs.specs.Search.{leading}
+use Rattle.runs.specs.Runs.{carry}
+use Rattle.tables.specs.Tables.{Tables, holderOf, maxIntervals, unheld, broken, brokenTest}
+use Rattle.tables.specs.Move.{passed, stepOf, moveOf, movesOf, counted, onwards}
+use Rattle.tables.specs.Passed.{Shaped, Located, advanceOf}
+use Rattle.tables.specs.declared.Step.{Step}
+use Rattle.runs.proofs.Judging.{done-refused, judge-first}
+use Rattle.tables.proofs.Leading.{leading-within, leading-last, leading-next}
+use Rattle.tables.proofs.Passing.{whole-is, held-is}
+use Rattle.tables.proofs.Steps.{locate-in, located, move-located}
+
+-- where the walk from interval h to place j ends
+module _ (l : List ℕ) (h j : ℕ) (i : h < length l) where
+  reached-index : h + passed l h j < length l
+  unfolding passed
+  reached-index = omega (arith, leading-within (λ s. leb s j) l (suc h) i)
+
+  reached-low : getD l h 0 ≤ j → getD l (h + passed l h j) 0 ≤ j
+  unfolding passed
+  reached-low b = go (leading (λ s. leb s j) (drop (suc h) l)) refl
+    where
+      go : (c : ℕ) → leading (λ s. leb s j) (drop (suc h) l) ≡ c → getD l (h + c) 0 ≤ j
+      go zero e = let z : h + 0 ≡ h = omega arith in rw z b
+      go (suc c) e =
+          let z : h + suc c ≡ suc h + c = omega arith in
+          rw (z, ← getD-drop) (leb-true _ j (leading-last (λ s. leb s j) (drop (suc h) l) c e))
+
+  reached-high : (n : ℕ) → j < n → j < getD l (suc (h + passed l h j)) n
+  unfolding passed
+  reached-high n b = go (lt-or-le (suc (h + leading (λ s. leb s j) (drop (suc h) l))) (length l))
+    where
+      go : (suc (h + leading (λ s. leb s j) (drop (suc h) l)) < length l) ⊎ (length l ≤ suc (h + leading (λ s. leb s j) (drop (suc h) l)))
+          → j < getD l (suc (h + leading (λ s. leb s j) (drop (suc h) l))) n
+      go (inl k) =
+          let c = leading (λ s. leb s j) (drop (suc h) l) in
+          let z : suc (h + c) ≡ suc h + c = omega arith in
+          let f = leading-next (λ s. leb s j) (drop (suc h) l) (omega (arith, length-drop (suc h) l)) in
+          rw (getD-default l (suc (h + c)) n 0 k, z, ← getD-drop) (leb-false _ j f)
+      go (inr k) = rw (List·getD-eq-default l n k) b
+
+-- a step that was made
+module _ (n : ℕ) (t : Tables) (x i : ℕ) (s : Step) (e : done s ≡ advanceOf n t x i) where
+  step-is : (unheld t x ≡ false) × (carry (t .list) x i < n) × (s ≡ stepOf t x i)
+  unfolding advanceOf judge
+  step-is =
+      let f = judge-first (brokenTest n t x i) [] (stepOf t x i) s e in
+      let w = whole-is n t x i (f .0) in
+      (w .0, w .1, cc)
+
+  -- it ends in the interval reached
+  pub step-located : Located n t x i → Located n t (s .interval) (s .place)
+  unfolding stepOf
+  step-located l =
+      let w = step-is in
+      let h = held-is t x (w .0) in
+      let k = carry (t .list) x i in
+      rw (w .2) (record {
+        shape = l .shape;
+        index = reached-index (t .list .starts) (holderOf t x) k (h .0);
+        place = w .1;
+        low = reached-low (t .list .starts) (holderOf t x) k (h .0) (omega arith);
+        high = reached-high (t .list .starts) (holderOf t x) k (h .0) n (w .1);
+      })
+
+  pub step-count : Shaped n t → s .count ≤ maxIntervals
+  unfolding stepOf
+  step-count f =
+      let w = step-is in
+      let h = held-is t x (w .0) in
+      omega (arith, ap (λ (s : Step). s .count) (w .2), reached-index (t .list .starts) (holderOf t x) (carry (t .list) x i) (h .0))
+
+-- one move more
+moves-more : (n : ℕ) (t : Tables) (k x i : ℕ) (a : Outcome Step)
+    → a ≡ movesOf n t k x i → movesOf n t (k + 1) x i ≡ andThen a (onwards n t)
+unfolding movesOf
+moves-more n t k x i a e = rw (add-one, e)
+
+-- a refusal stays
+pub moves-refused : (n : ℕ) (t : Tables) (k m x i p q : ℕ) → k ≤ m → refused p q ≡ movesOf n t k x i → refused p q ≡ movesOf n t m x i
+unfolding movesOf andThen
+moves-refused n t k zero x i p q l e = let z : k ≡ 0 = omega arith in rw z at e
+moves-refused n t k (suc m) x i p q l e = go (lt-or-le m k) (moves-refused n t k m x i p q)
+  where
+    go : (m < k) ⊎ (k ≤ m) → (k ≤ m → refused p q ≡ movesOf n t k x i → refused p q ≡ movesOf n t m x i)
+        → refused p q ≡ movesOf n t (suc m) x i
+    go (inl h) r = let z : k ≡ suc m = omega arith in rw z at e
+    go (inr h) r = rw (← r h e)
+
+-- the state of a repeated move after some of its m moves
+pub record Walking (n : ℕ) (t : Tables) (x i m place interval count made : ℕ) : Type 0 where
+  pub within : made ≤ m
+  pub here : Located n t interval place
+  pub said : done (record { place = place; interval = interval; count = count }) ≡ movesOf n t made x i
+  pub small : count ≤ made * maxIntervals
+
+pub walking-start : (n : ℕ) (t : Tables) (x i m : ℕ) → Located n t x i → Walking n t x i m i x 0 0
+walking-start n t x i m l = record { within = omega arith; here = l; said = locate-in n t x i l; small = omega arith }
+
+module _ (n : ℕ) (t : Tables) (x i m place interval count made : ℕ) (w : Walking n t x i m place interval count made) where
+  next-move : (a : Outcome Step) → a ≡ advanceOf n t interval place → mapDone (counted count) a ≡ movesOf n t (made + 1) x i
+  unfolding onwards andThen
+  next-move a e = ap (mapDone (counted count)) (e ∙ sym (move-located n t interval place (w .here))) ∙ sym (moves-more n t made x i _ (w .said))
+
+  module _ (s : Step) (e : done s ≡ advanceOf n t interval place) (l : made < m) where
+    pub walking-sum : count + s .count ≤ (made + 1) * maxIntervals
+    walking-sum = omega (arith, w .small, step-count n t interval place s e (w .here .shape))
+
+    pub walking-more : Walking n t x i m (s .place) (s .interval) (count + s .count) (made + 1)
+    unfolding mapDone
+    walking-more =
+        record {
+          within = omega arith;
+          here = step-located n t interval place s e (w .here);
+          said = next-move (done s) e;
+          small = walking-sum;
+        }
+
+  pub walking-refused : (p q : ℕ) → refused p q ≡ advanceOf n t interval place → made < m → refused p q ≡ movesOf n t m x i
+  unfolding mapDone
+  walking-refused p q e l = moves-refused n t (made + 1) m x i p q (omega arith) (next-move (refused p q) e)
+
+  pub walking-end : m ≤ made → done (record { place = place; interval = interval; count = count }) ≡ movesOf n t m x i
+  walking-end l = let z : made ≡ m = omega (arith, w .within) in rw z at (w .said)
+
+-- where a repeated move stopped: after some moves, at an interval that is broken, with 12 and that interval
+pub record Stopped (n : ℕ) (t : Tables) (m x i number place : ℕ) : Type 0 where
+  pub made : ℕ
+  pub fewer : made < m
+  pub step : Step
+  pub so-far : movesOf n t made x i ≡ done step
+  pub twelve : number ≡ 12
+  pub there : place ≡ step .interval
+  pub cause : broken n t (step .interval) (step .place) ≡ true
+
+module _ (n : ℕ) (t : Tables) (x i : ℕ) (l : Located n t x i) where
+  -- on the way the place lies in its interval
+  pub moves-located : (m : ℕ) (s : Step) → movesOf n t m x i ≡ done s → Located n t (s .interval) (s .place)
+  unfolding movesOf andThen onwards mapDone
+  moves-located zero s e = let z : record { place = i; interval = x; count = 0 } ≡ s = cc (locate-in n t x i l) in rw (← z) l
+  moves-located (suc m) s e = go (movesOf n t m x i) refl e (moves-located m)
+    where
+      next : (a : Step) → Located n t (a .interval) (a .place) → (o : Outcome Step) → o ≡ advanceOf n t (a .interval) (a .place)
+          → mapDone (counted (a .count)) o ≡ done s → Located n t (s .interval) (s .place)
+      next a k (done b) f g = let z : counted (a .count) b ≡ s = cc in rw (← z) (step-located n t (a .interval) (a .place) b f k)
+      next a k (refused p q) f g = absurd (done-refused s p q (sym g))
+
+      go : (o : Outcome Step) → movesOf n t m x i ≡ o → andThen o (onwards n t) ≡ done s
+          → ((a : Step) → movesOf n t m x i ≡ done a → Located n t (a .interval) (a .place)) → Located n t (s .interval) (s .place)
+      go (done a) f g r = next a (r a f) (moveOf n t (a .interval) (a .place)) (move-located n t (a .interval) (a .place) (r a f)) g
+      go (refused p q) f g r = absurd (done-refused s p q (sym g))
+
+  -- a repeated move is refused by 12 alone
+  pub moves-stopped : (m p q : ℕ) → movesOf n t m x i ≡ refused p q → Stopped n t m x i p q
+  unfolding movesOf andThen onwards mapDone advanceOf judge
+  moves-stopped zero p q e = absurd (done-refused _ p q (locate-in n t x i l ∙ e))
+  moves-stopped (suc m) p q e = go (movesOf n t m x i) refl e (moves-stopped m)
+    where
+      at : (a : Step) → movesOf n t m x i ≡ done a → (b : Bool) → broken n t (a .interval) (a .place) ≡ b
+          → mapDone (counted (a .count)) (b then refused 12 (a .interval) else done (stepOf t (a .interval) (a .place))) ≡ refused p q
+          → Stopped n t (suc m) x i p q
+      at a f true g h =
+          let z : refused 12 (a .interval) ≡ refused p q = h in
+          record { made = m; fewer = omega arith; step = a; so-far = f; twelve = cc; there = cc; cause = g }
+      at a f false g h = absurd (done-refused _ p q h)
+
+      go : (o : Outcome Step) → movesOf n t m x i ≡ o → andThen o (onwards n t) ≡ refused p q
+          → ((p q : ℕ) → movesOf n t m x i ≡ refused p q → Stopped n t m x i p q) → Stopped n t (suc m) x i p q
+      go (done a) f g r = at a f (broken n t (a .interval) (a .place)) refl (ap (mapDone (counted (a .count))) (sym (move-located n t (a .interval) (a .place) (moves-located m a f))) ∙ g)
+      go (refused v w) f g r =
+          let s = r p q (f ∙ g) in
+          record { made = s .made; fewer = omega arith; step = s .step; so-far = s .so-far; twelve = s .twelve; there = s .there; cause = s .cause }
+
+-- so a refused repeated move is refused by its first tests, or with 12
+pub moves-order : (n : ℕ) (t : Tables) (m x i p q : ℕ) → movesOf n t m x i ≡ refused p q → (movesOf n t 0 x i ≡ refused p q) ⊎ (p ≡ 12)
+moves-order n t m x i p q e = go (movesOf n t 0 x i) refl
+  where
+    go : (o : Outcome Step) → movesOf n t 0 x i ≡ o → (movesOf n t 0 x i ≡ refused p q) ⊎ (p ≡ 12)
+    go (done s) f = inr (moves-stopped n t x i (located n t x i s (sym f)) m p q e .twelve)
+    go (refused v w) f = inl (f ∙ moves-refused n t 0 m x i v w (omega arith) (sym f) ∙ e)

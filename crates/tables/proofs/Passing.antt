@@ -1,0 +1,104 @@
+-- The tests of 9 to 12 and the facts that they stand for.
+use Prim.Native.Nat.{ℕ, _≤_, _<_}
+use mathlib.Core.Path.{_≡_, refl, sym, _∙_}
+use mathlib.Core.Bool.{Bool, true, false, not, _||_, true≢false}
+use native.Mathlib.Omega.{arith}
+use lib.ListN.{length}
+use lib.Dec.{leb, ltb, eqb}
+use borrow.Author.Tests.{lt-ltb, le-ltb, le-leb, lt-leb, ltb-false, leb-false, eq-eqb, ne-eqb, eqb-true, eqb-false, not-false}
+use Rattle.runs.specs.Runs.{startOf, imageOf, endOf, carry}
+use Rattle.tables.specs.Tables.{Tables, sizeOf, holderOf, maxIntervals, misshapen, outside, unheld, broken}
+use Rattle.tables.specs.Passed.{Shaped}
+
+pub or-left : (a b : Bool) → (a || b) ≡ false → a ≡ false
+or-left true b e = e
+or-left false b e = refl
+
+pub or-right : (a b : Bool) → (a || b) ≡ false → b ≡ false
+or-right true b e = absurd (true≢false e)
+or-right false b e = e
+
+-- 9 passed
+pub shaped : (n : ℕ) (t : Tables) (b : Bool) → b ≡ misshapen n t → b ≡ false → Shaped n t
+unfolding misshapen
+shaped n t b q f =
+    let e : misshapen n t ≡ false = sym q ∙ f in
+    let e₁ = or-right (eqb n 0) _ e in
+    let e₂ = or-right (eqb (sizeOf t) 0) _ e₁ in
+    let e₃ = or-right (not (eqb (sizeOf t) (length (t .list .images)))) _ e₂ in
+    let e₄ = or-right (not (eqb (sizeOf t) (length (t .holders)))) _ e₃ in
+    record {
+      fits = e;
+      places = omega (arith, eqb-false n 0 (or-left (eqb n 0) _ e));
+      some = omega (arith, eqb-false (sizeOf t) 0 (or-left (eqb (sizeOf t) 0) _ e₁));
+      few = ltb-false maxIntervals (sizeOf t) e₄;
+      imaged = sym (eqb-true (sizeOf t) _ (not-false _ (or-left (not (eqb (sizeOf t) (length (t .list .images)))) _ e₂)));
+      held = sym (eqb-true (sizeOf t) _ (not-false _ (or-left (not (eqb (sizeOf t) (length (t .holders)))) _ e₃)));
+    }
+
+pub fitting : (n : ℕ) (t : Tables) → 0 < n → 0 < sizeOf t → sizeOf t ≡ length (t .list .images) → sizeOf t ≡ length (t .holders)
+    → sizeOf t ≤ maxIntervals → misshapen n t ≡ false
+unfolding misshapen
+fitting n t a b c d e = simp (ne-eqb n 0 (λ z. omega arith), ne-eqb (sizeOf t) 0 (λ z. omega arith), eq-eqb _ _ c, eq-eqb _ _ d, le-ltb _ _ e)
+
+module _ (n : ℕ) (t : Tables) (x i : ℕ) where
+  -- 11
+  pub outside-far : n ≤ i → outside n t x i ≡ true
+  unfolding outside
+  outside-far h = simp (le-leb _ _ h)
+
+  pub outside-low : i < n → i < startOf (t .list) x → outside n t x i ≡ true
+  unfolding outside
+  outside-low h l = simp (lt-leb _ _ h, lt-ltb _ _ l)
+
+  pub outside-high : i < n → startOf (t .list) x ≤ i → endOf n (t .list) x ≤ i → outside n t x i ≡ true
+  unfolding outside
+  outside-high h l e = simp (lt-leb _ _ h, le-ltb _ _ l, le-leb _ _ e)
+
+  pub inside : i < n → startOf (t .list) x ≤ i → i < endOf n (t .list) x → outside n t x i ≡ false
+  unfolding outside
+  inside h l e = simp (lt-leb _ _ h, le-ltb _ _ l, lt-leb _ _ e)
+
+  pub inside-is : outside n t x i ≡ false → (i < n) × (startOf (t .list) x ≤ i) × (i < endOf n (t .list) x)
+  unfolding outside
+  inside-is e =
+      let o = or-right (leb n i) _ e in (
+        leb-false n i (or-left (leb n i) _ e),
+        ltb-false i _ (or-left (ltb i (startOf (t .list) x)) _ o),
+        leb-false _ i (or-right (ltb i (startOf (t .list) x)) _ o),
+      )
+
+  -- 12 for a move
+  pub broken-unheld : unheld t x ≡ true → broken n t x i ≡ true
+  unfolding broken
+  broken-unheld h = simp h
+
+  pub broken-far : unheld t x ≡ false → n ≤ carry (t .list) x i → broken n t x i ≡ true
+  unfolding broken
+  broken-far h l = simp (h, le-leb _ _ l)
+
+  pub whole : unheld t x ≡ false → carry (t .list) x i < n → broken n t x i ≡ false
+  unfolding broken
+  whole h l = simp (h, lt-leb _ _ l)
+
+  pub whole-is : broken n t x i ≡ false → (unheld t x ≡ false) × (carry (t .list) x i < n)
+  unfolding broken
+  whole-is e = (or-left (unheld t x) _ e, leb-false _ _ (or-right (unheld t x) _ e))
+
+-- the holder's part of 12
+module _ (t : Tables) (x : ℕ) where
+  pub unheld-index : sizeOf t ≤ holderOf t x → unheld t x ≡ true
+  unfolding unheld
+  unheld-index h = simp (le-leb _ _ h)
+
+  pub unheld-start : holderOf t x < sizeOf t → unheld t x ≡ ltb (imageOf (t .list) x) (startOf (t .list) (holderOf t x))
+  unfolding unheld
+  unheld-start h = simp (lt-leb _ _ h)
+
+  pub held-is : unheld t x ≡ false → (holderOf t x < sizeOf t) × (startOf (t .list) (holderOf t x) ≤ imageOf (t .list) x)
+  unfolding unheld
+  held-is e = (leb-false _ _ (or-left (leb (sizeOf t) (holderOf t x)) _ e), ltb-false _ _ (or-right (leb (sizeOf t) (holderOf t x)) _ e))
+
+  pub held : holderOf t x < sizeOf t → startOf (t .list) (holderOf t x) ≤ imageOf (t .list) x → unheld t x ≡ false
+  unfolding unheld
+  held h l = simp (lt-leb _ _ h, le-ltb _ _ l)

@@ -1,0 +1,88 @@
+-- What find and a move come to, by the facts that their tests show; and that after a move the place lies in the
+-- interval reached.
+use Prim.Native.Nat.{ℕ, suc, _+_, _≤_, _<_}
+use mathlib.Core.Path.{_≡_, refl, sym, _∙_}
+use mathlib.Core.Bool.{Bool, true, false}
+use mathlib.Core.List.{[], _∷_}
+use lib.ListN.{drop}
+use lib.Dec.{leb}
+use borrow.Author.Tests.{lt-ltb, le-ltb, le-leb, lt-leb, leb-false}
+use Rattle.runs.specs.Outcome.{done, refused, judge, andThen}
+use Rattle.runs.specs.Search.{leading}
+use Rattle.runs.specs.Runs.{startOf, carry}
+use Rattle.tables.specs.Tables.{Tables, sizeOf, holderOf, misshapen, outside, broken, shapeTest, indexTest, placeTest, brokenTest}
+use Rattle.tables.specs.Move.{passed, findOf, stepOf, moveOf, movesOf, locateTests}
+use Rattle.tables.specs.Passed.{Shaped, Located, advanceOf}
+use Rattle.tables.specs.declared.Step.{Step}
+use Rattle.runs.proofs.Judging.{judge-append, judge-first}
+use Rattle.tables.proofs.Passing.{shaped, inside, inside-is}
+
+-- find
+module _ (n : ℕ) (t : Tables) (i : ℕ) where
+  pub find-shape : (b : Bool) → b ≡ misshapen n t → b ≡ true → refused 9 0 ≡ findOf n t i
+  unfolding findOf judge
+  find-shape b q e = simp (sym q ∙ e)
+
+  module _ (s : Shaped n t) where
+    pub find-far : n ≤ i → refused 11 i ≡ findOf n t i
+    unfolding findOf judge
+    find-far h = simp (s .fits, le-leb _ _ h)
+
+    pub find-low : i < n → i < startOf (t .list) 0 → refused 11 i ≡ findOf n t i
+    unfolding findOf judge
+    find-low h l = simp (s .fits, lt-leb _ _ h, lt-ltb _ _ l)
+
+    pub find-at : i < n → startOf (t .list) 0 ≤ i → (x : ℕ) → x ≡ leading (λ s. leb s i) (drop 1 (t .list .starts)) → done x ≡ findOf n t i
+    unfolding findOf passed judge
+    find-at h l x e = simp (s .fits, lt-leb _ _ h, le-ltb _ _ l, e)
+
+module _ (n : ℕ) (t : Tables) (x i : ℕ) where
+  -- 9 to 11 on their own
+  pub locate-shape : (b : Bool) → b ≡ misshapen n t → b ≡ true → refused 9 0 ≡ movesOf n t 0 x i
+  unfolding movesOf judge
+  locate-shape b q e = simp (sym q ∙ e)
+
+  pub locate-index : Shaped n t → sizeOf t ≤ x → refused 10 x ≡ movesOf n t 0 x i
+  unfolding movesOf judge
+  locate-index s h = simp (s .fits, le-leb _ _ h)
+
+  pub locate-place : Shaped n t → x < sizeOf t → outside n t x i ≡ true → refused 11 i ≡ movesOf n t 0 x i
+  unfolding movesOf judge
+  locate-place s h o = simp (s .fits, lt-leb _ _ h, o)
+
+  pub locate-in : Located n t x i → done (record { place = i; interval = x; count = 0 }) ≡ movesOf n t 0 x i
+  unfolding movesOf judge
+  locate-in l = simp (l .shape .fits, lt-leb _ _ (l .index), inside n t x i (l .place) (l .low) (l .high))
+
+  pub located : (s : Step) → done s ≡ movesOf n t 0 x i → Located n t x i
+  unfolding movesOf
+  located s e =
+      let f = judge-first (shapeTest n t) _ _ s e in
+      let g = judge-first (indexTest t x) _ _ s (f .1) in
+      let h = judge-first (placeTest n t x i) _ _ s (g .1) in
+      let p = inside-is n t x i (h .0) in
+      record { shape = shaped n t _ refl (f .0); index = leb-false _ _ (g .0); place = p .0; low = p .1; high = p .2 }
+
+  -- a move is 9 to 11, and what is left
+  pub move-is : moveOf n t x i ≡ andThen (movesOf n t 0 x i) (λ _. advanceOf n t x i)
+  unfolding moveOf movesOf advanceOf
+  move-is = judge-append (locateTests n t x i) (brokenTest n t x i ∷ []) _ (stepOf t x i)
+
+  pub move-refused : (k p : ℕ) → refused k p ≡ movesOf n t 0 x i → refused k p ≡ moveOf n t x i
+  unfolding andThen
+  move-refused k p e = rw (move-is, ← e)
+
+  pub move-located : Located n t x i → moveOf n t x i ≡ advanceOf n t x i
+  unfolding andThen
+  move-located l = rw (move-is, ← locate-in l)
+
+  -- what is left: 12 and the step
+  pub advance-broken : broken n t x i ≡ true → refused 12 x ≡ advanceOf n t x i
+  unfolding advanceOf judge
+  advance-broken b = simp b
+
+  pub advance-to : broken n t x i ≡ false
+      → (h j c : ℕ) → h ≡ holderOf t x → j ≡ carry (t .list) x i → c ≡ leading (λ s. leb s j) (drop (suc h) (t .list .starts))
+      → done (record { place = j; interval = h + c; count = c }) ≡ advanceOf n t x i
+  unfolding advanceOf stepOf passed judge
+  advance-to b h j c p q r = simp (b, r, p, q)

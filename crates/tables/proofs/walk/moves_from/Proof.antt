@@ -1,0 +1,76 @@
+-- `moves_from` meets its contract. The invariant is `Walking`: the place lies in its interval, and the state is what so
+-- many moves come to.
+use Rattle.tables.proofs.Moves.{Walking, walking-start, walking-sum, walking-more, walking-refused, walking-end}
+use Rattle.tables.specs.Move.{movedSays}
+use Rattle.tables.specs.Tables.{tables}
+use borrow.Author.Needs.{needs}
+use native.Mathlib.Omega.{arith}
+use mathlib.Core.Path.{sym, ap, _∙_}
+use Prim.Native.Nat.{_-_}
+use Rattle.tables.proofs.walk.moves_from.Statement.{statement}
+use Rattle.tables.proofs.walk.moves_from.Tie as tie
+
+abbrev Inv-loop : tie.InvT-loop
+Inv-loop n starts images holders x i m place₀ interval₀ count₀ made₀ place interval count made = Walking n (tables starts images holders) x i m place interval count made
+
+abbrev μ-loop : tie.MeasureT-loop
+μ-loop n starts images holders x i m place₀ interval₀ count₀ made₀ place interval count made = m - made
+
+loop-holds : tie.Need-loop-holds Inv-loop μ-loop
+loop-holds c = walking-start _ _ _ _ _ (c .before .before .before .pre)
+
+advance-requires : tie.Need-advance-requires Inv-loop μ-loop
+advance-requires c κs = c .before .loop .inv .here
+
+enum-known-r : tie.Need-enum-known-r Inv-loop μ-loop
+enum-known-r c = search needs
+
+returns : tie.Need-returns Inv-loop μ-loop
+returns c =
+    let a = c .before .before .before in
+    let l = a .before .before in
+    walking-refused _ _ _ _ _ _ _ _ _ (l .loop .inv) _ _ (ap movedSays (sym (c .before .r .given .1)) ∙ a .advance .ensures) (omega arith)
+
+enum-known-s : tie.Need-enum-known-s Inv-loop μ-loop
+enum-known-s c = search needs
+
+add-count : tie.Need-add-count Inv-loop μ-loop
+add-count c =
+    let s = c .before .before in
+    let a = s .before .before in
+    let l = a .before .before in
+    let h = walking-sum _ _ _ _ _ _ _ _ _ (l .loop .inv) _ (ap movedSays (sym (s .s .given .1)) ∙ a .advance .ensures) (a .before .loop-test .taken) in
+    omega arith
+
+add-made : tie.Need-add-made Inv-loop μ-loop
+add-made c = omega arith
+
+loop-less : tie.Need-loop-less Inv-loop μ-loop
+loop-less c = omega arith
+
+loop-again : tie.Need-loop-again Inv-loop μ-loop
+loop-again c =
+    let s = c .before .before in
+    let a = s .before .before in
+    let l = a .before .before in
+    walking-more _ _ _ _ _ _ _ _ _ (l .loop .inv) _ (ap movedSays (sym (s .s .given .1)) ∙ a .advance .ensures) (a .before .loop-test .taken)
+
+returns-2 : tie.Need-returns-2 Inv-loop μ-loop
+returns-2 c = walking-end _ _ _ _ _ _ _ _ _ (c .before .loop .inv) (omega arith)
+
+pub moves-from-spec : {M : Type 1} → statement M
+moves-from-spec =
+    tie.close
+    (tie.spec
+    Inv-loop
+    μ-loop
+    loop-holds
+    advance-requires
+    enum-known-r
+    returns
+    enum-known-s
+    add-count
+    add-made
+    loop-less
+    loop-again
+    returns-2)

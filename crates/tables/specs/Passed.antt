@@ -1,0 +1,59 @@
+-- What is known once tests have passed: what the private functions ask of their callers.
+use Prim.Native.Nat.{ℕ, _≤_, _<_}
+use mathlib.Core.Path.{_≡_}
+use mathlib.Core.Bool.{false}
+use mathlib.Core.List.{[], _∷_}
+use lib.ListN.{length}
+use Rattle.runs.specs.Outcome.{Outcome, test, judge}
+use Rattle.runs.specs.Runs.{startOf, endOf}
+use Rattle.tables.specs.Tables.{Tables, sizeOf, maxIntervals, misshapen, brokenTest}
+use Rattle.tables.specs.Move.{movedSays, stepOf}
+use Rattle.tables.specs.Under.{unplaced, underCount}
+use Rattle.tables.specs.Bookmark.{spent, markAfter}
+use Rattle.tables.specs.declared.Step.{Step}
+use Rattle.tables.specs.declared.Bookmark.{Bookmark}
+use Rattle.tables.specs.declared.Marked.{Marked}
+
+-- after 9
+pub record Shaped (n : ℕ) (t : Tables) : Type 0 where
+  pub fits : misshapen n t ≡ false
+  pub places : 0 < n
+  pub some : 0 < sizeOf t
+  pub few : sizeOf t ≤ maxIntervals
+  pub imaged : length (t .list .images) ≡ sizeOf t
+  pub held : length (t .holders) ≡ sizeOf t
+
+-- after 9 and 10
+pub record Indexed (n : ℕ) (t : Tables) (x : ℕ) : Type 0 where
+  pub shape : Shaped n t
+  pub index : x < sizeOf t
+
+-- x has an entry in each table, as it has then
+pub record Entered (t : Tables) (x : ℕ) : Type 0 where
+  pub index : x < sizeOf t
+  pub imaged : length (t .list .images) ≡ sizeOf t
+  pub held : length (t .holders) ≡ sizeOf t
+
+-- what is left of a weight after 9 and 10: 12 and the size
+unfoldable pub stretchOf : ℕ → Tables → ℕ → Outcome ℕ
+stretchOf n t x = judge (test 12 (unplaced n t x) x ∷ []) (underCount n t x)
+
+-- after 9, 10 and 11
+pub record Located (n : ℕ) (t : Tables) (x i : ℕ) : Type 0 where
+  pub shape : Shaped n t
+  pub index : x < sizeOf t
+  pub place : i < n
+  pub low : startOf (t .list) x ≤ i
+  pub high : i < endOf n (t .list) x
+
+-- what is left of a move then: 12 and the step
+unfoldable pub advanceOf : ℕ → Tables → ℕ → ℕ → Outcome Step
+advanceOf n t x i = judge (brokenTest n t x i ∷ []) (stepOf t x i)
+
+-- what is left of a bookmark's move after 12: 13, the answer and the bookmark
+unfoldable pub markOf : Bookmark → Step → Outcome Step
+markOf b s = judge (test 13 (spent b s) 0 ∷ []) s
+
+pub record Marks (b : Bookmark) (s : Step) (m : Marked) : Type 0 where
+  pub says : movedSays (m .moved) ≡ markOf b s
+  pub mark : m .bookmark ≡ markAfter b (markOf b s)

@@ -1,0 +1,94 @@
+// The tests of 9 to 11, and the part of 12 that speaks of the holder alone.
+use super::Moved;
+use super::Step;
+use runs::Refusal;
+ghost use mathlib.Core.Path.{_≡_};
+ghost use Prim.Native.Nat.{suc, _<_};
+ghost use lib.ListN.{length, getD};
+ghost use Rattle.tables.specs.Tables.{tables, misshapen, unheld};
+ghost use Rattle.tables.specs.Move.{movedSays, movesOf};
+ghost use Rattle.tables.specs.Passed.{Entered};
+
+// A number at a wider type: the bound is for the sums that it stands in.
+pub(crate) fn wide(x: u32) -> u64
+    ensures { λ r. ⌜ (r ≡ x) × (r < 4294967296) ⌝ }
+{
+    x as u64
+}
+
+// The end of interval x.
+pub(crate) fn end_of(n: u32, starts: &[u32], x: usize) -> u32
+    requires { ⌜ x < length (now starts) ⌝ }
+    ensures { λ r. ⌜ r ≡ getD (now (starts .entry)) (suc x) n ⌝ }
+{
+    if x + 1 < starts.len() {
+        return starts[x + 1];
+    }
+    n
+}
+
+// Test 9.
+pub(crate) fn is_misshapen(n: u32, starts: &[u32], images: &[u32], holders: &[u32]) -> bool
+    ensures { λ r. ⌜ r ≡ misshapen n (tables (now (starts .entry)) (now (images .entry)) (now (holders .entry))) ⌝ }
+{
+    if n == 0 {
+        return true;
+    }
+    if starts.len() == 0 {
+        return true;
+    }
+    if starts.len() != images.len() {
+        return true;
+    }
+    if starts.len() != holders.len() {
+        return true;
+    }
+    32768 < starts.len()
+}
+
+// Whether interval x has no holder that can be: test 12 but for what is reached.
+pub(crate) fn is_unheld(starts: &[u32], images: &[u32], holders: &[u32], x: u32) -> bool
+    requires { ⌜ Entered (tables (now starts) (now images) (now holders)) x ⌝ }
+    ensures { λ r. ⌜ r ≡ unheld (tables (now (starts .entry)) (now (images .entry)) (now (holders .entry))) x ⌝ }
+{
+    let at = x as usize;
+    let h = holders[at] as usize;
+    if starts.len() <= h {
+        return true;
+    }
+    images[at] < starts[h]
+}
+
+// Tests 9 to 11: where no moves lead.
+pub(crate) fn locate(
+    n: u32,
+    starts: &[u32],
+    images: &[u32],
+    holders: &[u32],
+    x: u32,
+    i: u32,
+) -> Moved
+    ensures { λ r. ⌜ movedSays r ≡ movesOf n (tables (now (starts .entry)) (now (images .entry)) (now (holders .entry))) 0 x i ⌝ }
+{
+    if is_misshapen(n, starts, images, holders) {
+        return Moved::Refused(Refusal::TableShape);
+    }
+    let at = x as usize;
+    if starts.len() <= at {
+        return Moved::Refused(Refusal::IntervalIndex(x));
+    }
+    if n <= i {
+        return Moved::Refused(Refusal::PlaceRange(i));
+    }
+    if i < starts[at] {
+        return Moved::Refused(Refusal::PlaceRange(i));
+    }
+    if end_of(n, starts, at) <= i {
+        return Moved::Refused(Refusal::PlaceRange(i));
+    }
+    Moved::To(Step {
+        place: i,
+        interval: x,
+        count: 0,
+    })
+}
