@@ -8,3 +8,5 @@ pub mod Sweeping
 pub mod Merged
 pub mod Cutlist
 pub mod Progress
+pub mod Filling
+pub mod Writing

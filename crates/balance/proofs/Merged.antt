@@ -3,13 +3,13 @@
 use Prim.Native.Nat.{ℕ, suc, _+_, _-_, _≤_, _<_}
 use mathlib.Core.Path.{_≡_, refl, sym, ap, _∙_}
 use mathlib.Core.Logic.{_⊎_, inl, inr}
-use mathlib.Core.List.{List, [], _∷_, _++_}
+use mathlib.Core.List.{List, [], _++_}
 use native.Mathlib.Omega.{arith}
 use native.Mathlib.Numerals.{add-one}
 use lib.ListN.{length, getD, length-append, List·getD-eq-default}
 use lib.Dec.{ltb, eqb}
-use Rattle.order.specs.Order.{All, Sorted, Strict, bit, countBelow, occurrences, insertSorted}
-use Rattle.order.proofs.Laws.{lt-or-le, all-at, all-sort, all-append, sum-sort, sum-append, length-sort, sorted-sort, sort-insert, sort-sorted, strict-sorted, count-one, count-index, count-found, count-mono, count-lt, count-ge, count-gt, count-at, count-after, count-le-length}
+use Rattle.order.specs.Order.{Sorted, Strict, bit, countBelow, occurrences, insertSorted}
+use Rattle.order.proofs.Laws.{lt-or-le, all-at, sum-sort, sum-append, length-sort, sorted-sort, sort-insert, sort-sorted, strict-sorted, count-one, count-index, count-found, count-mono, count-lt, count-ge, count-gt, count-at, count-after, count-all, count-le-length, pairwise-at}
 use Rattle.runs.proofs.Searches.{getD-default}
 use Rattle.balance.specs.Cuts.{merged, firstFrom, lastTo, Starts}
 
@@ -29,10 +29,6 @@ module _ (S C : List ℕ) where
   merged-sorted : Sorted (merged S C)
   unfolding merged
   merged-sorted = sorted-sort (λ s. s) (C ++ S)
-
-  pub merged-all : (P : ℕ → Type 0) → All P S → All P C → All P (merged S C)
-  unfolding merged
-  merged-all P a b = all-sort P (λ s. s) (C ++ S) (all-append P C S b a)
 
   pub merged-insert : (u : ℕ) → merged S (insertSorted u C) ≡ insertSorted u (merged S C)
   unfolding merged
@@ -141,6 +137,77 @@ module _ (n : ℕ) (S C : List ℕ) (c : Starts n S C) where
   pub last-cut : (v : ℕ) → 0 < countBelow (v + 1) C → getD S (countBelow (v + 1) S - 1) 0 ≤ getD C (countBelow (v + 1) C - 1) 0
       → lastTo (merged S C) v ≡ getD C (countBelow (v + 1) C - 1) 0
   last-cut v h l = last-joined C S (merged S C) (joins-cuts n S C c) v (c .all-rise) h (λ z. l)
+
+  -- the place of the merged entry m, or n past the last, tells how many of each list come before it
+  pub place-count : (m : ℕ) → m ≤ length (merged S C) → countBelow (getD (merged S C) m n) (merged S C) ≡ m
+  place-count m h = go (lt-or-le m (length (merged S C)))
+    where
+      go : (m < length (merged S C)) ⊎ (length (merged S C) ≤ m) → countBelow (getD (merged S C) m n) (merged S C) ≡ m
+      go (inl l) = ap (λ (t : ℕ). countBelow t (merged S C)) (getD-default (merged S C) m n 0 l) ∙ count-at (merged S C) (c .all-rise) m l
+      go (inr l) = ap (λ (t : ℕ). countBelow t (merged S C)) (List·getD-eq-default (merged S C) n l) ∙ count-all n (merged S C) (c .below) ∙ omega arith
+
+  place-rises : (m : ℕ) → m < length (merged S C) → getD (merged S C) m 0 < getD (merged S C) (m + 1) n
+  place-rises m h = go (lt-or-le (m + 1) (length (merged S C)))
+    where
+      go : (m + 1 < length (merged S C)) ⊎ (length (merged S C) ≤ m + 1) → getD (merged S C) m 0 < getD (merged S C) (m + 1) n
+      go (inl l) = omega (arith, getD-default (merged S C) (m + 1) n 0 l, pairwise-at _<_ (merged S C) (c .all-rise) m (m + 1) (omega arith) l)
+      go (inr l) = omega (arith, List·getD-eq-default (merged S C) n l, all-at (λ s. s < n) (merged S C) (c .below) m h)
+
+  -- a start comes next: it is the merged entry, and one start more comes before the next one
+  module _ (m i j : ℕ) (h : m < length (merged S C)) (e : i ≡ countBelow (getD (merged S C) m n) S) (f : j ≡ countBelow (getD (merged S C) m n) C) where
+    split : (i + j ≡ m) × (countBelow (getD (merged S C) (m + 1) n) S + countBelow (getD (merged S C) (m + 1) n) C ≡ m + 1) × (i ≤ countBelow (getD (merged S C) (m + 1) n) S) × (j ≤ countBelow (getD (merged S C) (m + 1) n) C)
+    split =
+        let t = getD (merged S C) m n in
+        let t′ = getD (merged S C) (m + 1) n in
+        let l : t < t′ = omega (arith, place-rises m h, getD-default (merged S C) m n 0 h) in (
+          omega (arith, place-count m (omega arith), merged-count S C t),
+          omega (arith, place-count (m + 1) (omega arith), merged-count S C t′),
+          omega (arith, count-mono t t′ S (omega arith)),
+          omega (arith, count-mono t t′ C (omega arith)),
+        )
+
+    next-is : (v : ℕ) → firstFrom n (merged S C) (getD (merged S C) m n) ≡ v → (v ≡ getD (merged S C) m 0) × (v < n) × (v < getD (merged S C) (m + 1) n)
+    next-is v g =
+        let k = getD-default (merged S C) m n 0 h in
+        let e : v ≡ getD (merged S C) m 0 = sym g ∙ ap (λ (x : ℕ). getD (merged S C) x n) (place-count m (omega arith)) ∙ k in
+        (e, omega (arith, all-at (λ s. s < n) (merged S C) (c .below) m h), omega (arith, place-rises m h))
+
+    pub merge-start : getD S i n ≤ getD C j n → (getD S i n ≡ getD (merged S C) m 0) × (i + 1 ≡ countBelow (getD (merged S C) (m + 1) n) S) × (j ≡ countBelow (getD (merged S C) (m + 1) n) C)
+    merge-start l =
+        let v = next-is (getD S i n) (first-start (getD (merged S C) m n) (rw (← e, ← f) l) ∙ ap (λ (x : ℕ). getD S x n) (sym e)) in
+        let k : i < length S = within (lt-or-le i (length S)) (v .1) in
+        let g = count-gt (getD (merged S C) (m + 1) n) S (strict-sorted S (c .starts-rise)) i k (omega (arith, v .2, getD-default S i n 0 k)) in
+        (v .0, omega (arith, split), omega (arith, split))
+      where
+        within : (i < length S) ⊎ (length S ≤ i) → getD S i n < n → i < length S
+        within (inl k) z = k
+        within (inr k) z = absurd (omega (arith, List·getD-eq-default S n k))
+
+    pub merge-cut : getD C j n < getD S i n → (getD C j n ≡ getD (merged S C) m 0) × (i ≡ countBelow (getD (merged S C) (m + 1) n) S) × (j + 1 ≡ countBelow (getD (merged S C) (m + 1) n) C)
+    merge-cut l =
+        let v = next-is (getD C j n) (first-cut (getD (merged S C) m n) (rw (← e, ← f) l) ∙ ap (λ (x : ℕ). getD C x n) (sym f)) in
+        let k : j < length C = within (lt-or-le j (length C)) (v .1) in
+        let g = count-gt (getD (merged S C) (m + 1) n) C (strict-sorted C (c .cuts-rise)) j k (omega (arith, v .2, getD-default C j n 0 k)) in
+        (v .0, omega (arith, split), omega (arith, split))
+      where
+        within : (j < length C) ⊎ (length C ≤ j) → getD C j n < n → j < length C
+        within (inl k) z = k
+        within (inr k) z = absurd (omega (arith, List·getD-eq-default C n k))
+
+  -- what comes before the next merged entry is what is not above this one
+  pub merged-next : (m : ℕ) → m < length (merged S C) → countBelow (getD (merged S C) (m + 1) n) S ≡ countBelow (suc (getD (merged S C) m 0)) S
+  merged-next m h =
+      let t = suc (getD (merged S C) m 0) in
+      let t′ = getD (merged S C) (m + 1) n in
+      omega (
+        arith,
+        count-after (merged S C) (c .all-rise) m h,
+        merged-count S C t,
+        place-count (m + 1) (omega arith),
+        merged-count S C t′,
+        count-mono t t′ S (place-rises m h),
+        count-mono t t′ C (place-rises m h),
+      )
 
 -- the entry after the one at k
 pub next-start : (n : ℕ) (l : List ℕ) (k s : ℕ) → Strict l → s ≡ getD l k 0 → suc k < length l → firstFrom n l (s + 1) ≡ getD l (suc k) 0

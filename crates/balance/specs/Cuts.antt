@@ -5,7 +5,7 @@ use mathlib.Core.List.{List, _++_, map}
 use lib.ListN.{length, take, drop, getD}
 use Rattle.order.specs.Order.{All, Strict, countBelow, sortBy, orderOf}
 use Rattle.runs.specs.Legal.{Legal}
-use Rattle.runs.specs.Runs.{Runs, runs, countOf, startOf, imageOf, imageEnd, mapOf}
+use Rattle.runs.specs.Runs.{Runs, runs, countOf, startOf, imageOf, endOf, imageEnd, mapOf}
 use Rattle.tables.specs.Under.{weight}
 use Rattle.balance.specs.Balance.{balanced}
 use Rattle.balance.specs.declared.Piece.{Piece}
@@ -33,6 +33,12 @@ pub record Starts (n : ℕ) (starts cuts : List ℕ) : Type 0 where
   pub cuts-rise : Strict cuts
   pub all-rise : Strict (merged starts cuts)
   pub below : All (λ s. s < n) (merged starts cuts)
+
+-- run x has place p
+pub record Has (n : ℕ) (r : Runs) (x p : ℕ) : Type 0 where
+  pub known : x < countOf r
+  pub from : startOf r x ≤ p
+  pub to : p < endOf n r x
 
 -- the runs of a legal list in rising order of image, and their images in that order
 pub record Ranked (n : ℕ) (r : Runs) (order ranked : List ℕ) : Type 0 where
@@ -70,3 +76,12 @@ pub record BalancingCuts (d n : ℕ) (r : Runs) (entry exit : List ℕ) (c : ℕ
   pub counted : c + countOf r ≡ countOf (balanced d n r)
   pub fits : c ≤ length exit
   pub rest : drop c exit ≡ drop c entry
+
+-- a table with l over its first entries
+abbrev pub over : List ℕ → List ℕ → List ℕ
+over l table = l ++ drop (length l) table
+
+-- the list after the cuts stands in two tables
+pub record ListWritten (n : ℕ) (r : Runs) (cuts starts images starts′ images′ : List ℕ) : Type 0 where
+  pub starts-at-exit : starts′ ≡ over (withCuts n r cuts .starts) starts
+  pub images-at-exit : images′ ≡ over (withCuts n r cuts .images) images

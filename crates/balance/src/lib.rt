@@ -1,11 +1,14 @@
 // Balancing: the same permutation with more starts, so that a move through the table passes at most 2d - 1 of them.
 ghost use mathlib.Core.Path.{_≡_};
+ghost use mathlib.Core.List.{map};
 ghost use Prim.Native.Nat.{_+_, _≤_, _<_};
-ghost use lib.ListN.{length, getD};
-ghost use Rattle.order.specs.Order.{Sorted, countBelow};
-ghost use Rattle.runs.specs.Runs.{runs, mapOf};
-ghost use Rattle.balance.specs.Cuts.{merged, withCuts, firstFrom, lastTo, Starts, Ranked, Begins, PieceAt, Covers, BalancingCuts};
+ghost use lib.ListN.{length, getD, replicate};
+ghost use Rattle.order.specs.Order.{All, Sorted, countBelow, keyOf};
+ghost use Rattle.runs.specs.Legal.{Legal};
+ghost use Rattle.runs.specs.Runs.{runs, runAt, mapOf};
+ghost use Rattle.runs.specs.Check.{maxRuns};
 ghost use Rattle.balance.specs.Balance.{boundOf};
+ghost use Rattle.balance.specs.Cuts.{merged, withCuts, firstFrom, lastTo, Starts, Ranked, Begins, PieceAt, Covers, BalancingCuts, Has, ListWritten, over};
 
 // How many intervals the balanced list has.
 pub enum Balanced {
@@ -160,4 +163,90 @@ fn sweep(
         }
     }
     cuts
+}
+
+// Writes the key of each index in `order` to `to`.
+fn gather(key: &[u32], order: &[u32], to: &mut [u32])
+    requires { ⌜ All (λ i. i < length (now key)) (now order) × (length (now order) ≤ length (now to)) ⌝ }
+    ensures { λ _. ⌜ now (to .exit) ≡ over (map (keyOf (now (key .entry))) (now (order .entry))) (now (to .entry)) ⌝ }
+{
+    let mut j = 0;
+    while j < order.len() {
+        to[j] = key[order[j] as usize];
+        j += 1;
+    }
+}
+
+// The cuts that balance the list, in rising order in `working`. Answers how many there are.
+fn balancing_cuts(n: u32, starts: &[u32], images: &[u32], d: u32, working: &mut [u32]) -> usize
+    requires { ⌜ Legal n (runs (now starts) (now images)) × (length (now starts) ≤ maxRuns) × (2 ≤ d) × (d ≤ 64) × (boundOf d (length (now starts)) ≤ length (now working)) ⌝ }
+    ensures { λ r. ⌜ BalancingCuts d n (runs (now (starts .entry)) (now (images .entry))) (now (working .entry)) (now (working .exit)) r ⌝ }
+{
+    let mut order: [u32; 16384] = [0; 16384];
+    let mut ranked: [u32; 16384] = [0; 16384];
+    order::sort_by_key(&mut order, &mut ranked, images);
+    let k = images.len();
+    gather(images, &order[..k], &mut ranked);
+    sweep(n, starts, images, &order[..k], &ranked[..k], d, working)
+}
+
+// The image of `p`, which run `x` has.
+fn image_of(n: u32, starts: &[u32], images: &[u32], x: usize, p: u32) -> u32
+    requires { ⌜ Legal n (runs (now starts) (now images)) × Has n (runs (now starts) (now images)) x p ⌝ }
+    ensures { λ r. ⌜ r ≡ mapOf n (runs (now (starts .entry)) (now (images .entry))) p ⌝ }
+{
+    images[x] + (p - starts[x])
+}
+
+// Writes the starts and the cuts in rising order, and their images.
+fn write_list(
+    n: u32,
+    starts: &[u32],
+    images: &[u32],
+    cuts: &[u32],
+    to_starts: &mut [u32],
+    to_images: &mut [u32],
+)
+    requires { ⌜ Legal n (runs (now starts) (now images)) × Starts n (now starts) (now cuts) × (length (now starts) + length (now cuts) ≤ length (now «to_starts»)) × (length (now starts) + length (now cuts) ≤ length (now «to_images»)) ⌝ }
+    ensures { λ _. ⌜ ListWritten n (runs (now (starts .entry)) (now (images .entry))) (now (cuts .entry)) (now («to_starts» .entry)) (now («to_images» .entry)) (now («to_starts» .exit)) (now («to_images» .exit)) ⌝ }
+{
+    let mut i = 0;
+    let mut j = 0;
+    while i + j < starts.len() + cuts.len() {
+        let m = i + j;
+        let mut s = entry_or(starts, i, n);
+        let u = entry_or(cuts, j, n);
+        if u < s {
+            s = u;
+            j += 1;
+        } else {
+            i += 1;
+        }
+        to_starts[m] = s;
+        to_images[m] = image_of(n, starts, images, i - 1, s);
+    }
+}
+
+// Writes the holder of each image: the run that has it.
+fn write_holders(n: u32, starts: &[u32], images: &[u32], to: &mut [u32])
+    requires { ⌜ Legal n (runs (now starts) (now images)) × (length (now starts) ≤ length (now to)) ⌝ }
+    ensures { λ _. ⌜ now (to .exit) ≡ over (map (runAt n (runs (now (starts .entry)) (now (images .entry)))) (now (images .entry))) (now (to .entry)) ⌝ }
+{
+    let mut x = 0;
+    while x < images.len() {
+        to[x] = (order::count_below(starts, images[x] + 1) - 1) as u32;
+        x += 1;
+    }
+}
+
+// Sets the first `count` entries to 0.
+fn clear(s: &mut [u32], count: usize)
+    requires { ⌜ count ≤ length (now s) ⌝ }
+    ensures { λ _. ⌜ now (s .exit) ≡ over (replicate count 0) (now (s .entry)) ⌝ }
+{
+    let mut i = 0;
+    while i < count {
+        s[i] = 0;
+        i += 1;
+    }
 }
