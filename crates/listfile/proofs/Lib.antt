@@ -5,3 +5,4 @@ mod Digits
 mod Signs
 mod Heading
 mod Bodies
+mod Rows

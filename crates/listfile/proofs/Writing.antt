@@ -4,9 +4,16 @@ use mathlib.Core.Path.{_≡_, refl, sym, ap, _∙_}
 use mathlib.Core.List.{List, [], _∷_, _++_, append-assoc}
 use native.Mathlib.Omega.{arith}
 use native.Mathlib.Numerals.{add-one}
-use lib.ListN.{length, take, drop, set, length-append, length-drop}
+use lib.ListN.{length, take, drop, set, length-append, length-drop, take-append-drop}
 use lib.Seq.{set-split, take-append-seam, drop-append-add, length-take-le, drop-drop}
 use Rattle.listfile.specs.Page.{overlaid, Fits, Wrote}
+
+-- no text
+pub wrote-nothing : (page : List ℕ) (at : ℕ) → at ≤ length page → Wrote page at [] page at
+unfolding overlaid
+wrote-nothing page at h =
+    let e : at + 0 ≡ at = omega arith in
+    record { text = rw e (sym (take-append-drop at page)); till = omega arith }
 
 -- one byte
 pub wrote-byte : (page : List ℕ) (at b : ℕ) → at < length page → Wrote page at (b ∷ []) (set page at b) (at + 1)

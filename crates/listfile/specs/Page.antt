@@ -3,6 +3,8 @@ use Prim.Native.Nat.{ℕ, _+_, _≤_}
 use mathlib.Core.Path.{_≡_}
 use mathlib.Core.List.{List, _++_}
 use lib.ListN.{length, take, drop}
+use Rattle.runs.specs.Legal.{Legal}
+use Rattle.tables.specs.Tables.{Tables, tablesOf, sizeOf}
 
 -- the page with s on it from index `at` on
 unfoldable pub overlaid : List ℕ → ℕ → List ℕ → List ℕ
@@ -16,3 +18,9 @@ pub record Fits (page : List ℕ) (at : ℕ) (s : List ℕ) : Type 0 where
 pub record Wrote (page : List ℕ) (at : ℕ) (s : List ℕ) (page′ : List ℕ) (end : ℕ) : Type 0 where
   pub text : page′ ≡ overlaid page at s
   pub till : end ≡ at + length s
+
+-- tables of a legal list that is short enough to be listed
+pub record Listed (n : ℕ) (t : Tables) : Type 0 where
+  pub legal : Legal n (t .list)
+  pub held : t ≡ tablesOf n (t .list)
+  pub few : sizeOf t ≤ 2048

@@ -1,5 +1,6 @@
 // The file of a run list and the text of its listing: bytes in, bytes out.
 mod layout;
+mod listing;
 mod text;
 mod words;
 
