@@ -1,7 +1,12 @@
--- The theory of cuts.
+-- The theory of cuts, and the list after cuts as the code has it.
 pub mod Refine
 pub mod Cut
 pub mod Weights
 pub mod Balancing
-pub mod Sweep
+pub mod Swept
 pub mod Sweeping
+pub mod Merged
+pub mod Cutlist
+pub mod Progress
+pub mod Filling
+pub mod Writing

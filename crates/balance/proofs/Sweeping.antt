@@ -9,7 +9,7 @@ use Rattle.balance.specs.Balance.{cutPlace, cutAt, cutting, balanced, bo
 use Rattle.balance.proofs.Cut.{cut-count}
 use Rattle.balance.proofs.Weights.{ample, ample-bound}
 use Rattle.balance.proofs.Balancing.{cutting-cuts, cutting-next, cutting-done, fuel-left, heavy-legal, balanced-count}
-use Rattle.balance.proofs.Sweep.{Swept, swept-start, swept-end, swept-lowest, swept-cut, swept-back, swept-on, back, added, stepsLeft, steps-cut, steps-back, steps-on}
+use Rattle.balance.proofs.Swept.{Swept, swept-start, swept-end, swept-lowest, swept-cut, swept-back, swept-on, back, added, stepsLeft, steps-cut, steps-back, steps-on}
 
 pub record Sweeping (d n : ℕ) (list₀ r : Runs) (P Q : ℕ) : Type 0 where
   pub swept : Swept d n r P Q

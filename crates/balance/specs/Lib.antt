@@ -1,3 +1,4 @@
--- The definition of balancing, and what `balance` promises.
+-- The definition of balancing, what `balance` promises, and what its parts do.
 pub mod Balance
 pub mod Lent
+pub mod Cuts

@@ -3,3 +3,5 @@ mod Reading
 mod Writing
 mod Digits
 mod Signs
+mod Heading
+mod Bodies

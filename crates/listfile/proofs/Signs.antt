@@ -2,6 +2,7 @@
 use Prim.Native.Nat.{ℕ, suc, _+_, _^_, _<_}
 use mathlib.Core.Path.{_≡_, refl, sym, ap, _∙_}
 use mathlib.Core.Bool.{Bool, true, false, false≢true}
+use mathlib.Core.List.{[], _∷_, _++_}
 use native.Mathlib.Omega.{arith}
 use lib.Dec.{T}
 use lib.IntN.{ℤ, pos, negsuc, natAbs, _-ℤ_}
@@ -10,7 +11,7 @@ use mir.Syntax.{w64}
 use mir.Val.{Fits, SFits, toZ, ofZ}
 use mir.ValLaws.{toZ-ofZ}
 use borrow.Author.Tests.{le-ltb}
-use Rattle.listfile.specs.Text.{negative}
+use Rattle.listfile.specs.Text.{decimal, negative, signed}
 
 pub below-zero : (v : ℤ) → ltZ v (pos 0) ≡ negative v
 below-zero (pos v) = le-ltb v 0 (omega arith)
@@ -45,3 +46,20 @@ module _ (v : ℤ) (f : SFits w64 v) (small : natAbs v < 4294967296) (e : negati
 
   pub opposite-back : toZ w64 (ofZ w64 (pos 0 -ℤ toZ w64 (ofZ w64 v))) ≡ pos (natAbs v)
   opposite-back = toZ-ofZ w64 _ opposite-fits ∙ opposite-bits
+
+-- the text of an integer, by the sign and the size that its bits say
+module _ (v : ℤ) (f : SFits w64 v) (size : ℕ) (b : Bool)
+    (sized : size ≡ natAbs (toZ w64 (ofZ w64 v))) (says : b ≡ negative (toZ w64 (ofZ w64 v))) where
+  size-is : size ≡ natAbs v
+  size-is = sized ∙ ap natAbs (bits-back v f)
+
+  sign-is : b ≡ negative v
+  sign-is = says ∙ ap negative (bits-back v f)
+
+  pub signed-minus : b ≡ true → signed v ≡ (45 ∷ []) ++ decimal size
+  unfolding signed
+  signed-minus e = rw (← sign-is, e, size-is)
+
+  pub signed-plus : b ≡ false → signed v ≡ decimal size
+  unfolding signed
+  signed-plus e = rw (← sign-is, e, size-is)

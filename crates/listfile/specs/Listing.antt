@@ -1,6 +1,7 @@
 -- The listing (document 01, "The file and the listing").
 use Prim.Native.Nat.{ℕ}
 use mathlib.Core.List.{List, [], _∷_, _++_}
+use lib.IntN.{ℤ}
 use Rattle.order.specs.Order.{upTo}
 use Rattle.runs.specs.Outcome.{Outcome, done, refused}
 use Rattle.runs.specs.Runs.{Runs, countOf, startOf, imageOf, shiftOf, runAt}
@@ -15,14 +16,22 @@ abbrev pub maxListed : ℕ
 maxListed = 1024
 
 -- "for each interval index, start, image, shift, holder, weight"
-abbrev pub rowOf : ℕ → Runs → ℕ → List ℕ
+abbrev pub rowText : ℕ → ℕ → ℕ → ℤ → ℕ → ℕ → List ℕ
+rowText x start image shift holder weight =
+    line (decimal x ∷ decimal start ∷ decimal image ∷ signed shift ∷ decimal holder ∷ decimal weight ∷ [])
+
+unfoldable pub rowOf : ℕ → Runs → ℕ → List ℕ
 rowOf n t x =
-    line (decimal x ∷ decimal (startOf t x) ∷ decimal (imageOf t x) ∷ signed (shiftOf t x) ∷ decimal (runAt n t (imageOf t x)) ∷ decimal (weight n t x) ∷ [])
+    rowText x (startOf t x) (imageOf t x) (shiftOf t x) (runAt n t (imageOf t x)) (weight n t x)
+
+-- n, k, d and K
+abbrev pub headText : ℕ → ℕ → ℕ → ℕ → List ℕ
+headText n k d size = line (decimal n ∷ decimal k ∷ decimal d ∷ decimal size ∷ [])
 
 -- "It prints n, k, d, K on the first line, then" a row for each interval of the balanced list.
 abbrev pub tableText : Header → Runs → List ℕ
 tableText h t =
-    line (decimal (h .n) ∷ decimal (h .k) ∷ decimal (h .d) ∷ decimal (countOf t) ∷ []) ++ texts (rowOf (h .n) t) (upTo (countOf t))
+    headText (h .n) (h .k) (h .d) (countOf t) ++ texts (rowOf (h .n) t) (upTo (countOf t))
 
 -- "A refusal prints `refused`, number, place."
 abbrev pub refusalText : ℕ → ℕ → List ℕ

@@ -27,7 +27,7 @@ signed v = negative v then 45 ∷ decimal (natAbs v) else decimal (natAbs v)
 abbrev pub line : List (List ℕ) → List ℕ
 line [] = 10 ∷ []
 line (field ∷ []) = field ++ (10 ∷ [])
-line (field ∷ next ∷ fields) = field ++ (32 ∷ line (next ∷ fields))
+line (field ∷ next ∷ fields) = (field ++ (32 ∷ [])) ++ line (next ∷ fields)
 
 -- the texts of several numbers, one after the other
 abbrev pub texts : (ℕ → List ℕ) → List ℕ → List ℕ

@@ -1,6 +1,7 @@
 -- What `check` answers, by the facts that its tests show: one law for each way to return.
 use Prim.Native.Nat.{ℕ, suc, _-_, _≤_, _<_}
-use mathlib.Core.Path.{_≡_, refl, sym}
+use mathlib.Core.Path.{_≡_, refl, sym, _∙_}
+use mathlib.Core.List.{List}
 use mathlib.Core.Bool.{Bool, true, false, _||_, true≢false}
 use mathlib.Core.Logic.{_≢_, _⊎_, inl, inr}
 use native.Mathlib.Omega.{arith}
@@ -12,7 +13,11 @@ use Rattle.runs.specs.Outcome.{done, refused, judge}
 use Rattle.runs.specs.Search.{firstBelow}
 use Rattle.runs.specs.Runs.{Runs, countOf, startOf, endOf, imageEnd}
 use Rattle.runs.specs.Check.{maxRuns, unmatched, disordered, overruns, overlaps, listTests, checkTests, checkOf}
-use Rattle.runs.specs.Sweep.{Lasting}
+use Rattle.runs.specs.Refusal.{refusalSays}
+use Rattle.runs.specs.Parts.{Lasting, CheckedInto}
+use Rattle.runs.specs.declared.Refusal.{Refusal}
+use Rattle.runs.specs.declared.Checked.the-variants.{Refused}
+use Rattle.runs.proofs.Judging.{done-refused}
 use Rattle.runs.proofs.Searches.{any-false}
 use Rattle.runs.proofs.Legality.{end-next, end-last}
 
@@ -129,3 +134,7 @@ module _ (n : ℕ) (r : Runs) where
   check-accepts w h =
       let c = w .rising in
       simp (c .begun .matched, le-ltb _ _ (c .begun .few), eq-eqb _ _ (c .begun .first), le-ltb _ _ (c .in-order), le-ltb _ _ (w .within), le-ltb _ _ h)
+
+-- a refusal leaves no order to speak of
+pub refused-into : (n : ℕ) (r : Runs) (order : List ℕ) (x : Refusal) → refusalSays x ≡ checkOf n r → CheckedInto n r order (Refused x)
+refused-into n r order x e = record { says = e; ordered = λ d. absurd (done-refused tt _ _ (sym (e ∙ d))) }

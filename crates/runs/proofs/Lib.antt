@@ -12,3 +12,5 @@ pub mod Intervals
 pub mod Bijection
 pub mod Tiling
 pub mod Inversion
+mod Writing
+mod Shifting

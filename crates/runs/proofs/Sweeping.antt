@@ -8,16 +8,17 @@ use mathlib.Core.List.{List, _++_}
 use native.Mathlib.Nat.{not-suc-le-zero}
 use native.Mathlib.Numerals.{add-one}
 use native.Mathlib.Omega.{arith}
-use lib.ListN.{length, getD, length-append}
+use lib.ListN.{length, getD, take, length-take}
+use lib.Seq.{take-at, getD-take}
 use lib.Dec.{ltb, eqb}
 use borrow.Author.Tests.{ltb-true, lt-ltb, le-ltb, ne-eqb, eqb-false, not-true}
 use Rattle.order.specs.Order.{keyOf, orderOf}
-use Rattle.order.proofs.Laws.{lt-or-le, order-length, order-entry, order-below, order-keys, order-occurs, order-injective}
+use Rattle.order.proofs.Laws.{lt-or-le, order-length, order-below, order-keys, order-occurs, order-injective}
 use Rattle.runs.specs.Runs.{Runs, countOf, imageOf, imageEnd}
 use Rattle.runs.specs.Legal.{ranked}
 use Rattle.runs.specs.Search.{firstBelow}
 use Rattle.runs.specs.Check.{overlap, overlaps}
-use Rattle.runs.specs.Sweep.{Lasting, Ordered, meets}
+use Rattle.runs.specs.Parts.{Lasting, Ordered, meets}
 use Rattle.runs.proofs.Sums.{and-true}
 use Rattle.runs.proofs.Searches.{first-le, first-true, first-least, any-true, any-none}
 
@@ -67,19 +68,27 @@ module _ (r : Runs) (p : length (r .images) ≡ countOf r) where
 pub ordered : (r : Runs) (order rest : List ℕ) → length (r .images) ≡ countOf r → order ≡ orderOf (r .images) ++ rest → Ordered r order
 ordered r order rest p e = record {
   paired = p;
-  room = omega (arith, p, order-length (keyOf (r .images)) (length (r .images)), length-append (orderOf (r .images)) rest, ap length e);
-  entry = λ t h. order-entry (keyOf (r .images)) (length (r .images)) order rest e t (omega arith);
+  sorted = ap (take (countOf r)) e ∙ take-at (orderOf (r .images)) rest (countOf r) (order-length (keyOf (r .images)) (length (r .images)) ∙ p);
 }
 
--- what the table of the order holds at t, a run
-pub entry-below : (r : Runs) (order : List ℕ) → Ordered r order → (t : ℕ) → t < countOf r → getD order t 0 < length (r .images)
-entry-below r order o t h = omega (arith, o .paired, o .entry t h, ranked-below r (o .paired) t h)
+-- the table of the order: as many entries as runs, and at t the run of that rank
+module _ (r : Runs) (order : List ℕ) (o : Ordered r order) where
+  pub ordered-room : countOf r ≤ length order
+  ordered-room =
+      omega (arith, length-take (countOf r) order, ap length (o .sorted), order-length (keyOf (r .images)) (length (r .images)), o .paired)
 
-pub entry-image : (r : Runs) (order : List ℕ) → Ordered r order → (t : ℕ) → t < countOf r → imageOf r (getD order t 0) ≡ imageOf r (ranked r t)
-entry-image r order o t h = ap (imageOf r) (o .entry t h)
+  module _ (t : ℕ) (h : t < countOf r) where
+    pub entry-is : getD order t 0 ≡ ranked r t
+    entry-is = sym (getD-take (countOf r) order t 0 h) ∙ ap (λ (l : List ℕ). getD l t 0) (o .sorted)
 
-pub entry-next : (r : Runs) (order : List ℕ) → Ordered r order → (t : ℕ) → t + 1 < countOf r → imageOf r (getD order (t + 1) 0) ≡ imageOf r (ranked r (suc t))
-entry-next r order o t = rw add-one (entry-image r order o (suc t))
+    pub entry-below : getD order t 0 < length (r .images)
+    entry-below = omega (arith, o .paired, entry-is, ranked-below r (o .paired) t h)
+
+    pub entry-image : imageOf r (getD order t 0) ≡ imageOf r (ranked r t)
+    entry-image = ap (imageOf r) entry-is
+
+  pub entry-next : (t : ℕ) → t + 1 < countOf r → imageOf r (getD order (t + 1) 0) ≡ imageOf r (ranked r (suc t))
+  entry-next t = rw add-one (entry-image (suc t))
 
 -- the runs before t are swept: their images end at `reached` at the latest, and the lowest of them that shares a place
 -- is `lowest`

@@ -6,4 +6,4 @@ pub mod Runs
 pub mod Legal
 pub mod Check
 pub mod Inverse
-pub mod Sweep
+pub mod Parts

@@ -1,0 +1,105 @@
+-- What a file's header comes to, by the facts that its tests show.
+use Prim.Native.Nat.{ℕ, _+_, _*_, _≤_, _<_}
+use mathlib.Core.Path.{_≡_, refl, sym, ap, _∙_}
+use mathlib.Core.Bool.{Bool, true, false, not, _||_, true≢false}
+use mathlib.Core.List.{List, [], _∷_, _++_}
+use native.Mathlib.Omega.{arith}
+use lib.ListN.{length}
+use lib.Dec.{ltb, eqb}
+use borrow.Author.Tests.{lt-ltb, le-ltb, eq-eqb, ne-eqb, ltb-false, eqb-true, eqb-false, not-false}
+use Rattle.runs.specs.Outcome.{Outcome, done, refused, judge, andThen}
+use Rattle.runs.proofs.Judging.{judge-append, judge-first, judge-done}
+use Rattle.listfile.specs.File.{wordOf, headerOf, countTests, layoutTests, layoutOf, headerTests, headingOf, Laid}
+use Rattle.listfile.specs.declared.Header.{Header}
+
+-- where the starts and the images stand
+module _ (k : ℕ) (bytes : List ℕ) where
+  pub layout-starts : (w : ℕ) → w ≡ wordOf bytes 3 → (w ≡ 20 → ⊥) → refused 15 12 ≡ layoutOf k bytes
+  unfolding layoutOf layoutTests judge
+  layout-starts w e h = rw (← e, ne-eqb w 20 h)
+
+  module _ (w : ℕ) (e : w ≡ wordOf bytes 3) (a : w ≡ 20) where
+    starts-at : eqb (wordOf bytes 3) 20 ≡ true
+    starts-at = eq-eqb _ _ (sym e ∙ a)
+
+    pub layout-images : (v : ℕ) → v ≡ wordOf bytes 4 → (v ≡ 20 + 4 * k → ⊥) → refused 15 16 ≡ layoutOf k bytes
+    unfolding layoutOf layoutTests judge
+    layout-images v f h = rw (starts-at, ← f, ne-eqb v (20 + 4 * k) h)
+
+    module _ (v : ℕ) (f : v ≡ wordOf bytes 4) (b : v ≡ 20 + 4 * k) where
+      images-at : eqb (wordOf bytes 4) (20 + 4 * k) ≡ true
+      images-at = eq-eqb _ _ (sym f ∙ b)
+
+      pub layout-long : (length bytes ≡ 20 + 8 * k → ⊥) → refused 15 20 ≡ layoutOf k bytes
+      unfolding layoutOf layoutTests judge
+      layout-long h = rw (starts-at, images-at, ne-eqb (length bytes) (20 + 8 * k) h)
+
+      pub layout-right : length bytes ≡ 20 + 8 * k → done tt ≡ layoutOf k bytes
+      unfolding layoutOf layoutTests judge
+      layout-right h = rw (starts-at, images-at, eq-eqb (length bytes) (20 + 8 * k) h)
+
+-- the header's numbers
+module _ (most : ℕ) (bytes : List ℕ) where
+  pub heading-short : length bytes < 20 → refused 15 0 ≡ headingOf most bytes
+  unfolding headingOf headerTests countTests judge
+  heading-short h = simp (lt-ltb _ _ h)
+
+  module _ (l : 20 ≤ length bytes) (n : ℕ) (e : n ≡ wordOf bytes 0) where
+    pub heading-no-places : n ≡ 0 → refused 1 0 ≡ headingOf most bytes
+    unfolding headingOf headerTests countTests judge
+    heading-no-places h = simp (le-ltb _ _ l, ← e, eq-eqb n 0 h)
+
+    module _ (a : n ≡ 0 → ⊥) (k : ℕ) (f : k ≡ wordOf bytes 1) where
+      pub heading-no-runs : k ≡ 0 → refused 1 0 ≡ headingOf most bytes
+      unfolding headingOf headerTests countTests judge
+      heading-no-runs h = simp (le-ltb _ _ l, ← e, ne-eqb n 0 a, ← f, eq-eqb k 0 h)
+
+      module _ (b : k ≡ 0 → ⊥) where
+        pub heading-many : most < k → refused 2 0 ≡ headingOf most bytes
+        unfolding headingOf headerTests countTests judge
+        heading-many h = simp (le-ltb _ _ l, ← e, ne-eqb n 0 a, ← f, ne-eqb k 0 b, lt-ltb _ _ h)
+
+        module _ (few : k ≤ most) where
+          counts-pass : judge (countTests most bytes) (tt {0}) ≡ done (tt {0})
+          unfolding countTests judge
+          counts-pass = simp (le-ltb _ _ l, ← e, ne-eqb n 0 a, ← f, ne-eqb k 0 b, le-ltb _ _ few)
+
+          heading-rest : headingOf most bytes ≡ andThen (layoutOf k bytes) (λ u. done (headerOf bytes))
+          unfolding headingOf headerTests layoutTests layoutOf judge andThen
+          heading-rest =
+              judge-append {A = Unit {0}} (countTests most bytes) (layoutTests (wordOf bytes 1) bytes) tt (headerOf bytes)
+              ∙ rw counts-pass (judge-append {A = Unit {0}} (layoutTests (wordOf bytes 1) bytes) [] tt (headerOf bytes))
+              ∙ ap (λ (j : ℕ). andThen (layoutOf j bytes) (λ u. done (headerOf bytes))) (sym f)
+
+          pub heading-refused : (p q : ℕ) → refused p q ≡ layoutOf k bytes → refused p q ≡ headingOf most bytes
+          unfolding andThen
+          heading-refused p q h = rw (heading-rest, ← h)
+
+          pub heading-read : done tt ≡ layoutOf k bytes → (d : ℕ) → d ≡ wordOf bytes 2
+              → done (record { n = n; k = k; d = d }) ≡ headingOf most bytes
+          unfolding andThen
+          heading-read h d g = rw (heading-rest, ← h, e, f, g)
+
+-- what holds of a header that was read
+or-false : (a b : Bool) → (a || b) ≡ false → (a ≡ false) × (b ≡ false)
+or-false true b e = absurd (true≢false e)
+or-false false b e = (refl, e)
+
+pub heading-laid : (most : ℕ) (bytes : List ℕ) (h : Header) → done h ≡ headingOf most bytes → Laid most bytes h
+unfolding headingOf headerTests countTests layoutTests
+heading-laid most bytes h e =
+    let t₁ = judge-first _ _ _ h e in
+    let t₂ = judge-first _ _ _ h (t₁ .1) in
+    let t₃ = judge-first _ _ _ h (t₂ .1) in
+    let t₄ = judge-first _ _ _ h (t₃ .1) in
+    let t₅ = judge-first _ _ _ h (t₄ .1) in
+    let t₆ = judge-first _ _ _ h (t₅ .1) in
+    let same : h ≡ headerOf bytes = sym (judge-done [] (headerOf bytes) h (sym (t₆ .1))) in
+    let zero = or-false (eqb (wordOf bytes 0) 0) (eqb (wordOf bytes 1) 0) (t₂ .0) in
+    record {
+      same = same;
+      places = rw same (omega (arith, eqb-false (wordOf bytes 0) 0 (zero .0)));
+      some = rw same (omega (arith, eqb-false (wordOf bytes 1) 0 (zero .1)));
+      few = rw same (ltb-false most (wordOf bytes 1) (t₃ .0));
+      long = rw same (eqb-true (length bytes) (20 + 8 * wordOf bytes 1) (not-false _ (t₆ .0)));
+    }

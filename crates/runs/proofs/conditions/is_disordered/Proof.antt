@@ -1,0 +1,47 @@
+-- `is_disordered` meets its contract: by cases, in the order of test 4.
+use native.Mathlib.Omega.{arith}
+use borrow.Author.Tests.{le-leb, lt-leb, lt-ltb, le-ltb}
+use borrow.Author.Needs.{needs}
+use Rattle.runs.specs.Check.{disordered}
+use Rattle.runs.proofs.conditions.is_disordered.Statement.{statement}
+use Rattle.runs.proofs.conditions.is_disordered.Tie as tie
+
+mul-start : tie.Need-mul-start
+mul-start c = search needs
+
+shared-slice-read-start : tie.Need-shared-slice-read-start
+shared-slice-read-start c = search needs
+
+returns : tie.Need-returns
+unfolding disordered
+returns c = λ images. simp (le-leb _ _ (c .if1 .taken))
+
+returns-2 : tie.Need-returns-2
+unfolding disordered
+returns-2 c = λ images. let a = c .before .before .before .args in simp (lt-leb _ _ (c .before .if1 .left), le-ltb 0 (a .x) (omega arith))
+
+sub-result : tie.Need-sub-result
+sub-result c = search needs
+
+mul-result : tie.Need-mul-result
+mul-result c = search needs
+
+shared-slice-read-result : tie.Need-shared-slice-read-result
+shared-slice-read-result c = search needs
+
+returns-3 : tie.Need-returns-3
+unfolding disordered
+returns-3 c = λ images. let a = c .before .before .before .before .args in simp (lt-leb _ _ (c .before .before .if1 .left), lt-ltb 0 (a .x) (omega arith))
+
+pub is-disordered-spec : {M : Type 1} → statement M
+is-disordered-spec =
+    tie.close
+    (tie.spec
+    mul-start
+    shared-slice-read-start
+    returns
+    returns-2
+    sub-result
+    mul-result
+    shared-slice-read-result
+    returns-3)

@@ -1,0 +1,65 @@
+-- What the private parts of `check` and `inverse_list` ask and promise.
+use Prim.Native.Nat.{ℕ, suc, _≤_, _<_}
+use mathlib.Core.Path.{_≡_}
+use mathlib.Core.Bool.{Bool, _&&_, _||_}
+use mathlib.Core.List.{List, [], _∷_}
+use lib.ListN.{length, getD, take}
+use lib.Dec.{ltb}
+use Rattle.order.specs.Order.{orderOf}
+use Rattle.runs.specs.Outcome.{Outcome, Test, done, test, judge, mapDone, filled}
+use Rattle.runs.specs.Refusal.{checkedSays}
+use Rattle.runs.specs.Search.{firstBelow}
+use Rattle.runs.specs.Runs.{Runs, countOf, startOf, imageOf, endOf}
+use Rattle.runs.specs.Legal.{ranked}
+use Rattle.runs.specs.Check.{overlaps, checkOf}
+use Rattle.runs.specs.Inverse.{inverseRuns}
+use Rattle.runs.specs.declared.Checked.{Checked}
+
+-- the lowest run with the property, or the number of runs
+abbrev pub lowestOf : (Runs → ℕ → Bool) → Runs → ℕ
+lowestOf p r = firstBelow (p r) (countOf r)
+
+-- each run has a length, and an image
+pub record Lasting (n : ℕ) (r : Runs) : Type 0 where
+  pub paired : length (r .images) ≡ countOf r
+  pub lasting : (x : ℕ) → x < countOf r → startOf r x < endOf n r x
+
+-- the first entries of `order` are the runs in rising order of image
+pub record Ordered (r : Runs) (order : List ℕ) : Type 0 where
+  pub paired : length (r .images) ≡ countOf r
+  pub sorted : take (countOf r) order ≡ orderOf (r .images)
+
+-- whether the run at t in that order, with its image up to `end`, shares a place with one before it, whose images end
+-- at `reached` at the latest, or with the next one
+unfoldable pub meets : Runs → ℕ → ℕ → ℕ → Bool
+meets r t reached end =
+    ltb (imageOf r (ranked r t)) reached || (ltb (suc t) (countOf r) && ltb (imageOf r (ranked r (suc t))) end)
+
+-- the lowest run that shares a place, and the order it was found by
+pub record OverlapFound (n : ℕ) (r : Runs) (order : List ℕ) (x : ℕ) : Type 0 where
+  pub lowest : x ≡ lowestOf (overlaps n) r
+  pub ordered : Ordered r order
+
+-- the answer of a check, and the order that it leaves of a list that it accepts
+pub record CheckedInto (n : ℕ) (r : Runs) (order : List ℕ) (answer : Checked) : Type 0 where
+  pub says : checkedSays answer ≡ checkOf n r
+  pub ordered : checkOf n r ≡ done tt → Ordered r order
+
+-- what `gather` asks: room, and indexes
+pub record Gathers (from order to : List ℕ) : Type 0 where
+  pub room : length from ≤ length to
+  pub indexes : length from ≤ length order
+  pub below : (t : ℕ) → t < length from → getD order t 0 < length from
+
+-- test 8 by itself, and what is written where it passes
+abbrev pub roomTest : Runs → List ℕ → List ℕ → List Test
+roomTest r toStarts toImages =
+    test 8 (ltb (length toStarts) (countOf r) || ltb (length toImages) (countOf r)) (countOf r) ∷ []
+
+unfoldable pub writtenOf : Runs → List ℕ → List ℕ → Outcome Runs
+writtenOf r toStarts toImages = judge (roomTest r toStarts toImages) (inverseRuns r)
+
+pub record Written (r : Runs) (starts images starts′ images′ : List ℕ) (answer : Checked) : Type 0 where
+  pub says : checkedSays answer ≡ mapDone (λ q. tt) (writtenOf r starts images)
+  pub starts-at-exit : starts′ ≡ filled (λ q. q .starts) (writtenOf r starts images) starts
+  pub images-at-exit : images′ ≡ filled (λ q. q .images) (writtenOf r starts images) images

@@ -1,0 +1,92 @@
+// Tests 1, 4 and 5 of a run list, each by itself.
+ghost use mathlib.Core.Path.{_≡_};
+ghost use mathlib.Core.List.{List};
+ghost use Prim.Native.Nat.{ℕ, suc, _<_};
+ghost use lib.ListN.{length, getD};
+ghost use Rattle.runs.specs.Runs.{runs, imageEnd};
+ghost use Rattle.runs.specs.Check.{unmatched, disordered, overruns};
+ghost use Rattle.runs.specs.Parts.{Lasting, lowestOf};
+
+// A number at a wider type: the bound is for the sums it stands in.
+pub(crate) fn wide(x: u32) -> u64
+    ensures { λ r. ⌜ (r ≡ x) × (r < 4294967296) ⌝ }
+{
+    x as u64
+}
+
+// The end of run x.
+fn end_of(n: u32, starts: &[u32], x: usize) -> u32
+    requires { ⌜ x < length (now starts) ⌝ }
+    ensures { λ r. ⌜ r ≡ getD (now (starts .entry)) (suc x) n ⌝ }
+{
+    if x + 1 < starts.len() {
+        return starts[x + 1];
+    }
+    n
+}
+
+// Where the image of run x ends.
+pub(crate) fn image_end(n: u32, starts: &[u32], images: &[u32], x: usize) -> u64
+    requires { ⌜ (x < length (now starts)) × Lasting n (runs (now starts) (now images)) ⌝ }
+    ensures { λ r. ⌜ r ≡ imageEnd n (runs (now (starts .entry)) (now (images .entry))) x ⌝ }
+{
+    let end = end_of(n, starts, x);
+    wide(images[x]) + wide(end - starts[x])
+}
+
+// Test 1.
+pub(crate) fn is_unmatched(n: u32, starts: &[u32], images: &[u32]) -> bool
+    ensures { λ r. ⌜ r ≡ unmatched n (runs (now (starts .entry)) (now (images .entry))) ⌝ }
+{
+    if n == 0 {
+        return true;
+    }
+    if starts.len() == 0 {
+        return true;
+    }
+    starts.len() != images.len()
+}
+
+// Test 4 of run x, whatever the images are.
+fn is_disordered(n: u32, starts: &[u32], x: usize) -> bool
+    requires { ⌜ x < length (now starts) ⌝ }
+    ensures { λ r. ⌜ ((images : List ℕ) → r ≡ disordered n (runs (now (starts .entry)) images) x) ⌝ }
+{
+    let start = starts[x];
+    if n <= start {
+        return true;
+    }
+    if x == 0 {
+        return false;
+    }
+    start <= starts[x - 1]
+}
+
+// The lowest run that test 4 refuses, or the number of runs.
+pub(crate) fn first_disordered(n: u32, starts: &[u32]) -> usize
+    ensures { λ r. ⌜ ((images : List ℕ) → r ≡ lowestOf (disordered n) (runs (now (starts .entry)) images)) ⌝ }
+{
+    let mut x = 0;
+    while x < starts.len() {
+        if is_disordered(n, starts, x) {
+            return x;
+        }
+        x += 1;
+    }
+    x
+}
+
+// The lowest run that test 5 refuses, or the number of runs.
+pub(crate) fn first_overrun(n: u32, starts: &[u32], images: &[u32]) -> usize
+    requires { ⌜ Lasting n (runs (now starts) (now images)) ⌝ }
+    ensures { λ r. ⌜ r ≡ lowestOf (overruns n) (runs (now (starts .entry)) (now (images .entry))) ⌝ }
+{
+    let mut x = 0;
+    while x < starts.len() {
+        if wide(n) < image_end(n, starts, images, x) {
+            return x;
+        }
+        x += 1;
+    }
+    x
+}
