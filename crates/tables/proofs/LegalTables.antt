@@ -5,6 +5,7 @@ use Prim.Native.Nat.{ℕ, zero, suc, _+_, _^_, _≤_, _<_}
 use mathlib.Core.Path.{_≡_, refl, sym, ap, _∙_}
 use mathlib.Core.Bool.{true, false}
 use mathlib.Core.List.{map}
+use native.Mathlib.Numerals.{add-one}
 use native.Mathlib.Omega.{arith}
 use lib.ListN.{length, drop, length-map, List·getD-map}
 use lib.Dec.{leb}
@@ -95,7 +96,7 @@ module _ (n : ℕ) (r : Runs) (c : Legal n r) (few : countOf r ≤ maxIntervals)
         let x = own p h .0 in
         let b = whole n (tablesOf n r) (runAt n r p) p (legal-held (runAt n r p) x) (map-in n r c p h .2) in
         let h = sym (holder-is (runAt n r p) x) in
-        sym (advance-to n (tablesOf n r) (runAt n r p) p b _ (mapOf n r p) (passedFrom n r p) h refl (sym legal-passed))
+        sym (advance-to n (tablesOf n r) (runAt n r p) p b _ (mapOf n r p) (passedFrom n r p) h refl (rw add-one (sym legal-passed)))
         ∙ ap (λ (y : ℕ). done (record { place = mapOf n r p; interval = y; count = passedFrom n r p })) legal-interval
 
     pub legal-move : moveOf n (tablesOf n r) (runAt n r p) p ≡ done (stepFrom n r p)

@@ -1,9 +1,10 @@
 -- What find and a move come to, by the facts that their tests show; and that after a move the place lies in the
 -- interval reached.
-use Prim.Native.Nat.{ℕ, suc, _+_, _≤_, _<_}
+use Prim.Native.Nat.{ℕ, _+_, _≤_, _<_}
 use mathlib.Core.Path.{_≡_, refl, sym, _∙_}
 use mathlib.Core.Bool.{Bool, true, false}
 use mathlib.Core.List.{[], _∷_}
+use native.Mathlib.Numerals.{add-one}
 use lib.ListN.{drop}
 use lib.Dec.{leb}
 use borrow.Author.Tests.{lt-ltb, le-ltb, le-leb, lt-leb, leb-false}
@@ -84,7 +85,7 @@ module _ (n : ℕ) (t : Tables) (x i : ℕ) where
 
   pub advance-to : broken n t x i ≡ false
       → (h j c : ℕ) → h ≡ holderOf t x → j ≡ carry (t .list) x i
-      → c ≡ leading (λ s. leb s j) (drop (suc h) (t .list .starts))
+      → c ≡ leading (λ s. leb s j) (drop (h + 1) (t .list .starts))
       → done (record { place = j; interval = h + c; count = c }) ≡ advanceOf n t x i
   unfolding advanceOf stepOf passed judge
-  advance-to b h j c p q r = simp (b, r, p, q)
+  advance-to b h j c p q r = simp (b, r, add-one, p, q)

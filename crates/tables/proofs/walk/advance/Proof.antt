@@ -2,7 +2,6 @@
 use Rattle.tables.proofs.Steps.{advance-broken, advance-to}
 use Rattle.tables.proofs.Passing.{broken-unheld, broken-far, whole, held-is}
 use native.Mathlib.Omega.{arith}
-use native.Mathlib.Numerals.{add-one}
 use mathlib.Core.Path.{sym, _∙_}
 use borrow.Author.Needs.{needs}
 use Rattle.tables.proofs.walk.advance.Statement.{statement}
@@ -85,8 +84,7 @@ returns-3 : tie.Need-returns-3
 returns-3 c =
     let e = c .before .before .before .before .before .before .before .before in
     let f = sym (e .before .is-unheld .ensures) ∙ e .if1 .left in
-    advance-to _ _ _ _ (whole _ _ _ _ f (omega arith)) _ _ _ (omega arith) (omega arith)
-    (rw add-one at (c .leading-up-to .ensures .0))
+    advance-to _ _ _ _ (whole _ _ _ _ f (omega arith)) _ _ _ (omega arith) (omega arith) (c .leading-up-to .ensures .0)
 
 pub advance-spec : {M : Type 1} → statement M
 advance-spec =
