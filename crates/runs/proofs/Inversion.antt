@@ -7,7 +7,7 @@ use native.Mathlib.Omega.{arith}
 use lib.ListN.{length, length-map}
 use lib.Seq.{ext-getD}
 use Rattle.order.specs.Order.{keyOf, orderOf}
-use Rattle.order.proofs.Laws.{lt-or-le, order-length, pairwise-at}
+use Rattle.order.proofs.Laws.{lt-or-le, length-sort, length-up, order-length, pairwise-at}
 use Rattle.runs.specs.Outcome.{done}
 use Rattle.runs.specs.Runs.{Runs, runs, countOf, startOf, imageOf, endOf, imageEnd, carry, mapOf}
 use Rattle.runs.specs.Legal.{Legal, ranked}
@@ -22,24 +22,21 @@ use Rattle.runs.proofs.Tiling.{image-some, legal-tiled}
 
 -- the inverse list, run by run
 module _ (r : Runs) (p : length (r .images) ≡ countOf r) where
-  order-size : length (orderOf (r .images)) ≡ countOf r
-  order-size = order-length (keyOf (r .images)) (length (r .images)) ∙ p
-
   pub inverse-count : countOf (inverseRuns r) ≡ countOf r
   unfolding inverseRuns
-  inverse-count = length-map (orderOf (r .images)) (imageOf r) ∙ order-size
+  inverse-count = simp (length-map, length-sort, length-up) (omega arith)
 
   pub inverse-paired : length (inverseRuns r .images) ≡ countOf (inverseRuns r)
   unfolding inverseRuns
-  inverse-paired = length-map (orderOf (r .images)) (startOf r) ∙ sym (length-map (orderOf (r .images)) (imageOf r))
+  inverse-paired = simp length-map
 
   pub inverse-start : (t : ℕ) → t < countOf r → startOf (inverseRuns r) t ≡ imageOf r (ranked r t)
   unfolding inverseRuns
-  inverse-start t h = getD-map (imageOf r) (orderOf (r .images)) t 0 (omega (arith, order-size))
+  inverse-start t h = getD-map (imageOf r) (orderOf (r .images)) t 0 (omega (arith, order-length (keyOf (r .images)) (length (r .images))))
 
   pub inverse-image : (t : ℕ) → t < countOf r → imageOf (inverseRuns r) t ≡ startOf r (ranked r t)
   unfolding inverseRuns
-  inverse-image t h = getD-map (startOf r) (orderOf (r .images)) t 0 (omega (arith, order-size))
+  inverse-image t h = getD-map (startOf r) (orderOf (r .images)) t 0 (omega (arith, order-length (keyOf (r .images)) (length (r .images))))
 
 module _ (n : ℕ) (r : Runs) (c : Legal n r) where
   count : countOf (inverseRuns r) ≡ countOf r

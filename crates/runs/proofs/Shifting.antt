@@ -5,8 +5,8 @@ use mathlib.Core.Logic.{_⊎_, inl, inr}
 use native.Mathlib.Omega.{arith}
 use lib.IntN.{pos, subℕ, _-ℤ_}
 use mir.Syntax.{w64}
-use mir.Val.{SFits, toZ}
-use mir.ValLaws.{toZ-pos}
+use mir.Val.{SFits, ofZ, toZ}
+use mir.ValLaws.{toZ-pos, toZ-ofZ}
 use borrow.Author.Tests.{lt-ltb, le-ltb}
 use Rattle.order.proofs.Laws.{lt-or-le}
 
@@ -14,14 +14,20 @@ pos-minus : (a b : ℕ) → pos a -ℤ pos b ≡ subℕ a b
 pos-minus a zero = rw (le-ltb a 0 (omega arith)) (ap pos (omega arith))
 pos-minus a (suc b) = refl
 
-module _ (a b : ℕ) (ha : a < 4294967296) (hb : b < 4294967296) where
-  pub sub-fits : SFits w64 (subℕ a b)
-  sub-fits = go (lt-or-le a b)
-    where
-      go : (a < b) ⊎ (b ≤ a) → SFits w64 (subℕ a b)
-      go (inl h) = rw (lt-ltb a b h) (record { sfits = omega arith })
-      go (inr h) = rw (le-ltb a b h) (record { sfits = omega arith })
+sub-fits : (a b : ℕ) → a < 4294967296 → b < 4294967296 → SFits w64 (subℕ a b)
+sub-fits a b ha hb = go (lt-or-le a b)
+  where
+    go : (a < b) ⊎ (b ≤ a) → SFits w64 (subℕ a b)
+    go (inl h) = rw (lt-ltb a b h) (record { sfits = omega arith })
+    go (inr h) = rw (le-ltb a b h) (record { sfits = omega arith })
 
-  -- the same of the bits, read as signed
-  pub sub-bits : toZ w64 a -ℤ toZ w64 b ≡ subℕ a b
-  sub-bits = rw (toZ-pos w64 a (omega arith), toZ-pos w64 b (omega arith)) (pos-minus a b)
+-- the same of the bits, read as signed
+module _ (a b : ℕ) (ha : a < 4294967296) (hb : b < 4294967296) where
+  minus-is : toZ w64 a -ℤ toZ w64 b ≡ subℕ a b
+  minus-is = rw (toZ-pos w64 a (omega arith), toZ-pos w64 b (omega arith)) (pos-minus a b)
+
+  pub minus-fits : SFits w64 (toZ w64 a -ℤ toZ w64 b)
+  minus-fits = rw minus-is (sub-fits a b ha hb)
+
+  pub minus-exact : toZ w64 (ofZ w64 (toZ w64 a -ℤ toZ w64 b)) ≡ subℕ a b
+  minus-exact = rw minus-is (toZ-ofZ w64 (subℕ a b) (sub-fits a b ha hb))

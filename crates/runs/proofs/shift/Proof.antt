@@ -1,9 +1,7 @@
 -- `shift` meets its contract: both numbers are of 32 bits, so their difference is one of 64.
 use native.Mathlib.Omega.{arith}
-use mir.Syntax.{w64}
-use mir.ValLaws.{toZ-ofZ}
 use borrow.Author.Needs.{needs}
-use Rattle.runs.proofs.Shifting.{sub-fits, sub-bits}
+use Rattle.runs.proofs.Shifting.{minus-fits, minus-exact}
 use Rattle.runs.proofs.shift.Statement.{statement}
 use Rattle.runs.proofs.shift.Tie as tie
 
@@ -14,12 +12,10 @@ cast-result-2 : tie.Need-cast-result-2
 cast-result-2 c = search needs
 
 sub-result : tie.Need-sub-result
-sub-result c = let a = c .args in rw (sub-bits (a .image) (a .start) (omega arith) (omega arith)) (sub-fits (a .image) (a .start) (omega arith) (omega arith))
+sub-result c = minus-fits (c .args .image) (c .args .start) (omega arith) (omega arith)
 
 returns : tie.Need-returns
-returns c =
-    let a = c .args in
-    rw (sub-bits (a .image) (a .start) (omega arith) (omega arith)) (toZ-ofZ w64 _ (sub-fits (a .image) (a .start) (omega arith) (omega arith)))
+returns c = minus-exact (c .args .image) (c .args .start) (omega arith) (omega arith)
 
 pub shift-spec : {M : Type 1} → statement M
 shift-spec = tie.close (tie.spec cast-result cast-result-2 sub-result returns)

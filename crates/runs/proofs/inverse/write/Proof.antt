@@ -1,5 +1,4 @@
 -- `write` meets its contract: one law for each way to return, and the order by image serves both calls of `gather`.
-use mathlib.Core.Path.{refl}
 use native.Mathlib.Omega.{arith}
 use borrow.Author.Needs.{needs}
 use Rattle.runs.proofs.Writing.{ordered-gathers, starts-short, images-short, written}
@@ -19,10 +18,10 @@ returns-2 : tie.Need-returns-2
 returns-2 c = images-short _ _ _ (omega arith) (omega arith)
 
 gather-requires : tie.Need-gather-requires
-gather-requires c κs = let o = c .before .before .before .before .before .before .before .before .pre .0 in ordered-gathers _ _ o _ _ (o .paired) (omega arith)
+gather-requires c κs = let o = c .before .before .before .before .before .before .before .before .pre .0 in ordered-gathers _ _ o _ _ (omega (arith, o .paired)) (omega arith)
 
 gather-requires-2 : tie.Need-gather-requires-2
-gather-requires-2 c κs = ordered-gathers _ _ (c .before .before .before .before .before .before .before .before .before .before .before .before .pre .0) _ _ refl (omega arith)
+gather-requires-2 c κs = let o = c .before .before .before .before .before .before .before .before .before .before .before .before .pre .0 in ordered-gathers _ _ o _ _ (omega (arith, o .paired)) (omega arith)
 
 same-length : tie.Need-same-length
 same-length c = search needs
