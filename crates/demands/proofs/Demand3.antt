@@ -13,20 +13,23 @@ use Rattle.order.specs.Order.{All, sumOf}
 use Rattle.runs.specs.Outcome.{Outcome, done, refused, judge, mapDone, andThen, filled}
 use Rattle.runs.specs.Runs.{Runs, countOf, startOf, imageOf, endOf, runAt, carry, mapOf}
 use Rattle.runs.specs.Legal.{Legal}
-use Rattle.runs.specs.Check.{checkTests, checkOf}
+use Rattle.runs.specs.Check.{maxRuns, checkTests, checkOf}
 use Rattle.runs.proofs.Judging.{judge-append}
+use Rattle.runs.proofs.Accepted.{accepted-legal}
 use Rattle.runs.proofs.Legality.{homes, home, run-at}
 use Rattle.tables.specs.Tables.{Tables, tables, tablesOf, sizeOf}
 use Rattle.tables.specs.Under.{weight}
 use Rattle.tables.proofs.Walks.{above-to, walk-bound}
+use Rattle.tables.proofs.LegalTables.{legal-find-beyond}
 use Rattle.tables.specs.Move.{findOf}
 use Rattle.balance.specs.Balance.{balanced, boundOf}
 use Rattle.balance.specs.Lent.{Lent, balancedSays, balanceOf, balanceTests, tooShort, Balances}
 use Rattle.balance.specs.declared.Balanced.{Balanced}
-use Rattle.balance.proofs.Balancing.{balanced-legal, balanced-map, balanced-light, balanced-count, balanced-cuts}
+use Rattle.balance.proofs.Balancing.{balanced-legal, balanced-map, balanced-light, balanced-count}
 use Rattle.demands.specs.Calls.{Call, allMoves, allCounts}
 use Rattle.demands.specs.PlainWalk.{plainMove, plainWalk, walkCounts}
 use Rattle.demands.specs.Demands.{Through, Roomy, firstOf, Serves, Demand3}
+use Rattle.demands.proofs.Demand2.{balanced-few, through-balanced}
 use Rattle.demands.proofs.Serving.{same-replies}
 use Rattle.demands.proofs.Counting.{counts-length, counts-sum, counts-most, sum-most}
 use Rattle.demands.proofs.Marking.{same-trail}
@@ -64,34 +67,35 @@ move-most n d r t c same light p h = go (home n t (homes n t c) p h)
         rw (← same p h, run-at n t (homes n t c) x p hx a b)
         (omega (arith, above-to (imageOf t x) (carry t x p) (t .starts), walk-bound n t c x p hx a b, light x hx))
 
-module _ (n : ℕ) (r : Runs) (d : ℕ) (c : Legal n r) (many : 2 ≤ d) (few : d ≤ 64)
-    (through : Through n r (balanced d n r))
-    (not-found : (i : ℕ) → n ≤ i → findOf n (tablesOf n (balanced d n r)) i ≡ refused 11 i) where
-  t : Runs
+module _ (n : ℕ) (r : Runs) (d : ℕ) (c : Legal n r) (k : countOf r ≤ maxRuns) (many : 2 ≤ d) (few : d ≤ 64) where
+  abbrev t : Runs
   t = balanced d n r
 
-  legal : Legal n t
-  unfolding t
-  legal = balanced-legal d n many r c
+  walks : Through n r t
+  walks = through-balanced n r c k d many
+
+  not-found : (i : ℕ) → n ≤ i → findOf n (tablesOf n t) i ≡ refused 11 i
+  not-found = legal-find-beyond n t (balanced-legal d n many r c) (balanced-few n r c k d many)
 
   most : (p : ℕ) → p < n → plainMove n r t p .count ≤ 2 * d - 1
-  unfolding t
-  most = move-most n d r t legal (balanced-map d n many r c) (balanced-light d n many r c)
+  most = move-most n d r t (balanced-legal d n many r c) (balanced-map d n many r c) (balanced-light d n many r c)
 
   -- the tables of the balanced list serve the plain walk
   tables-serve : (l : Lent) → firstOf (countOf t) l ≡ tablesOf n t → Serves n r d (countOf t) l
-  unfolding t
   tables-serve l e = record {
     fits = balanced-count d n many r c;
     same-permutation = λ p h. ap (λ (τ : Tables). mapOf n (τ .list) p) e ∙ balanced-map d n many r c p h;
-    same-replies = λ p h cs. rw e (same-replies n r t (tablesOf n t) (through .find) not-found (through .move) (λ m q i. through .moves m q i .0) (through .inside) cs p h);
-    each-move = λ p h cs. counts-most n (2 * d - 1) r t (through .inside) most cs p h;
+    same-replies = λ p h cs. rw e
+        (same-replies n r t (tablesOf n t) (walks .find) not-found (walks .move) (λ m q i. walks .moves m q i .0) (walks .inside) cs p h);
+    each-move = λ p h cs. counts-most n (2 * d - 1) r t (walks .inside) most cs p h;
     all-moves = λ p h cs. (
       counts-length n r t cs p,
       counts-sum n r t cs p,
-      rw (counts-sum n r t cs p, ← counts-length n r t cs p) (sum-most (2 * d - 1) (walkCounts n r t p cs) (counts-most n (2 * d - 1) r t (through .inside) most cs p h)),
+      rw (counts-sum n r t cs p, ← counts-length n r t cs p)
+          (sum-most (2 * d - 1) (walkCounts n r t p cs) (counts-most n (2 * d - 1) r t (walks .inside) most cs p h)),
     );
-    same-trail = λ p h m. rw e (same-trail n (2 * d - 1) r t (tablesOf n t) (through .move) (through .inside) most (omega arith) m p 0 0 h (omega arith) (omega arith));
+    same-trail = λ p h m. rw e
+        (same-trail n (2 * d - 1) r t (tablesOf n t) (walks .move) (walks .inside) most (omega arith) m p 0 0 h (omega arith) (omega arith));
   }
 
 -- the head of the lent tables after balancing
@@ -109,3 +113,13 @@ module _ (n : ℕ) (r : Runs) (d : ℕ) (entry exit : Lent) (answer : Balanced) 
       let i = ap (take (countOf (balanced d n r))) (b .images) ∙ filled-head (λ u. u .list .images) τ _ _ (entry .images) e paired in
       let h = ap (take (countOf (balanced d n r))) (b .holders) ∙ filled-head (λ u. u .holders) τ _ _ (entry .holders) e (length-map (balanced d n r .images) (runAt n (balanced d n r)) ∙ paired) in
       λ j. tables (s j) (i j) (h j)
+
+pub demand3 : Demand3
+demand3 n r d entry exit answer b a many few room =
+    let l = accepted-legal n r a in
+    let e = balance-done n r d entry a many few room in
+    let paired = balanced-legal d n many r (l .0) .paired in (
+      countOf (balanced d n r),
+      answer-is n r d entry exit answer b e paired,
+      tables-serve n r d (l .0) (l .1) many few exit (head-is n r d entry exit answer b e paired),
+    )

@@ -1,0 +1,31 @@
+-- Demand 2: acceptance is `check`'s own theorem (runs/proofs/Intervals), and the walks through a list's own tables and
+-- through those of its balanced list are one theorem (Through), since both lists are legal and have one function.
+use Prim.Native.Nat.{ℕ, _+_, _≤_, _<_}
+use mathlib.Core.Path.{_≡_, refl}
+use native.Mathlib.Omega.{arith}
+use Rattle.runs.specs.Outcome.{done}
+use Rattle.runs.specs.Runs.{Runs, countOf}
+use Rattle.runs.specs.Legal.{Legal}
+use Rattle.runs.specs.Check.{maxRuns, checkOf}
+use Rattle.runs.proofs.Accepted.{accepted-legal}
+use Rattle.runs.proofs.Intervals.{accepted-intervals, intervals-accepted}
+use Rattle.tables.specs.Tables.{maxIntervals}
+use Rattle.balance.specs.Balance.{balanced}
+use Rattle.balance.proofs.Balancing.{balanced-legal, balanced-map, balanced-cuts}
+use Rattle.demands.specs.Demands.{Through, Demand2}
+use Rattle.demands.proofs.Through.{through}
+
+-- the balanced list of an accepted one has room in tables
+module _ (n : ℕ) (r : Runs) (c : Legal n r) (k : countOf r ≤ maxRuns) (d : ℕ) (many : 2 ≤ d) where
+  pub balanced-few : countOf (balanced d n r) ≤ maxIntervals
+  balanced-few = omega (arith, balanced-cuts d n many r c .counted, balanced-cuts d n many r c .fuelled)
+
+  pub through-balanced : Through n r (balanced d n r)
+  through-balanced = through n r (balanced d n r) c (balanced-legal d n many r c) balanced-few (balanced-map d n many r c)
+
+pub demand2 : Demand2
+demand2 = record {
+  accepted = λ n r. (accepted-intervals n r, λ h. intervals-accepted n r (h .0) (h .1));
+  own-tables = λ n r a. let l = accepted-legal n r a in through n r r (l .0) (l .0) (omega (arith, l .1)) (λ p h. refl);
+  balanced-tables = λ n r d a many few. let l = accepted-legal n r a in through-balanced n r (l .0) (l .1) d many;
+}
