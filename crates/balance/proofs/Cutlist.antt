@@ -10,29 +10,21 @@ use lib.ListN.{length, getD, length-map}
 use Rattle.order.specs.Order.{Sorted, countBelow, keyOf, orderOf}
 use Rattle.order.proofs.Laws.{lt-or-le, all-at, pairwise-at, at-pairwise, strict-sorted, sorted-at, count-lt, count-mono, count-gt, count-after, count-le-length, order-length, order-below, order-keys, order-occurs}
 use Rattle.runs.specs.Legal.{Legal}
-use Rattle.runs.specs.Runs.{Runs, countOf, startOf, imageOf, endOf, imageEnd, runAt, carry, mapOf}
+use Rattle.runs.specs.Runs.{Runs, countOf, startOf, imageOf, endOf, imageEnd, mapOf}
 use Rattle.runs.proofs.Sums.{count-inside}
 use Rattle.runs.proofs.Legality.{homes, home, run-at, map-at, end-next, end-last, land}
+use Rattle.runs.proofs.Bijection.{map-injective}
+use Rattle.runs.proofs.Mapped.{getD-map}
 use Rattle.tables.specs.Inverse.{carryBack}
 use Rattle.tables.specs.Under.{weight}
 use Rattle.tables.proofs.Walks.{weight-is, run-below}
 use Rattle.balance.specs.Cuts.{merged, withCuts, firstFrom, lastTo, Starts, Ranked, Begins, PieceAt, Covers}
-use Rattle.balance.proofs.Refine.{Piece, Refines, refined-legal, refined-map, refined-images, getD-map}
+use Rattle.balance.proofs.Refine.{Piece, Refines, refined-legal, refined-map, refined-images}
 use Rattle.balance.proofs.Merged.{merged-length, merged-start}
-
--- two places that a legal list sends to one are one
-pub map-one : (n : ℕ) (r : Runs) → Legal n r → (a b : ℕ) → a < n → b < n → mapOf n r a ≡ mapOf n r b → a ≡ b
-map-one n r c a b ha hb e = go (home n r (homes n r c) a ha) (home n r (homes n r c) b hb)
-  where
-    go : (x : ℕ) × (x < countOf r) × (startOf r x ≤ a) × (a < endOf n r x) → (y : ℕ) × (y < countOf r) × (startOf r y ≤ b) × (b < endOf n r y) → a ≡ b
-    go (x, hx, a₀, a₁) (y, hy, b₀, b₁) =
-        let i : carry r x a ≡ carry r y b = sym (map-at n r (homes n r c) x a hx a₀ a₁) ∙ e ∙ map-at n r (homes n r c) y b hy b₀ b₁ in
-        let same : x ≡ y = c .apart x y (carry r x a) hx hy (omega arith) (omega arith) (omega arith) (omega arith) in
-        omega (arith, ap (imageOf r) same, ap (startOf r) same)
 
 module _ (n : ℕ) (r : Runs) (cuts : List ℕ) (c : Legal n r) (s : Starts n (r .starts) cuts) where
   with-image : (x : ℕ) → x < length (merged (r .starts) cuts) → imageOf (withCuts n r cuts) x ≡ mapOf n r (getD (merged (r .starts) cuts) x 0)
-  with-image x h = getD-map (mapOf n r) (merged (r .starts) cuts) x h
+  with-image x h = getD-map (mapOf n r) (merged (r .starts) cuts) x 0 h
 
   with-below : (x : ℕ) → x < length (merged (r .starts) cuts) → getD (merged (r .starts) cuts) x 0 < n
   with-below x h = all-at (λ u. u < n) (merged (r .starts) cuts) (s .below) x h
@@ -97,7 +89,7 @@ module _ (n : ℕ) (r : Runs) (cuts : List ℕ) (c : Legal n r) (s : Starts n (r
 
   -- the piece whose image is at p
   pub piece-start : (x p start : ℕ) → x < countOf (withCuts n r cuts) → imageOf (withCuts n r cuts) x ≡ p → start < n → mapOf n r start ≡ p → startOf (withCuts n r cuts) x ≡ start
-  piece-start x p start h e l f = map-one n r c (startOf (withCuts n r cuts) x) start (with-below x h) l (sym (with-image x h) ∙ e ∙ sym f)
+  piece-start x p start h e l f = map-injective n r c (startOf (withCuts n r cuts) x) start (with-below x h) l (sym (with-image x h) ∙ e ∙ sym f)
 
   pub piece-end : (x start : ℕ) → x < countOf (withCuts n r cuts) → startOf (withCuts n r cuts) x ≡ start → endOf n (withCuts n r cuts) x ≡ firstFrom n (merged (r .starts) cuts) (start + 1)
   piece-end x start h e =
@@ -154,7 +146,7 @@ module _ (n : ℕ) (r : Runs) (c : Legal n r) where
   ranked-length = order-length (keyOf (r .images)) (length (r .images)) ∙ c .paired
 
   ranked-at : (j : ℕ) → j < countOf r → getD (map (imageOf r) (orderOf (r .images))) j 0 ≡ imageOf r (getD (orderOf (r .images)) j 0)
-  ranked-at j h = getD-map (imageOf r) (orderOf (r .images)) j (omega (arith, ranked-length))
+  ranked-at j h = getD-map (imageOf r) (orderOf (r .images)) j 0 (omega (arith, ranked-length))
 
   order-sorted : Sorted (map (imageOf r) (orderOf (r .images)))
   order-sorted = at-pairwise _≤_ (map (imageOf r) (orderOf (r .images))) (λ i j l h. at i j l (omega (arith, length-map (orderOf (r .images)) (imageOf r), ranked-length)))

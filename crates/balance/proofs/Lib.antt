@@ -10,3 +10,4 @@ pub mod Cutlist
 pub mod Progress
 pub mod Filling
 pub mod Writing
+pub mod Outcomes

@@ -2,17 +2,13 @@
 use Prim.Native.Nat.{ℕ, suc, _+_, _-_, _≤_, _<_}
 use mathlib.Core.Path.{_≡_, refl, sym, _∙_}
 use native.Mathlib.Omega.{arith}
-use mathlib.Core.List.{List, map}
-use lib.ListN.{length, getD, length-map, List·getD-map}
+use mathlib.Core.List.{map}
+use lib.ListN.{length, getD, length-map}
 use lib.Seq.{ext-getD}
-use Rattle.runs.proofs.Searches.{getD-default}
 use Rattle.runs.specs.Legal.{Legal}
 use Rattle.runs.specs.Runs.{Runs, countOf, startOf, imageOf, endOf, imageEnd, mapOf}
+use Rattle.runs.proofs.Mapped.{getD-map}
 use Rattle.runs.proofs.Legality.{Parted, homes, strict-steps, end-next, home, home-one, map-at}
-
--- an entry of a list's images by a function
-pub getD-map : (f : ℕ → ℕ) (l : List ℕ) (i : ℕ) → i < length l → getD (map f l) i 0 ≡ f (getD l i 0)
-getD-map f l i h = getD-default (map f l) i 0 (f 0) (omega (arith, length-map l f)) ∙ List·getD-map f l i 0
 
 -- interval y of q is a piece of interval o of r
 pub record Piece (n : ℕ) (r q : Runs) (y o : ℕ) : Type 0 where
@@ -77,7 +73,7 @@ module _ (n : ℕ) (r q : Runs) (c : Legal n r) (f : Refines n r q) where
       at y h =
           let o = f .piece y h in
           let e : imageOf q y ≡ mapOf n r (startOf q y) = omega (arith, o .1) ∙ sym (map-at n r (homes n r c) (o .0) (startOf q y) (o .1 .known) (o .1 .from) (omega (arith, o .1))) in
-          e ∙ sym (getD-map (mapOf n r) (q .starts) y h)
+          e ∙ sym (getD-map (mapOf n r) (q .starts) y 0 h)
 
 pub refines-self : (n : ℕ) (r : Runs) → Legal n r → Refines n r r
 refines-self n r c = record { some = c .some; paired = c .paired; first = c .first; piece = λ y h. (y, record { known = h; from = omega arith; lasting = homes n r c .lasting y h; to = omega arith; shift = refl }) }

@@ -5,16 +5,18 @@ use mathlib.Core.Path.{_≡_, refl, sym, ap, _∙_}
 use mathlib.Core.List.{List, map}
 use native.Mathlib.Omega.{arith}
 use native.Mathlib.Numerals.{add-one}
-use lib.ListN.{length, getD, set, length-set, length-map}
+use lib.ListN.{length, take, drop, getD, set, length-set, length-map}
 use Rattle.order.specs.Order.{countBelow}
-use Rattle.order.proofs.Laws.{all-at, strict-length}
+use Rattle.order.proofs.Laws.{at-all, strict-length}
 use Rattle.runs.specs.Legal.{Legal}
-use Rattle.runs.specs.Runs.{Runs, countOf, startOf, imageOf, endOf, runAt, mapOf}
+use Rattle.runs.specs.Runs.{Runs, runs, countOf, startOf, imageOf, endOf, runAt, mapOf}
 use Rattle.runs.proofs.Legality.{homes, home, run-at}
+use lib.Seq.{take-at}
+use Rattle.tables.specs.Tables.{tablesOf}
 use Rattle.tables.proofs.Walks.{run-below}
-use Rattle.balance.specs.Cuts.{merged, withCuts, Starts, Has, ListWritten}
-use Rattle.balance.proofs.Refine.{getD-map}
-use Rattle.balance.proofs.Merged.{merged-count, merged-next, place-count}
+use Rattle.balance.specs.Cuts.{merged, withCuts, Starts, Has, over, ListWritten, TablesWritten}
+use Rattle.runs.proofs.Mapped.{getD-map}
+use Rattle.balance.proofs.Merged.{merged-length, merged-count, merged-next, place-count}
 use Rattle.balance.proofs.Filling.{written, written-more, written-all}
 
 -- the run that has a place, by counting the starts up to it
@@ -25,6 +27,10 @@ has-counted n r c p k h e = go (home n r (homes n r c) p h)
     go (x, hx, a, b) =
         let f : k - 1 ≡ x = omega (arith, run-below n r (homes n r c) p h, run-at n r (homes n r c) x p hx a b) in
         (omega (arith, run-below n r (homes n r c) p h), rw f (record { known = hx; from = a; to = b }))
+
+-- there are no more runs than places
+pub legal-count : (n : ℕ) (r : Runs) → Legal n r → countOf r ≤ n
+legal-count n r c = strict-length n (r .starts) (homes n r c .up) (at-all (λ y. y < n) (r .starts) (c .below))
 
 -- the holder of an image, by counting the starts up to it
 pub image-below : (n : ℕ) (r : Runs) → Legal n r → (x : ℕ) → x < countOf r → imageOf r x < n
@@ -63,7 +69,7 @@ module _ (n : ℕ) (r : Runs) (cuts starts₀ images₀ : List ℕ) (c : Starts 
       images-kept = length-set images (i + j) v ∙ w .images-kept;
       starts-written = ap (λ (t : List ℕ). set t (i + j) s) (w .starts-written) ∙ written-more (merged (r .starts) cuts) starts₀ (i + j) s h (omega arith) e ∙ ap (λ (x : ℕ). written (merged (r .starts) cuts) x starts₀) (sym g);
       images-written = ap (λ (t : List ℕ). set t (i + j) v) (w .images-written) ∙ written-more (map (mapOf n r) (merged (r .starts) cuts)) images₀ (i + j) v (omega (arith, length-map (merged (r .starts) cuts) (mapOf n r))) (omega arith)
-          (f ∙ ap (mapOf n r) e ∙ sym (getD-map (mapOf n r) (merged (r .starts) cuts) (i + j) h)) ∙ ap (λ (x : ℕ). written (map (mapOf n r) (merged (r .starts) cuts)) x images₀) (sym g);
+          (f ∙ ap (mapOf n r) e ∙ sym (getD-map (mapOf n r) (merged (r .starts) cuts) (i + j) 0 h)) ∙ ap (λ (x : ℕ). written (map (mapOf n r) (merged (r .starts) cuts)) x images₀) (sym g);
     }
 
     pub writing-end : length (merged (r .starts) cuts) ≤ i + j → ListWritten n r cuts starts₀ images₀ starts images
@@ -72,3 +78,22 @@ module _ (n : ℕ) (r : Runs) (cuts starts₀ images₀ : List ℕ) (c : Starts 
           starts-at-exit = w .starts-written ∙ written-all (merged (r .starts) cuts) starts₀ (i + j) e;
           images-at-exit = w .images-written ∙ written-all (map (mapOf n r) (merged (r .starts) cuts)) images₀ (i + j) (e ∙ sym (length-map (merged (r .starts) cuts) (mapOf n r)));
         }
+
+-- the first entries of the two tables are the list after the cuts, and with its holders in the third its tables
+module _ (n : ℕ) (r : Runs) (cuts starts images starts′ images′ : List ℕ) (w : ListWritten n r cuts starts images starts′ images′) where
+  pub list-taken : (k : ℕ) → k ≡ countOf r + length cuts → runs (take k starts′) (take k images′) ≡ withCuts n r cuts
+  list-taken k e =
+      let m = merged (r .starts) cuts in
+      let h : length m ≡ k = omega (arith, merged-length (r .starts) cuts) in
+      let s : take k starts′ ≡ m = ap (take k) (w .starts-at-exit) ∙ take-at m (drop (length m) starts) k h in
+      let i : take k images′ ≡ map (mapOf n r) m = ap (take k) (w .images-at-exit) ∙ take-at (map (mapOf n r) m) _ k (length-map m (mapOf n r) ∙ h) in
+      λ j. runs (s j) (i j)
+
+  pub tables-written : (k : ℕ) (holders holders′ : List ℕ) → k ≡ countOf r + length cuts
+      → holders′ ≡ over (map (runAt n (runs (take k starts′) (take k images′))) (take k images′)) holders
+      → TablesWritten (tablesOf n (withCuts n r cuts)) starts images holders starts′ images′ holders′
+  tables-written k holders holders′ e f = record {
+    starts-at-exit = w .starts-at-exit;
+    images-at-exit = w .images-at-exit;
+    holders-at-exit = f ∙ ap (λ (q : Runs). over (map (runAt n q) (q .images)) holders) (list-taken k e);
+  }

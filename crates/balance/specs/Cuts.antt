@@ -2,12 +2,15 @@
 use Prim.Native.Nat.{ℕ, _+_, _-_, _≤_, _<_}
 use mathlib.Core.Path.{_≡_}
 use mathlib.Core.List.{List, _++_, map}
-use lib.ListN.{length, take, drop, getD}
+use lib.ListN.{length, take, drop, getD, replicate}
 use Rattle.order.specs.Order.{All, Strict, countBelow, sortBy, orderOf}
+use Rattle.runs.specs.Check.{maxRuns}
 use Rattle.runs.specs.Legal.{Legal}
 use Rattle.runs.specs.Runs.{Runs, runs, countOf, startOf, imageOf, endOf, imageEnd, mapOf}
+use Rattle.tables.specs.Tables.{Tables, sizeOf}
 use Rattle.tables.specs.Under.{weight}
-use Rattle.balance.specs.Balance.{balanced}
+use Rattle.balance.specs.Balance.{balanced, boundOf}
+use Rattle.balance.specs.Lent.{Lent}
 use Rattle.balance.specs.declared.Piece.{Piece}
 
 -- the starts of a list and those that cuts added, in rising order
@@ -85,3 +88,27 @@ over l table = l ++ drop (length l) table
 pub record ListWritten (n : ℕ) (r : Runs) (cuts starts images starts′ images′ : List ℕ) : Type 0 where
   pub starts-at-exit : starts′ ≡ over (withCuts n r cuts .starts) starts
   pub images-at-exit : images′ ≡ over (withCuts n r cuts .images) images
+
+-- the tables t stand in three lent ones
+pub record TablesWritten (t : Tables) (starts images holders starts′ images′ holders′ : List ℕ) : Type 0 where
+  pub starts-at-exit : starts′ ≡ over (t .list .starts) starts
+  pub images-at-exit : images′ ≡ over (t .list .images) images
+  pub holders-at-exit : holders′ ≡ over (t .holders) holders
+
+-- a list that may be balanced, and tables with room for it
+pub record Fillable (n : ℕ) (r : Runs) (d b : ℕ) (l : Lent) : Type 0 where
+  pub legal : Legal n r
+  pub few : countOf r ≤ maxRuns
+  pub low : 2 ≤ d
+  pub high : d ≤ 64
+  pub bound : b ≡ boundOf d (countOf r)
+  pub starts-room : b ≤ length (l .starts)
+  pub images-room : b ≤ length (l .images)
+  pub holders-room : b ≤ length (l .holders)
+  pub working-room : b ≤ length (l .working)
+
+-- the tables t stand in the lent ones, and the working table is cleared
+pub record Filled (t : Tables) (b : ℕ) (entry exit : Lent) (k : ℕ) : Type 0 where
+  pub counted : k ≡ sizeOf t
+  pub written : TablesWritten t (entry .starts) (entry .images) (entry .holders) (exit .starts) (exit .images) (exit .holders)
+  pub cleared : exit .working ≡ over (replicate b 0) (entry .working)

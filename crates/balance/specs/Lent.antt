@@ -25,6 +25,9 @@ pub record Lent : Type 0 where
   pub holders : List ℕ
   pub working : List ℕ
 
+abbrev pub lent : List ℕ → List ℕ → List ℕ → List ℕ → Lent
+lent s i h w = record { starts = s; images = i; holders = h; working = w }
+
 -- 7: "d outside 2 to 64"
 abbrev pub degreeTest : ℕ → Test
 degreeTest d = test 7 (ltb d 2 || ltb 64 d) d

@@ -7,7 +7,7 @@ mod Searching
 mod Checking
 mod Sweeping
 pub mod Accepted
-mod Mapped
+pub mod Mapped
 pub mod Intervals
 pub mod Bijection
 pub mod Tiling

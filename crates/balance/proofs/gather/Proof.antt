@@ -6,7 +6,7 @@ use native.Mathlib.Omega.{arith}
 use lib.ListN.{length, getD, set, length-set, length-map}
 use Rattle.order.specs.Order.{keyOf}
 use Rattle.order.proofs.Laws.{all-at}
-use Rattle.balance.proofs.Refine.{getD-map}
+use Rattle.runs.proofs.Mapped.{getD-map}
 use Rattle.balance.proofs.Filling.{written, written-more, written-all}
 use Rattle.balance.proofs.gather.Statement.{statement}
 use Rattle.balance.proofs.gather.Tie as tie
@@ -60,7 +60,7 @@ loop-again c =
       omega arith,
       length-set (l .to) (l .j) v ∙ l .inv .1,
       ap (λ (t : List ℕ). set t (l .j) v) (l .inv .2)
-          ∙ written-more m (a .to .now) (l .j) v (omega (arith, length-map (a .order .now) (keyOf (a .key .now)))) (omega (arith, c .before .before .before .before .pre .1)) (sym (getD-map (keyOf (a .key .now)) (a .order .now) (l .j) (c .before .before .loop-test .taken))),
+          ∙ written-more m (a .to .now) (l .j) v (omega (arith, length-map (a .order .now) (keyOf (a .key .now)))) (omega (arith, c .before .before .before .before .pre .1)) (sym (getD-map (keyOf (a .key .now)) (a .order .now) (l .j) 0 (c .before .before .loop-test .taken))),
     )
 
 same-length : tie.Need-same-length Inv-loop μ-loop

@@ -4,12 +4,12 @@ use mathlib.Core.Path.{_≡_, refl, sym, ap, _∙_}
 use mathlib.Core.List.{List, map}
 use native.Mathlib.Omega.{arith}
 use lib.ListN.{length, getD, set, length-set, length-map}
-use Rattle.order.proofs.Laws.{strict-sorted, strict-length, at-all, count-le-length}
+use Rattle.order.proofs.Laws.{strict-sorted, count-le-length}
 use Rattle.runs.specs.Runs.{runs, runAt}
 use Rattle.runs.proofs.Legality.{homes}
-use Rattle.balance.proofs.Refine.{getD-map}
+use Rattle.runs.proofs.Mapped.{getD-map}
 use Rattle.balance.proofs.Filling.{written, written-more, written-all}
-use Rattle.balance.proofs.Writing.{image-below, holder-counted}
+use Rattle.balance.proofs.Writing.{legal-count, image-below, holder-counted}
 use Rattle.balance.proofs.write_holders.Statement.{statement}
 use Rattle.balance.proofs.write_holders.Tie as tie
 
@@ -46,13 +46,11 @@ sub-to c = omega (arith, counted c)
 cast-to : tie.Need-cast-to Inv-loop μ-loop
 cast-to c =
     let a = c .before .before .before .before .before .before .before in
-    let s = a .args .starts .now in
-    let hs = homes (a .args .n) (runs s (a .args .images .now)) (a .pre .0) in
     omega (
       arith,
       c .count-below .ensures,
-      count-le-length (getD (a .args .images .now) (c .before .before .before .loop .x) 0 + 1) s,
-      strict-length (a .args .n) s (hs .up) (at-all (λ y. y < a .args .n) s (a .pre .0 .below)),
+      count-le-length (getD (a .args .images .now) (c .before .before .before .loop .x) 0 + 1) (a .args .starts .now),
+      legal-count (a .args .n) (runs (a .args .starts .now) (a .args .images .now)) (a .pre .0),
     )
 
 mul-to : tie.Need-mul-to Inv-loop μ-loop
@@ -78,7 +76,7 @@ loop-again c =
       length-set (l .to) (l .x) v ∙ l .inv .1,
       ap (λ (t : List ℕ). set t (l .x) v) (l .inv .2)
           ∙ written-more m (a .to .now) (l .x) v (omega (arith, length-map (a .images .now) (runAt (a .n) r))) (omega (arith, c .before .before .before .before .before .before .before .pre .1, c .before .before .before .before .before .before .before .pre .0 .paired))
-          (omega (arith, counted c) ∙ sym (getD-map (runAt (a .n) r) (a .images .now) (l .x) (c .before .before .loop-test .taken))),
+          (omega (arith, counted c) ∙ sym (getD-map (runAt (a .n) r) (a .images .now) (l .x) 0 (c .before .before .loop-test .taken))),
     )
 
 same-length : tie.Need-same-length Inv-loop μ-loop
