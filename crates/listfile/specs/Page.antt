@@ -5,6 +5,7 @@ use mathlib.Core.List.{List, _++_}
 use lib.ListN.{length, take, drop}
 use Rattle.runs.specs.Legal.{Legal}
 use Rattle.tables.specs.Tables.{Tables, tablesOf, sizeOf}
+use Rattle.balance.specs.Lent.{Lent}
 
 -- the page with s on it from index `at` on
 unfoldable pub overlaid : List ℕ → ℕ → List ℕ → List ℕ
@@ -19,8 +20,20 @@ pub record Wrote (page : List ℕ) (at : ℕ) (s : List ℕ) (page′ : List ℕ
   pub text : page′ ≡ overlaid page at s
   pub till : end ≡ at + length s
 
+-- no listing is longer: four fields of 10 digits and their separators, and for each of 2,048 intervals six fields, of
+-- which one has a sign
+abbrev pub maxText : ℕ
+maxText = 137260
+
 -- tables of a legal list that is short enough to be listed
 pub record Listed (n : ℕ) (t : Tables) : Type 0 where
   pub legal : Legal n (t .list)
   pub held : t ≡ tablesOf n (t .list)
   pub few : sizeOf t ≤ 2048
+
+-- lent tables with room for the balanced list of 1,024 runs at any degree
+pub record Spacious (l : Lent) : Type 0 where
+  pub starts : 2048 ≤ length (l .starts)
+  pub images : 2048 ≤ length (l .images)
+  pub holders : 2048 ≤ length (l .holders)
+  pub working : 2048 ≤ length (l .working)
