@@ -15,7 +15,7 @@ ghost use Rattle.listfile.specs.Text.{texts};
 ghost use Rattle.balance.specs.Lent.{lent};
 ghost use Rattle.listfile.specs.File.{Laid, ListRoom, bodyOf};
 ghost use Rattle.listfile.specs.Listing.{maxListed, rowOf, tableText, textOf};
-ghost use Rattle.listfile.specs.Page.{maxText, Fits, Wrote, Listed, Spacious};
+ghost use Rattle.listfile.specs.Page.{maxText, Fits, Wrote, Listed, Spacious, Answered};
 
 // The weight of interval x, which no table of a legal list refuses.
 fn weight_of(n: u32, starts: &[u32], images: &[u32], holders: &[u32], x: u32) -> u32
@@ -87,6 +87,28 @@ fn table(page: &mut [u8], h: Header, starts: &[u32], images: &[u32], holders: &[
     rows(page, next, h.n, starts, images, holders)
 }
 
+// Writes what balancing answered: the listing of the tables that it filled, or its refusal.
+fn answer_text(
+    file: &[u8],
+    h: Header,
+    page: &mut [u8],
+    answer: Balanced,
+    starts: &[u32],
+    images: &[u32],
+    holders: &[u32],
+) -> usize
+    requires { ⌜ Answered (now file) h answer (now starts) (now images) (now holders) × (maxText ≤ length (now page)) ⌝ }
+    ensures { λ r. ⌜ Wrote (now (page .entry)) 0 (textOf (now (file .entry)) (bodyOf (now (file .entry)))) (now (page .exit)) r ⌝ }
+{
+    match answer {
+        Balanced::Refused(r) => text::refusal(page, r.number(), r.place()),
+        Balanced::Intervals(size) => {
+            let k = size as usize;
+            table(page, h, &starts[..k], &images[..k], &holders[..k])
+        }
+    }
+}
+
 // Balances the list of a file whose header is right, and writes its listing or the refusal, with room to work in.
 fn list_balanced(
     file: &[u8],
@@ -103,7 +125,7 @@ fn list_balanced(
     ensures { λ r. ⌜ Wrote (now (page .entry)) 0 (textOf (now (file .entry)) (bodyOf (now (file .entry)))) (now (page .exit)) r ⌝ }
 {
     read_list(file, h.k as usize, starts, images);
-    match balance::balance(
+    let answer = balance::balance(
         h.n,
         starts,
         images,
@@ -112,11 +134,6 @@ fn list_balanced(
         to_images,
         to_holders,
         working,
-    ) {
-        Balanced::Refused(r) => text::refusal(page, r.number(), r.place()),
-        Balanced::Intervals(size) => {
-            let k = size as usize;
-            table(page, h, &to_starts[..k], &to_images[..k], &to_holders[..k])
-        }
-    }
+    );
+    answer_text(file, h, page, answer, to_starts, to_images, to_holders)
 }
