@@ -6,3 +6,4 @@ mod Signs
 mod Heading
 mod Bodies
 mod Rows
+mod Answering
