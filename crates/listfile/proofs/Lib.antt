@@ -7,3 +7,4 @@ mod Heading
 mod Bodies
 mod Rows
 mod Answering
+mod Listings
