@@ -1,5 +1,8 @@
 // The lines of a listing, one for each interval of the tables of a legal list.
+use super::Header;
+use super::read_list;
 use super::text;
+use balance::Balanced;
 use tables::Weighed;
 ghost use mathlib.Core.Path.{_≡_};
 ghost use Prim.Native.Nat.{_+_, _*_, _≤_, _<_};
@@ -9,8 +12,10 @@ ghost use Rattle.runs.specs.Runs.{runs};
 ghost use Rattle.tables.specs.Tables.{tables};
 ghost use Rattle.tables.specs.Under.{weight};
 ghost use Rattle.listfile.specs.Text.{texts};
-ghost use Rattle.listfile.specs.Listing.{rowOf};
-ghost use Rattle.listfile.specs.Page.{Fits, Wrote, Listed};
+ghost use Rattle.balance.specs.Lent.{lent};
+ghost use Rattle.listfile.specs.File.{Laid, ListRoom, bodyOf};
+ghost use Rattle.listfile.specs.Listing.{maxListed, rowOf, tableText, textOf};
+ghost use Rattle.listfile.specs.Page.{maxText, Fits, Wrote, Listed, Spacious, Answered};
 
 // The weight of interval x, which no table of a legal list refuses.
 fn weight_of(n: u32, starts: &[u32], images: &[u32], holders: &[u32], x: u32) -> u32
@@ -71,4 +76,64 @@ pub(crate) fn rows(
         x += 1;
     }
     next
+}
+
+// Writes the listing of a balanced list's tables at the page's start.
+fn table(page: &mut [u8], h: Header, starts: &[u32], images: &[u32], holders: &[u32]) -> usize
+    requires { ⌜ Listed (h .n) (tables (now starts) (now images) (now holders)) × (maxText ≤ length (now page)) ⌝ }
+    ensures { λ r. ⌜ Wrote (now (page .entry)) 0 (tableText h (runs (now (starts .entry)) (now (images .entry)))) (now (page .exit)) r ⌝ }
+{
+    let next = text::head(page, 0, h.n, h.k, h.d, starts.len() as u32);
+    rows(page, next, h.n, starts, images, holders)
+}
+
+// Writes what balancing answered: the listing of the tables that it filled, or its refusal.
+fn answer_text(
+    file: &[u8],
+    h: Header,
+    page: &mut [u8],
+    answer: Balanced,
+    starts: &[u32],
+    images: &[u32],
+    holders: &[u32],
+) -> usize
+    requires { ⌜ Answered (now file) h answer (now starts) (now images) (now holders) × (maxText ≤ length (now page)) ⌝ }
+    ensures { λ r. ⌜ Wrote (now (page .entry)) 0 (textOf (now (file .entry)) (bodyOf (now (file .entry)))) (now (page .exit)) r ⌝ }
+{
+    match answer {
+        Balanced::Refused(r) => text::refusal(page, r.number(), r.place()),
+        Balanced::Intervals(size) => {
+            let k = size as usize;
+            table(page, h, &starts[..k], &images[..k], &holders[..k])
+        }
+    }
+}
+
+// Balances the list of a file whose header is right, and writes its listing or the refusal, with room to work in.
+fn list_balanced(
+    file: &[u8],
+    h: Header,
+    page: &mut [u8],
+    starts: &mut [u32],
+    images: &mut [u32],
+    to_starts: &mut [u32],
+    to_images: &mut [u32],
+    to_holders: &mut [u32],
+    working: &mut [u32],
+) -> usize
+    requires { ⌜ Laid maxListed (now file) h × ListRoom (now file) (h .k) (now starts) (now images) × (maxText ≤ length (now page)) × Spacious (lent (now «to_starts») (now «to_images») (now «to_holders») (now working)) ⌝ }
+    ensures { λ r. ⌜ Wrote (now (page .entry)) 0 (textOf (now (file .entry)) (bodyOf (now (file .entry)))) (now (page .exit)) r ⌝ }
+{
+    read_list(file, h.k as usize, starts, images);
+    let answer = balance::balance(
+        h.n,
+        starts,
+        images,
+        h.d,
+        to_starts,
+        to_images,
+        to_holders,
+        working,
+    );
+    answer_text(file, h, page, answer, to_starts, to_images, to_holders)
 }

@@ -4,7 +4,7 @@ ghost use mathlib.Core.Path.{_≡_};
 ghost use Prim.Native.Nat.{_<_};
 ghost use lib.IntN.{natAbs};
 ghost use Rattle.listfile.specs.Text.{decimal as Text·decimal, signed as Text·signed, negative};
-ghost use Rattle.listfile.specs.Listing.{headText, rowText};
+ghost use Rattle.listfile.specs.Listing.{headText, rowText, refusalText};
 ghost use Rattle.listfile.specs.Page.{Fits, Wrote};
 
 // Writes one byte at `at`, and returns where to go on.
@@ -109,4 +109,14 @@ pub(crate) fn row(
     let at_holder = signed_field(page, at_shift, shift, 32);
     let at_weight = field(page, at_holder, holder, 32);
     field(page, at_weight, weight, 10)
+}
+
+// Writes a refusal's line at the page's start.
+pub(crate) fn refusal(page: &mut [u8], number: u32, place: u32) -> usize
+    requires { ⌜ Fits (now page) 0 (refusalText number place) ⌝ }
+    ensures { λ r. ⌜ Wrote (now (page .entry)) 0 (refusalText number place) (now (page .exit)) r ⌝ }
+{
+    let at_number = bytes::copy(b"refused ", page);
+    let at_place = field(page, at_number, number, 32);
+    field(page, at_place, place, 10)
 }
