@@ -8,3 +8,4 @@ mod Bodies
 mod Rows
 mod Answering
 mod Listings
+pub mod Longer
