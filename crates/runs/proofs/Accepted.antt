@@ -4,6 +4,7 @@ use Prim.Native.Nat.{ℕ, zero, suc, _-_, _≤_, _<_}
 use mathlib.Core.Path.{_≡_, sym, _∙_}
 use mathlib.Core.Bool.{Bool, false, false≢true}
 use mathlib.Core.Logic.{_⊎_, inl, inr, _≢_}
+use native.Mathlib.Decide.{ℕ-discrete}
 use native.Mathlib.Omega.{arith}
 use lib.ListN.{length}
 use borrow.Author.Tests.{ltb-false, lt-ltb, lt-leb, eq-eqb, ne-eqb, eqb-true, not-false}
@@ -21,12 +22,11 @@ use Rattle.runs.proofs.Sweeping.{Shared, overlaps-true, overlaps-false}
 
 -- two numbers are the same if they cannot differ
 pub same : (x y : ℕ) → (x ≢ y → ⊥) → x ≡ y
-same x y h = go (lt-or-le x y) (lt-or-le y x)
+same x y h = go (ℕ-discrete x y)
   where
-    go : (x < y) ⊎ (y ≤ x) → (y < x) ⊎ (x ≤ y) → x ≡ y
-    go (inl a) b = absurd (h (λ e. omega arith))
-    go (inr a) (inl b) = absurd (h (λ e. omega arith))
-    go (inr a) (inr b) = omega arith
+    go : Dec (x ≡ y) → x ≡ y
+    go (yes e) = e
+    go (no n) = absurd (h n)
 
 -- a search that finds nothing
 true-none : (p : ℕ → Bool) (k : ℕ) → ((x : ℕ) → x < k → p x ≡ false) → k ≤ firstBelow p k
