@@ -76,14 +76,23 @@ module _ (n : ℕ) (r : Runs) (c : Legal n r) where
   unfolding unmatched
   unmatched-false =
       let z : n ≢ 0 = omega (arith, c .below 0 (c .some)) in
-      simp (ne-eqb n 0 z, ne-eqb (countOf r) 0 (omega (arith, c .some)), eq-eqb (countOf r) (length (r .images)) (sym (c .paired)))
+      simp (
+        ne-eqb n 0 z,
+        ne-eqb (countOf r) 0 (omega (arith, c .some)),
+        eq-eqb (countOf r) (length (r .images)) (sym (c .paired)),
+      )
 
   disordered-false : (x : ℕ) → x < countOf r → disordered n r x ≡ false
   unfolding disordered
   disordered-false zero l = simp (lt-leb n (startOf r 0) (c .below 0 l))
   disordered-false (suc x) l =
       let e : suc x - 1 ≡ x = omega arith in
-      simp (lt-leb n (startOf r (suc x)) (c .below (suc x) l), lt-ltb 0 (suc x) (omega arith), e, lt-leb (startOf r (suc x)) (startOf r x) (c .rising x l))
+      simp (
+        lt-leb n (startOf r (suc x)) (c .below (suc x) l),
+        lt-ltb 0 (suc x) (omega arith),
+        e,
+        lt-leb (startOf r (suc x)) (startOf r x) (c .rising x l),
+      )
 
   overruns-none : (x : ℕ) → x < countOf r → overruns n r x ≡ false
   overruns-none x l = overruns-false n r x (c .within x l)
@@ -93,8 +102,11 @@ module _ (n : ℕ) (r : Runs) (c : Legal n r) where
   legal-unshared x y h l s = go (lt-or-le (imageOf r x) (imageOf r y))
     where
       go : (imageOf r x < imageOf r y) ⊎ (imageOf r y ≤ imageOf r x) → ⊥
-      go (inl a) = s .other (c .apart x y (imageOf r y) h l (omega arith) (s .right) (omega arith) (omega (arith, homes n r c .lasting y l)))
-      go (inr a) = s .other (c .apart x y (imageOf r x) h l (omega arith) (omega (arith, homes n r c .lasting x h)) a (s .left))
+      go (inl a) =
+          s .other
+          (c .apart x y (imageOf r y) h l (omega arith) (s .right) (omega arith) (omega (arith, homes n r c .lasting y l)))
+      go (inr a) =
+          s .other (c .apart x y (imageOf r x) h l (omega arith) (omega (arith, homes n r c .lasting x h)) a (s .left))
 
   pub legal-accepted : countOf r ≤ maxRuns → checkOf n r ≡ done tt
   legal-accepted f = sym (check-accepts n r record {
