@@ -6,3 +6,5 @@ mod Signs
 mod Heading
 mod Bodies
 mod Rows
+mod Answering
+mod Listings

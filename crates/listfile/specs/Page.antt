@@ -3,6 +3,8 @@ use Prim.Native.Nat.{ℕ, _+_, _≤_}
 use mathlib.Core.Path.{_≡_}
 use mathlib.Core.List.{List, _++_}
 use lib.ListN.{length, take, drop}
+use lib.Dec.{ltb}
+use Rattle.runs.specs.Outcome.{_then_else_}
 use Rattle.runs.specs.Runs.{runs}
 use Rattle.runs.specs.Legal.{Legal}
 use Rattle.runs.specs.Refusal.{numberOf, placeOf}
@@ -12,7 +14,7 @@ use Rattle.balance.specs.Lent.{Lent}
 use Rattle.balance.specs.declared.Balanced.{Balanced}
 use Rattle.balance.specs.declared.Balanced.the-variants.{Intervals, Refused}
 use Rattle.listfile.specs.File.{bodyOf}
-use Rattle.listfile.specs.Listing.{textOf, tableText, refusalText}
+use Rattle.listfile.specs.Listing.{textOf, tableText, refusalText, listingOf}
 use Rattle.listfile.specs.declared.Header.{Header}
 
 -- the page with s on it from index `at` on
@@ -27,6 +29,7 @@ pub record Fits (page : List ℕ) (at : ℕ) (s : List ℕ) : Type 0 where
 pub record Wrote (page : List ℕ) (at : ℕ) (s : List ℕ) (page′ : List ℕ) (end : ℕ) : Type 0 where
   pub text : page′ ≡ overlaid page at s
   pub till : end ≡ at + length s
+  pub inside : end ≤ length page
 
 -- no listing is longer: four fields of 10 digits and their separators, and for each of 2,048 intervals six fields, of
 -- which one has a sign
@@ -58,3 +61,9 @@ pub record Tabled (bytes : List ℕ) (h : Header) (k : ℕ) (starts images holde
 pub record Answered (bytes : List ℕ) (h : Header) (answer : Balanced) (starts images holders : List ℕ) : Type 0 where
   pub refusal : (r : Refusal) → answer ≡ Refused r → textOf bytes (bodyOf bytes) ≡ refusalText (numberOf r) (placeOf r)
   pub tabled : (k : ℕ) → answer ≡ Intervals k → Tabled bytes h k starts images holders
+
+-- what `list_file` promises: the listing stands at the start of the lent text and the rest of that keeps its bytes, or,
+-- where it has no room, 0 is answered and nothing is written
+pub record FileListed (bytes text text′ : List ℕ) (count : ℕ) : Type 0 where
+  pub counts : count ≡ (ltb (length text) (length (listingOf bytes)) then 0 else length (listingOf bytes))
+  pub text-at-exit : text′ ≡ (ltb (length text) (length (listingOf bytes)) then text else listingOf bytes ++ drop (length (listingOf bytes)) text)

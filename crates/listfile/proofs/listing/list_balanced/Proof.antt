@@ -1,3 +1,6 @@
+-- `list_balanced` meets its contract: balancing the list that was read answers the file's body (`answered`).
+use mathlib.Core.Path.{_∙_}
+use Rattle.listfile.proofs.Answering.{answered}
 use borrow.Author.Needs.{needs}
 use Rattle.listfile.proofs.listing.list_balanced.Statement.{statement}
 use Rattle.listfile.proofs.listing.list_balanced.Tie as tie
@@ -17,7 +20,14 @@ balance-requires : tie.Need-balance-requires
 balance-requires c κs = search needs
 
 answer-text-requires : tie.Need-answer-text-requires
-answer-text-requires c κs = ?
+answer-text-requires c κs =
+    let b = c .before .before .before .before .before .before .before .before .before .before .before .before in
+    let l = b .before .before .before .before .before .before .before .before .before .before .before in
+    let a = l .before .before .before .before .before .before .before .before .before .before .before .before in (
+      answered _ _ (a .pre .0) _ (l .read-list .ensures) (l .read-list .kept .1 .1 .0 ∙ a .pre .1 .starts-room)
+          (l .read-list .kept .1 .1 .1 .0 ∙ a .pre .1 .images-room) _ (a .pre .3) _ _ (b .balance .ensures),
+      a .pre .2,
+    )
 
 same-length : tie.Need-same-length
 same-length c = search needs
