@@ -18,7 +18,7 @@ use Rattle.runs.proofs.Judging.{judge-first}
 use Rattle.runs.proofs.Searches.{any-none, any-false}
 use Rattle.runs.proofs.Legality.{homes}
 use Rattle.runs.proofs.Checking.{Within, matched, in-order-all, rises, none-true, overruns-false, overruns-within, check-accepts}
-use Rattle.runs.proofs.Sweeping.{Shared, overlaps-true, overlaps-false}
+use Rattle.runs.proofs.Sharing.{Shared, overlaps-true, overlaps-false}
 
 -- two numbers are the same if they cannot differ
 pub same : (x y : ℕ) → (x ≢ y → ⊥) → x ≡ y

@@ -14,7 +14,7 @@ use Rattle.runs.specs.Legal.{Legal, ranked}
 use Rattle.runs.specs.Check.{checkOf}
 use Rattle.runs.specs.Inverse.{inverseRuns}
 use Rattle.runs.proofs.Legality.{homes, home, home-one, map-at, end-next, end-last}
-use Rattle.runs.proofs.Sweeping.{ranked-below, ranked-rises, ranked-occurs, ranked-one}
+use Rattle.runs.proofs.Ranking.{ranked-below, ranked-rises, ranked-occurs, ranked-one}
 use Rattle.runs.proofs.Accepted.{accepted-legal, legal-accepted}
 use Rattle.runs.proofs.Mapped.{getD-map}
 use Rattle.runs.proofs.Bijection.{map-onto}

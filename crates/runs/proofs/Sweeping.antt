@@ -2,100 +2,21 @@
 -- far, or the next one begins before it ends. `Swept` is what a loop that goes by that knows.
 use Prim.Native.Nat.{ℕ, suc, _+_, _≤_, _<_}
 use mathlib.Core.Path.{_≡_, sym, ap, _∙_, subst}
-use mathlib.Core.Bool.{Bool, true, false, not, false≢true}
+use mathlib.Core.Bool.{Bool, true, false, false≢true}
 use mathlib.Core.Logic.{_⊎_, inl, inr, _≢_}
-use mathlib.Core.List.{List, _++_}
 use native.Mathlib.Nat.{not-suc-le-zero}
-use native.Mathlib.Numerals.{add-one}
 use native.Mathlib.Omega.{arith}
-use lib.ListN.{length, getD, take, length-take}
-use lib.Seq.{take-at, getD-take}
-use lib.Dec.{ltb, eqb}
-use borrow.Author.Tests.{ltb-true, lt-ltb, le-ltb, ne-eqb, eqb-false, not-true}
-use Rattle.order.specs.Order.{keyOf, orderOf}
-use Rattle.order.proofs.Laws.{lt-or-le, order-length, order-below, order-keys, order-occurs, order-injective}
+use lib.Dec.{ltb}
+use borrow.Author.Tests.{lt-ltb, le-ltb}
+use Rattle.order.proofs.Laws.{lt-or-le}
 use Rattle.runs.specs.Runs.{Runs, countOf, imageOf, imageEnd}
 use Rattle.runs.specs.Legal.{ranked}
 use Rattle.runs.specs.Search.{firstBelow}
-use Rattle.runs.specs.Check.{overlap, overlaps}
-use Rattle.runs.specs.Parts.{Lasting, Ordered, meets}
-use Rattle.runs.proofs.Sums.{and-true}
-use Rattle.runs.proofs.Searches.{first-le, first-true, first-least, any-true, any-none}
-
--- two runs whose images share a place
-pub record Shared (n : ℕ) (r : Runs) (x y : ℕ) : Type 0 where
-  pub other : x ≢ y
-  pub left : imageOf r x < imageEnd n r y
-  pub right : imageOf r y < imageEnd n r x
-
-module _ (n : ℕ) (r : Runs) (x : ℕ) where
-  overlap-true : (y : ℕ) → Shared n r x y → overlap n r x y ≡ true
-  unfolding overlap
-  overlap-true y s = simp (ne-eqb _ _ (s .other), lt-ltb _ _ (s .left), lt-ltb _ _ (s .right))
-
-  overlap-is : (y : ℕ) → overlap n r x y ≡ true → Shared n r x y
-  unfolding overlap
-  overlap-is y e =
-      let a = and-true (not (eqb x y)) _ e in
-      let b = and-true (ltb (imageOf r x) (imageEnd n r y)) _ (a .1) in
-      record { other = eqb-false x y (not-true _ (a .0)); left = ltb-true _ _ (b .0); right = ltb-true _ _ (b .1) }
-
-  pub overlaps-true : (y : ℕ) → y < countOf r → Shared n r x y → overlaps n r x ≡ true
-  unfolding overlaps
-  overlaps-true y h s = any-true (overlap n r x) (countOf r) y h (overlap-true y s)
-
-  pub overlaps-false : ((y : ℕ) → y < countOf r → Shared n r x y → ⊥) → overlaps n r x ≡ false
-  unfolding overlaps
-  overlaps-false h = any-none (overlap n r x) (countOf r) (λ y l e. h y l (overlap-is y e))
-
--- the order by image, over all runs
-module _ (r : Runs) (p : length (r .images) ≡ countOf r) where
-  pub ranked-below : (t : ℕ) → t < countOf r → ranked r t < countOf r
-  ranked-below t h = omega (arith, p, order-below (keyOf (r .images)) (length (r .images)) t (omega arith))
-
-  pub ranked-rises : (s t : ℕ) → s ≤ t → t < countOf r → imageOf r (ranked r s) ≤ imageOf r (ranked r t)
-  ranked-rises s t h l = order-keys (keyOf (r .images)) (length (r .images)) s t h (omega arith)
-
-  pub ranked-occurs : (x : ℕ) → x < countOf r → (t : ℕ) × (t < countOf r) × (ranked r t ≡ x)
-  ranked-occurs x h =
-      let o = order-occurs (keyOf (r .images)) (length (r .images)) x (omega arith) in
-      (o .0, omega (arith, o .1), o .2)
-
-  pub ranked-one : (s t : ℕ) → s < countOf r → t < countOf r → ranked r s ≡ ranked r t → s ≡ t
-  ranked-one s t h l e = order-injective (keyOf (r .images)) (length (r .images)) s t (omega arith) (omega arith) e
-
--- what `sort_by_key` leaves
-pub ordered : (r : Runs) (order rest : List ℕ) → length (r .images) ≡ countOf r → order ≡ orderOf (r .images) ++ rest
-    → Ordered r order
-ordered r order rest p e = record {
-  paired = p;
-  sorted = ap (take (countOf r)) e ∙ take-at (orderOf (r .images)) rest (countOf r) (order-length (keyOf (r .images)) (length (r .images)) ∙ p);
-}
-
--- the table of the order: as many entries as runs, and at t the run of that rank
-module _ (r : Runs) (order : List ℕ) (o : Ordered r order) where
-  pub ordered-room : countOf r ≤ length order
-  ordered-room =
-      omega (
-        arith,
-        length-take (countOf r) order,
-        ap length (o .sorted),
-        order-length (keyOf (r .images)) (length (r .images)),
-        o .paired,
-      )
-
-  module _ (t : ℕ) (h : t < countOf r) where
-    pub entry-is : getD order t 0 ≡ ranked r t
-    entry-is = sym (getD-take (countOf r) order t 0 h) ∙ ap (λ (l : List ℕ). getD l t 0) (o .sorted)
-
-    pub entry-below : getD order t 0 < length (r .images)
-    entry-below = omega (arith, o .paired, entry-is, ranked-below r (o .paired) t h)
-
-    pub entry-image : imageOf r (getD order t 0) ≡ imageOf r (ranked r t)
-    entry-image = ap (imageOf r) entry-is
-
-  pub entry-next : (t : ℕ) → t + 1 < countOf r → imageOf r (getD order (t + 1) 0) ≡ imageOf r (ranked r (suc t))
-  entry-next t = rw add-one (entry-image (suc t))
+use Rattle.runs.specs.Check.{overlaps}
+use Rattle.runs.specs.Parts.{Lasting, meets}
+use Rattle.runs.proofs.Searches.{first-le, first-true, first-least}
+use Rattle.runs.proofs.Sharing.{Shared, overlaps-true, overlaps-false}
+use Rattle.runs.proofs.Ranking.{ranked-below, ranked-rises, ranked-occurs, ranked-one}
 
 -- the runs before t are swept: their images end at `reached` at the latest, and the lowest of them that shares a place
 -- is `lowest`

@@ -7,7 +7,7 @@ use Rattle.order.proofs.Laws.{lt-or-le}
 use Rattle.runs.specs.Runs.{Runs, countOf, imageOf, imageEnd}
 use Rattle.runs.specs.Legal.{Legal, Tiled, ranked}
 use Rattle.runs.proofs.Legality.{homes, land}
-use Rattle.runs.proofs.Sweeping.{ranked-below, ranked-rises, ranked-occurs, ranked-one}
+use Rattle.runs.proofs.Ranking.{ranked-below, ranked-rises, ranked-occurs, ranked-one}
 use Rattle.runs.proofs.Intervals.{legal-disjoint}
 
 module _ (n : ℕ) (r : Runs) (c : Legal n r) where

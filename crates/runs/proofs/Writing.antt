@@ -20,7 +20,7 @@ use Rattle.runs.specs.declared.Checked.{Checked}
 use Rattle.runs.specs.declared.Checked.the-variants.{Accepted, Refused}
 use Rattle.runs.proofs.Judging.{judge-append}
 use Rattle.runs.proofs.Mapped.{getD-map}
-use Rattle.runs.proofs.Sweeping.{ordered-room, entry-below}
+use Rattle.runs.proofs.Ranking.{ordered-room, entry-below}
 
 -- what is gathered, entry by entry
 abbrev pub gathered : List ℕ → List ℕ → List ℕ

@@ -2,7 +2,7 @@
 use borrow.Author.Needs.{needs}
 use Rattle.runs.specs.Runs.{runs}
 use Rattle.runs.specs.Parts.{Ordered}
-use Rattle.runs.proofs.Sweeping.{ordered}
+use Rattle.runs.proofs.Ranking.{ordered}
 use Rattle.runs.proofs.sweep.first_overlap.Statement.{statement}
 use Rattle.runs.proofs.sweep.first_overlap.Tie as tie
 

@@ -4,7 +4,8 @@ use mathlib.Core.Logic.{⊎-elim}
 use native.Mathlib.Omega.{arith}
 use lib.ListN.{length}
 use Rattle.runs.specs.Runs.{runs}
-use Rattle.runs.proofs.Sweeping.{Swept, swept-none, swept-turn, swept-end, ordered-room, entry-is, entry-below, lowered, kept}
+use Rattle.runs.proofs.Ranking.{ordered-room, entry-is, entry-below}
+use Rattle.runs.proofs.Sweeping.{Swept, swept-none, swept-turn, swept-end, lowered, kept}
 use Rattle.runs.proofs.sweep.lowest_overlap.Statement.{statement}
 use Rattle.runs.proofs.sweep.lowest_overlap.Tie as tie
 

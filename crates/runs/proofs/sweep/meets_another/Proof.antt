@@ -4,7 +4,8 @@ use mathlib.Core.Path.{sym, ap, _∙_}
 use native.Mathlib.Omega.{arith}
 use lib.Dec.{ltb}
 use borrow.Author.Needs.{needs}
-use Rattle.runs.proofs.Sweeping.{meets-before, meets-none, meets-next, ordered-room, entry-below, entry-image, entry-next}
+use Rattle.runs.proofs.Ranking.{ordered-room, entry-below, entry-image, entry-next}
+use Rattle.runs.proofs.Sweeping.{meets-before, meets-none, meets-next}
 use Rattle.runs.proofs.sweep.meets_another.Statement.{statement}
 use Rattle.runs.proofs.sweep.meets_another.Tie as tie
 
