@@ -76,7 +76,7 @@ body-header bytes g h e q = sym (judge-done (bodyTests bytes) (headerOf bytes) g
 
 -- the header's tests, and then the body's
 module _ (most : ℕ) (bytes : List ℕ) where
-  file-is : fileOf most bytes ≡ andThen (headingOf most bytes) (λ h. bodyOf bytes)
+  pub file-is : fileOf most bytes ≡ andThen (headingOf most bytes) (λ h. bodyOf bytes)
   unfolding fileOf fileTests headingOf bodyOf
   file-is = judge-append (headerTests most bytes) (bodyTests bytes) (headerOf bytes) (headerOf bytes)
 

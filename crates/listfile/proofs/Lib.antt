@@ -7,4 +7,5 @@ mod Heading
 mod Bodies
 mod Rows
 mod Answering
-mod Listings
+pub mod Listings
+pub mod Longer

@@ -1,11 +1,13 @@
 -- The text of a file's listing, by its header's tests, and what a lent text holds after it.
 use Prim.Native.Nat.{ℕ, _+_, _≤_, _<_}
 use mathlib.Core.Path.{_≡_, refl, sym, ap, _∙_}
+use mathlib.Core.Logic.{_⊎_, inl, inr}
 use mathlib.Core.List.{List, [], _∷_, _++_}
 use native.Mathlib.Omega.{arith}
-use lib.ListN.{length, take, drop}
+use lib.ListN.{length, take, drop, length-append}
 use lib.Seq.{take-append-seam, take-length}
 use borrow.Author.Tests.{lt-ltb, le-ltb}
+use Rattle.order.proofs.Laws.{lt-or-le}
 use Rattle.runs.specs.Outcome.{done, refused}
 use Rattle.listfile.specs.File.{headingOf, bodyOf}
 use Rattle.listfile.specs.Listing.{refusalText, textOf, listingOf}
@@ -44,3 +46,14 @@ module _ (bytes text page page′ : List ℕ) (end : ℕ) (w : Wrote page 0 (lis
         counts = rw e (f ∙ ap length s);
         text-at-exit = rw e (g ∙ rw (s, take-length));
       }
+
+-- the bytes that are counted stand in the text
+pub listed-within : (bytes text text′ : List ℕ) (count : ℕ) → FileListed bytes text text′ count → count ≤ length text′
+listed-within bytes text text′ count f = go (lt-or-le (length text) (length (listingOf bytes)))
+  where
+    go : (length text < length (listingOf bytes)) ⊎ (length (listingOf bytes) ≤ length text) → count ≤ length text′
+    go (inl l) = omega (arith, rw (lt-ltb _ _ l) at (f .counts))
+    go (inr l) =
+        let c = rw (le-ltb _ _ l) at (f .counts) in
+        let t = rw (le-ltb _ _ l) at (f .text-at-exit) in
+        omega (arith, c, ap length t, length-append (listingOf bytes) (drop (length (listingOf bytes)) text))
