@@ -11,7 +11,7 @@ returns : tie.Need-returns
 returns c = search needs
 
 slice-aggregate-result : tie.Need-slice-aggregate-result
-slice-aggregate-result c = sym (length-take-le _ _ (c .if1 .left))
+slice-aggregate-result c = sym (length-take-le _ _ (c .before .if1 .left))
 
 returns-2 : tie.Need-returns-2
 returns-2 c = search needs
