@@ -1,7 +1,7 @@
 -- The list after cuts, as the code sees it: it refines the list handed in, and the searches along starts, cuts and images
 -- answer which of its pieces has a place, where that ends, and what it weighs.
 use Prim.Native.Nat.{ℕ, suc, _+_, _-_, _≤_, _<_}
-use mathlib.Core.Path.{_≡_, sym, ap, _∙_}
+use mathlib.Core.Path.{_≡_, refl, sym, ap, _∙_}
 use mathlib.Core.Logic.{_⊎_, inl, inr}
 use mathlib.Core.List.{List, map}
 use native.Mathlib.Omega.{arith}
@@ -18,9 +18,9 @@ use Rattle.runs.proofs.Mapped.{getD-map}
 use Rattle.tables.specs.Inverse.{carryBack}
 use Rattle.tables.specs.Under.{weight}
 use Rattle.tables.proofs.Walks.{weight-is, run-below}
-use Rattle.balance.specs.Cuts.{merged, withCuts, firstFrom, lastTo, Starts, Ranked, Begins, PieceAt, Covers}
+use Rattle.balance.specs.Cuts.{merged, withCuts, Starts, Higher, Ranked, Ranking, Begins, PieceAt, Covers}
 use Rattle.balance.proofs.Refine.{Piece, Refines, refined-legal, refined-map, refined-images}
-use Rattle.balance.proofs.Merged.{merged-length, merged-start}
+use Rattle.balance.proofs.Merged.{firstFrom, lastTo, merged-length, merged-start, last-start, last-cut}
 
 module _ (n : ℕ) (r : Runs) (cuts : List ℕ) (c : Legal n r) (s : Starts n (r .starts) cuts) where
   with-image : (x : ℕ) → x < length (merged (r .starts) cuts) → imageOf (withCuts n r cuts) x ≡ mapOf n r (getD (merged (r .starts) cuts) x 0)
@@ -88,10 +88,10 @@ module _ (n : ℕ) (r : Runs) (cuts : List ℕ) (c : Legal n r) (s : Starts n (r
   begins-below p b = omega (arith, b .at, with-legal .within (b .index) (b .known), homes n (withCuts n r cuts) with-legal .lasting (b .index) (b .known))
 
   -- the piece whose image is at p
-  pub piece-start : (x p start : ℕ) → x < countOf (withCuts n r cuts) → imageOf (withCuts n r cuts) x ≡ p → start < n → mapOf n r start ≡ p → startOf (withCuts n r cuts) x ≡ start
+  piece-start : (x p start : ℕ) → x < countOf (withCuts n r cuts) → imageOf (withCuts n r cuts) x ≡ p → start < n → mapOf n r start ≡ p → startOf (withCuts n r cuts) x ≡ start
   piece-start x p start h e l f = map-injective n r c (startOf (withCuts n r cuts) x) start (with-below x h) l (sym (with-image x h) ∙ e ∙ sym f)
 
-  pub piece-end : (x start : ℕ) → x < countOf (withCuts n r cuts) → startOf (withCuts n r cuts) x ≡ start → endOf n (withCuts n r cuts) x ≡ firstFrom n (merged (r .starts) cuts) (start + 1)
+  piece-end : (x start : ℕ) → x < countOf (withCuts n r cuts) → startOf (withCuts n r cuts) x ≡ start → endOf n (withCuts n r cuts) x ≡ firstFrom n (merged (r .starts) cuts) (start + 1)
   piece-end x start h e =
       let k : countBelow (start + 1) (merged (r .starts) cuts) ≡ suc x = ap (λ (t : ℕ). countBelow t (merged (r .starts) cuts)) (add-one start ∙ ap suc (sym e)) ∙ count-after (merged (r .starts) cuts) (s .all-rise) x h in
       ap (λ (i : ℕ). getD (merged (r .starts) cuts) i n) (sym k)
@@ -100,22 +100,16 @@ module _ (n : ℕ) (r : Runs) (cuts : List ℕ) (c : Legal n r) (s : Starts n (r
   piece-weight x = omega (arith, weight-is n (withCuts n r cuts) x, count-inside (imageOf (withCuts n r cuts) x) (imageEnd n (withCuts n r cuts) x) (merged (r .starts) cuts) (omega arith))
 
   -- what the code makes of that
-  pub piece-at : (p start end to w : ℕ) → Begins (withCuts n r cuts) p → start < n → mapOf n r start ≡ p → end ≡ firstFrom n (merged (r .starts) cuts) (start + 1)
-      → to ≡ p + (end - start) → w ≡ countBelow to (merged (r .starts) cuts) - countBelow p (merged (r .starts) cuts)
-      → (start ≤ end) × (to ≤ n) × (countBelow p (merged (r .starts) cuts) ≤ countBelow to (merged (r .starts) cuts)) × PieceAt n (withCuts n r cuts) p (record { start = start; to = to; weight = w })
-  piece-at p start end to w b l e f g k =
+  pub piece-at : (p start end to : ℕ) → Begins (withCuts n r cuts) p → start < n → mapOf n r start ≡ p
+      → end ≡ firstFrom n (merged (r .starts) cuts) (start + 1) → to ≡ p + (end - start)
+      → (start ≤ end) × (to ≤ n) × PieceAt n (withCuts n r cuts) p (record { start = start; to = to })
+  piece-at p start end to b l e f g =
       let x = b .index in
       let st = piece-start x p start (b .known) (b .at) l e in
       let en : endOf n (withCuts n r cuts) x ≡ end = piece-end x start (b .known) st ∙ sym f in
       let i = homes n (withCuts n r cuts) with-legal .lasting x (b .known) in
       let t : imageEnd n (withCuts n r cuts) x ≡ to = omega (arith, b .at) in
-      let w-is : weight n (withCuts n r cuts) x ≡ w =
-      piece-weight x ∙ (λ i. countBelow (t i) (merged (r .starts) cuts) - countBelow (b .at i) (merged (r .starts) cuts)) ∙ sym k in (
-        omega arith,
-        omega (arith, with-legal .within x (b .known)),
-        count-mono p to (merged (r .starts) cuts) (omega arith),
-        record { index = x; known = b .known; at = b .at; start-is = st; to-is = t; weight-is = w-is },
-      )
+      (omega arith, omega (arith, with-legal .within x (b .known)), record { index = x; known = b .known; at = b .at; start-is = st; to-is = t })
 
   -- the piece whose image has u: v is sent to u, and its piece starts at w
   pub piece-covers : (u v w : ℕ) → v < n → mapOf n r v ≡ u → w ≡ lastTo (merged (r .starts) cuts) v → (w ≤ v) × (v - w ≤ u) × Covers n (withCuts n r cuts) u (u - (v - w))
@@ -133,13 +127,31 @@ module _ (n : ℕ) (r : Runs) (cuts : List ℕ) (c : Legal n r) (s : Starts n (r
 pub refined-cuts : (n : ℕ) (r q : Runs) (cuts : List ℕ) → Legal n r → Refines n r q → q .starts ≡ merged (r .starts) cuts → q ≡ withCuts n r cuts
 refined-cuts n r q cuts c f e = λ i. record { starts = e i; images = (refined-images n r q c f ∙ ap (map (mapOf n r)) e) i }
 
+-- a run with a place counts the starts up to it
+pub run-count : (n : ℕ) (r : Runs) → Legal n r → (x v : ℕ) → x < countOf r → startOf r x ≤ v → v < endOf n r x → x + 1 ≡ countBelow (v + 1) (r .starts)
+run-count n r c x v h a b =
+    let hs = homes n r c in
+    omega (arith, ap (λ (t : ℕ). countBelow t (r .starts)) (add-one v), run-below n r hs v (omega (arith, hs .ending x h)), run-at n r hs x v h a b)
+
+-- the start of the piece that has v
+pub higher-last : (n : ℕ) (S C : List ℕ) → Starts n S C → (x v w : ℕ) → x + 1 ≡ countBelow (v + 1) S → Higher (getD S x 0) C v w → w ≡ lastTo (merged S C) v
+higher-last n S C c x v w e h = go (lt-or-le 0 (countBelow (v + 1) C)) (lt-or-le (getD S x 0) (getD C (countBelow (v + 1) C - 1) 0))
+  where
+    at : getD S (countBelow (v + 1) S - 1) 0 ≡ getD S x 0
+    at = ap (λ (i : ℕ). getD S i 0) (omega (arith, e))
+
+    go : (0 < countBelow (v + 1) C) ⊎ (countBelow (v + 1) C ≤ 0) → (getD S x 0 < getD C (countBelow (v + 1) C - 1) 0) ⊎ (getD C (countBelow (v + 1) C - 1) 0 ≤ getD S x 0) → w ≡ lastTo (merged S C) v
+    go (inl k) (inl l) = h .cut-is k l ∙ sym (last-cut n S C c v k (omega (arith, at)))
+    go (inl k) (inr l) = h .start-is (λ z. l) ∙ sym (last-start n S C c v (λ z. omega (arith, at)) ∙ at)
+    go (inr k) l = h .start-is (λ z. absurd (omega arith)) ∙ sym (last-start n S C c v (λ z. absurd (omega arith)) ∙ at)
+
 -- the run whose image has a place, by its rank among the images
-pub record Found (n : ℕ) (r : Runs) (order : List ℕ) (q count : ℕ) : Type 0 where
-  pub some : 0 < count
-  pub rank-below : count - 1 < length order
-  pub known : getD order (count - 1) 0 < countOf r
-  pub from : imageOf r (getD order (count - 1) 0) ≤ q
-  pub to : q < imageEnd n r (getD order (count - 1) 0)
+pub record Found (n : ℕ) (r : Runs) (order ranked : List ℕ) (q x : ℕ) : Type 0 where
+  pub some : 0 < countBelow (q + 1) ranked
+  pub rank-below : countBelow (q + 1) ranked - 1 < length order
+  pub known : x < countOf r
+  pub from : imageOf r x ≤ q
+  pub to : q < imageEnd n r x
 
 module _ (n : ℕ) (r : Runs) (c : Legal n r) where
   ranked-length : length (orderOf (r .images)) ≡ countOf r
@@ -154,10 +166,10 @@ module _ (n : ℕ) (r : Runs) (c : Legal n r) where
       at : (i j : ℕ) → i < j → j < countOf r → getD (map (imageOf r) (orderOf (r .images))) i 0 ≤ getD (map (imageOf r) (orderOf (r .images))) j 0
       at i j l h = omega (arith, ranked-at i (omega arith), ranked-at j h, order-keys (keyOf (r .images)) (length (r .images)) i j (omega arith) (omega (arith, c .paired)))
 
-  rank-found : (q : ℕ) → q < n → Found n r (orderOf (r .images)) q (countBelow (q + 1) (map (imageOf r) (orderOf (r .images))))
+  rank-found : (q : ℕ) → q < n → Found n r (orderOf (r .images)) (map (imageOf r) (orderOf (r .images))) q (getD (orderOf (r .images)) (countBelow (q + 1) (map (imageOf r) (orderOf (r .images))) - 1) 0)
   rank-found q h = go (land n r c q h)
     where
-      go : (x : ℕ) × (x < countOf r) × (imageOf r x ≤ q) × (q < imageEnd n r x) → Found n r (orderOf (r .images)) q (countBelow (q + 1) (map (imageOf r) (orderOf (r .images))))
+      go : (x : ℕ) × (x < countOf r) × (imageOf r x ≤ q) × (q < imageEnd n r x) → Found n r (orderOf (r .images)) (map (imageOf r) (orderOf (r .images))) q (getD (orderOf (r .images)) (countBelow (q + 1) (map (imageOf r) (orderOf (r .images))) - 1) 0)
       go (x, hx, a, b) =
           let O = orderOf (r .images) in
           let R = map (imageOf r) (orderOf (r .images)) in
@@ -181,9 +193,11 @@ module _ (n : ℕ) (r : Runs) (c : Legal n r) where
       let hs = homes n r c in
       (omega (arith, hs .ending x h), map-at n r hs x (carryBack r x q) h (omega arith) (omega arith) ∙ omega arith)
 
-module _ (n : ℕ) (r : Runs) (order ranked : List ℕ) (c : Ranked n r order ranked) where
-  pub ranked-sorted : Sorted ranked
-  ranked-sorted = rw (c .ranked-is) (order-sorted n r (c .legal))
+module _ (n : ℕ) (r : Runs) (order ranked : List ℕ) (c : Ranked n r order ranked) (q : ℕ) (h : q < n) where
+  pub ranked-found : (x : ℕ) → x ≡ getD order (countBelow (q + 1) ranked - 1) 0 → Found n r order ranked q x
+  ranked-found x e = rw (e, c .order-is, c .ranked-is) (rank-found n r (c .legal) q h)
 
-  pub ranked-found : (q count : ℕ) → q < n → count ≡ countBelow (q + 1) ranked → Found n r order q count
-  ranked-found q count h e = rw (e, c .order-is, c .ranked-is) (rank-found n r (c .legal) q h)
+  pub ranking : n < 4294967296 → Ranking order ranked q
+  ranking k =
+      let f = ranked-found (getD order (countBelow (q + 1) ranked - 1) 0) refl in
+      record { sorted = rw (c .ranked-is) (order-sorted n r (c .legal)); some = f .some; known = f .rank-below; fits = omega arith }

@@ -5,13 +5,20 @@ use mathlib.Core.Path.{_≡_, refl, sym, ap, _∙_}
 use mathlib.Core.Logic.{_⊎_, inl, inr}
 use mathlib.Core.List.{List, [], _++_}
 use native.Mathlib.Omega.{arith}
-use native.Mathlib.Numerals.{add-one}
 use lib.ListN.{length, getD, length-append, List·getD-eq-default}
 use lib.Dec.{ltb, eqb}
 use Rattle.order.specs.Order.{Sorted, Strict, bit, countBelow, occurrences, insertSorted}
 use Rattle.order.proofs.Laws.{lt-or-le, all-at, sum-sort, sum-append, length-sort, sorted-sort, sort-insert, sort-sorted, strict-sorted, count-one, count-index, count-found, count-mono, count-lt, count-ge, count-gt, count-at, count-after, count-all, count-le-length, pairwise-at}
 use Rattle.runs.proofs.Searches.{getD-default}
-use Rattle.balance.specs.Cuts.{merged, firstFrom, lastTo, Starts}
+use Rattle.balance.specs.Cuts.{merged, Starts, At}
+use Rattle.balance.specs.declared.Mark.{Mark}
+
+-- the first of l at or above t, or n; and the last of l that is not above v
+abbrev pub firstFrom : ℕ → List ℕ → ℕ → ℕ
+firstFrom n l t = getD l (countBelow t l) n
+
+abbrev pub lastTo : List ℕ → ℕ → ℕ
+lastTo l v = getD l (countBelow (v + 1) l - 1) 0
 
 module _ (S C : List ℕ) where
   pub merged-count : (t : ℕ) → countBelow t (merged S C) ≡ countBelow t C + countBelow t S
@@ -110,7 +117,7 @@ module _ (n : ℕ) (S C : List ℕ) (c : Starts n S C) where
   cut-below : (k : ℕ) → k < length C → getD C k 0 < n
   cut-below k h = let i = merged-cut S C k h in omega (arith, i .1, all-at (λ s. s < n) (merged S C) (c .below) (countBelow (getD C k 0) (merged S C)) (i .0))
 
-  pub first-start : (t : ℕ) → getD S (countBelow t S) n ≤ getD C (countBelow t C) n → firstFrom n (merged S C) t ≡ getD S (countBelow t S) n
+  first-start : (t : ℕ) → getD S (countBelow t S) n ≤ getD C (countBelow t C) n → firstFrom n (merged S C) t ≡ getD S (countBelow t S) n
   first-start t l = go (lt-or-le (countBelow t S) (length S)) (lt-or-le (countBelow t C) (length C))
     where
       go : (countBelow t S < length S) ⊎ (length S ≤ countBelow t S) → (countBelow t C < length C) ⊎ (length C ≤ countBelow t C) → firstFrom n (merged S C) t ≡ getD S (countBelow t S) n
@@ -118,7 +125,7 @@ module _ (n : ℕ) (S C : List ℕ) (c : Starts n S C) where
       go (inr h) (inl k) = absurd (omega (arith, List·getD-eq-default S n h, getD-default C (countBelow t C) n 0 k, cut-below (countBelow t C) k))
       go (inr h) (inr k) = List·getD-eq-default (merged S C) n (omega (arith, merged-count S C t, merged-length S C)) ∙ sym (List·getD-eq-default S n h)
 
-  pub first-cut : (t : ℕ) → getD C (countBelow t C) n < getD S (countBelow t S) n → firstFrom n (merged S C) t ≡ getD C (countBelow t C) n
+  first-cut : (t : ℕ) → getD C (countBelow t C) n < getD S (countBelow t S) n → firstFrom n (merged S C) t ≡ getD C (countBelow t C) n
   first-cut t l = go (lt-or-le (countBelow t S) (length S)) (lt-or-le (countBelow t C) (length C))
     where
       go : (countBelow t S < length S) ⊎ (length S ≤ countBelow t S) → (countBelow t C < length C) ⊎ (length C ≤ countBelow t C) → firstFrom n (merged S C) t ≡ getD C (countBelow t C) n
@@ -153,46 +160,82 @@ module _ (n : ℕ) (S C : List ℕ) (c : Starts n S C) where
       go (inl l) = omega (arith, getD-default (merged S C) (m + 1) n 0 l, pairwise-at _<_ (merged S C) (c .all-rise) m (m + 1) (omega arith) l)
       go (inr l) = omega (arith, List·getD-eq-default (merged S C) n l, all-at (λ s. s < n) (merged S C) (c .below) m h)
 
-  -- a start comes next: it is the merged entry, and one start more comes before the next one
-  module _ (m i j : ℕ) (h : m < length (merged S C)) (e : i ≡ countBelow (getD (merged S C) m n) S) (f : j ≡ countBelow (getD (merged S C) m n) C) where
-    split : (i + j ≡ m) × (countBelow (getD (merged S C) (m + 1) n) S + countBelow (getD (merged S C) (m + 1) n) C ≡ m + 1) × (i ≤ countBelow (getD (merged S C) (m + 1) n) S) × (j ≤ countBelow (getD (merged S C) (m + 1) n) C)
-    split =
-        let t = getD (merged S C) m n in
-        let t′ = getD (merged S C) (m + 1) n in
-        let l : t < t′ = omega (arith, place-rises m h, getD-default (merged S C) m n 0 h) in (
-          omega (arith, place-count m (omega arith), merged-count S C t),
-          omega (arith, place-count (m + 1) (omega arith), merged-count S C t′),
-          omega (arith, count-mono t t′ S (omega arith)),
-          omega (arith, count-mono t t′ C (omega arith)),
-        )
+  -- at a mark: the two next entries of the lists tell the merged one, and the next mark
+  module _ (mark : Mark) (m : ℕ) (a : At n S C mark m) where
+    pub at-sum : mark .starts + mark .cuts ≡ m
+    at-sum = omega (arith, a .starts-before, a .cuts-before, place-count m (a .within), merged-count S C (getD (merged S C) m n))
 
-    next-is : (v : ℕ) → firstFrom n (merged S C) (getD (merged S C) m n) ≡ v → (v ≡ getD (merged S C) m 0) × (v < n) × (v < getD (merged S C) (m + 1) n)
-    next-is v g =
-        let k = getD-default (merged S C) m n 0 h in
-        let e : v ≡ getD (merged S C) m 0 = sym g ∙ ap (λ (x : ℕ). getD (merged S C) x n) (place-count m (omega arith)) ∙ k in
-        (e, omega (arith, all-at (λ s. s < n) (merged S C) (c .below) m h), omega (arith, place-rises m h))
+    pub at-own : At n S C mark (mark .starts + mark .cuts)
+    at-own = rw at-sum a
 
-    pub merge-start : getD S i n ≤ getD C j n → (getD S i n ≡ getD (merged S C) m 0) × (i + 1 ≡ countBelow (getD (merged S C) (m + 1) n) S) × (j ≡ countBelow (getD (merged S C) (m + 1) n) C)
-    merge-start l =
-        let v = next-is (getD S i n) (first-start (getD (merged S C) m n) (rw (← e, ← f) l) ∙ ap (λ (x : ℕ). getD S x n) (sym e)) in
-        let k : i < length S = within (lt-or-le i (length S)) (v .1) in
-        let g = count-gt (getD (merged S C) (m + 1) n) S (strict-sorted S (c .starts-rise)) i k (omega (arith, v .2, getD-default S i n 0 k)) in
-        (v .0, omega (arith, split), omega (arith, split))
+    -- whether the next entry is below t
+    pub at-stop : (t : ℕ) → t ≤ getD (merged S C) m n → countBelow t (merged S C) ≤ m
+    at-stop t l = omega (arith, place-count m (a .within), count-mono t (getD (merged S C) m n) (merged S C) l)
+
+    pub at-go : (t : ℕ) → t ≤ n → getD (merged S C) m n < t → (m < length (merged S C)) × (m < countBelow t (merged S C))
+    at-go t b l = go (lt-or-le m (length (merged S C)))
       where
-        within : (i < length S) ⊎ (length S ≤ i) → getD S i n < n → i < length S
-        within (inl k) z = k
-        within (inr k) z = absurd (omega (arith, List·getD-eq-default S n k))
+        go : (m < length (merged S C)) ⊎ (length (merged S C) ≤ m) → (m < length (merged S C)) × (m < countBelow t (merged S C))
+        go (inl k) = (k, count-gt t (merged S C) (merged-sorted S C) m k (omega (arith, getD-default (merged S C) m n 0 k)))
+        go (inr k) = absurd (omega (arith, List·getD-eq-default (merged S C) n k))
 
-    pub merge-cut : getD C j n < getD S i n → (getD C j n ≡ getD (merged S C) m 0) × (i ≡ countBelow (getD (merged S C) (m + 1) n) S) × (j + 1 ≡ countBelow (getD (merged S C) (m + 1) n) C)
-    merge-cut l =
-        let v = next-is (getD C j n) (first-cut (getD (merged S C) m n) (rw (← e, ← f) l) ∙ ap (λ (x : ℕ). getD C x n) (sym f)) in
-        let k : j < length C = within (lt-or-le j (length C)) (v .1) in
-        let g = count-gt (getD (merged S C) (m + 1) n) C (strict-sorted C (c .cuts-rise)) j k (omega (arith, v .2, getD-default C j n 0 k)) in
-        (v .0, omega (arith, split), omega (arith, split))
-      where
-        within : (j < length C) ⊎ (length C ≤ j) → getD C j n < n → j < length C
-        within (inl k) z = k
-        within (inr k) z = absurd (omega (arith, List·getD-eq-default C n k))
+    at-first : firstFrom n (merged S C) (getD (merged S C) m n) ≡ getD (merged S C) m n
+    at-first = ap (λ (x : ℕ). getD (merged S C) x n) (place-count m (a .within))
+
+    pub at-start : getD S (mark .starts) n ≤ getD C (mark .cuts) n → getD S (mark .starts) n ≡ getD (merged S C) m n
+    at-start l =
+        ap (λ (x : ℕ). getD S x n) (a .starts-before) ∙ sym (first-start (getD (merged S C) m n) (rw (← (a .starts-before), ← (a .cuts-before)) l)) ∙ at-first
+
+    pub at-cut : getD C (mark .cuts) n < getD S (mark .starts) n → getD C (mark .cuts) n ≡ getD (merged S C) m n
+    at-cut l =
+        ap (λ (x : ℕ). getD C x n) (a .cuts-before) ∙ sym (first-cut (getD (merged S C) m n) (rw (← (a .starts-before), ← (a .cuts-before)) l)) ∙ at-first
+
+    module _ (h : m < length (merged S C)) where
+      -- the next entry is below n, and the one after it above it
+      rising : (getD (merged S C) m n < n) × (getD (merged S C) m n < getD (merged S C) (m + 1) n)
+      rising = let e = getD-default (merged S C) m n 0 h in (omega (arith, all-at (λ s. s < n) (merged S C) (c .below) m h), omega (arith, place-rises m h))
+
+      split : (countBelow (getD (merged S C) (m + 1) n) S + countBelow (getD (merged S C) (m + 1) n) C ≡ m + 1)
+          × (mark .starts ≤ countBelow (getD (merged S C) (m + 1) n) S) × (mark .cuts ≤ countBelow (getD (merged S C) (m + 1) n) C)
+      split =
+          let t = getD (merged S C) m n in
+          let t′ = getD (merged S C) (m + 1) n in (
+            omega (arith, place-count (m + 1) (omega arith), merged-count S C t′),
+            omega (arith, a .starts-before, count-mono t t′ S (omega (arith, rising .1))),
+            omega (arith, a .cuts-before, count-mono t t′ C (omega (arith, rising .1))),
+          )
+
+      -- an entry that is the merged one comes before the next
+      passes : (l : List ℕ) → Strict l → (i : ℕ) → getD l i n ≡ getD (merged S C) m n → i < countBelow (getD (merged S C) (m + 1) n) l
+      passes l r i e = go (lt-or-le i (length l))
+        where
+          go : (i < length l) ⊎ (length l ≤ i) → i < countBelow (getD (merged S C) (m + 1) n) l
+          go (inl k) = count-gt (getD (merged S C) (m + 1) n) l (strict-sorted l r) i k (omega (arith, rising .1, getD-default l i n 0 k))
+          go (inr k) = absurd (omega (arith, rising .0, List·getD-eq-default l n k))
+
+      pub next-start : getD S (mark .starts) n ≤ getD C (mark .cuts) n → At n S C (record { starts = mark .starts + 1; cuts = mark .cuts }) (m + 1)
+      next-start l =
+          let p = passes S (c .starts-rise) (mark .starts) (at-start l) in
+          record { within = omega arith; starts-before = omega (arith, split, at-sum); cuts-before = omega (arith, split, at-sum) }
+
+      pub next-cut : getD C (mark .cuts) n < getD S (mark .starts) n → At n S C (record { starts = mark .starts; cuts = mark .cuts + 1 }) (m + 1)
+      next-cut l =
+          let p = passes C (c .cuts-rise) (mark .cuts) (at-cut l) in
+          record { within = omega arith; starts-before = omega (arith, split, at-sum); cuts-before = omega (arith, split, at-sum) }
+
+  -- the mark before the first entry at or above t
+  pub at-counts : (mark : Mark) (t : ℕ) → mark .starts ≡ countBelow t S → mark .cuts ≡ countBelow t C → At n S C mark (countBelow t (merged S C))
+  at-counts mark t e f =
+      let m = countBelow t (merged S C) in
+      let b : m ≤ length (merged S C) = count-le-length t (merged S C) in
+      let u = getD (merged S C) m n in
+      let g : countBelow u C + countBelow u S ≡ countBelow t C + countBelow t S = omega (arith, place-count m b, merged-count S C u, merged-count S C t) in
+      let k = same u t (lt-or-le u t) g in
+      record { within = b; starts-before = omega (arith, k); cuts-before = omega (arith, k) }
+    where
+      same : (u t : ℕ) → (u < t) ⊎ (t ≤ u) → countBelow u C + countBelow u S ≡ countBelow t C + countBelow t S → (countBelow u S ≡ countBelow t S) × (countBelow u C ≡ countBelow t C)
+      same u t (inl l) g = (omega (arith, count-mono u t S (omega arith), count-mono u t C (omega arith)), omega (arith, count-mono u t S (omega arith), count-mono u t C (omega arith)))
+      same u t (inr l) g = (omega (arith, count-mono t u S l, count-mono t u C l), omega (arith, count-mono t u S l, count-mono t u C l))
 
   -- what comes before the next merged entry is what is not above this one
   pub merged-next : (m : ℕ) → m < length (merged S C) → countBelow (getD (merged S C) (m + 1) n) S ≡ countBelow (suc (getD (merged S C) m 0)) S
@@ -208,9 +251,3 @@ module _ (n : ℕ) (S C : List ℕ) (c : Starts n S C) where
         count-mono t t′ S (place-rises m h),
         count-mono t t′ C (place-rises m h),
       )
-
--- the entry after the one at k
-pub next-start : (n : ℕ) (l : List ℕ) (k s : ℕ) → Strict l → s ≡ getD l k 0 → suc k < length l → firstFrom n l (s + 1) ≡ getD l (suc k) 0
-next-start n l k s r e h =
-    let f : countBelow (s + 1) l ≡ suc k = ap (λ (t : ℕ). countBelow t l) (add-one s ∙ ap suc e) ∙ count-after l r k (omega arith) in
-    ap (λ (i : ℕ). getD l i n) f ∙ getD-default l (suc k) n 0 h

@@ -12,12 +12,15 @@ use Rattle.order.specs.Order.{All, Strict, countBelow, insertSorted}
 use Rattle.order.proofs.Laws.{lt-or-le, at-all, strict-sorted, strict-insert, count-mono, count-gt, insert-split, length-insert, take-insert}
 use Rattle.runs.specs.Legal.{Legal}
 use Rattle.runs.specs.Runs.{Runs, countOf, startOf, imageOf, endOf, imageEnd}
+use Rattle.runs.proofs.Sums.{count-inside}
+use Rattle.runs.proofs.Searches.{getD-default}
 use Rattle.runs.proofs.Legality.{homes, run-at, end-next}
 use Rattle.tables.specs.Inverse.{carryBack}
 use Rattle.tables.specs.Under.{weight}
-use Rattle.tables.proofs.Walks.{run-below, under-at, weight-less}
+use Rattle.tables.proofs.Walks.{weight-is, run-below, under-at, weight-less}
 use Rattle.balance.specs.Balance.{cutPlace, cutAt, balanced, boundOf}
-use Rattle.balance.specs.Cuts.{merged, withCuts, Starts, Begins, PieceAt, Covers, BalancingCuts}
+use Rattle.balance.specs.Cuts.{merged, withCuts, Starts, Skips, Begins, PieceAt, Covers, BalancingCuts}
+use Rattle.balance.specs.declared.Mark.{Mark}
 use Rattle.balance.specs.declared.Piece.{Piece}
 use Rattle.balance.proofs.Refine.{Refines, refines-self, refines-on}
 use Rattle.balance.proofs.Cut.{cut-count}
@@ -93,36 +96,67 @@ module _ (d n : ℕ) (many : 2 ≤ d) (r : Runs) (c₀ : Legal n r) (working₀ 
       record { list-is = e; starts = g .starts; counted = sym progress-count ∙ ap countOf e; fits = g .fits; rest = g .rest }
 
   module _ (piece : Piece) (a : PieceAt n (withCuts n r (take c working)) P piece) where
-    light-weight : piece .weight < 2 * d → weight n (withCuts n r (take c working)) (a .index) < 2 * d
-    light-weight w = omega (arith, a .weight-is)
-
-    pub progress-back : piece .weight < 2 * d → P < Q → Progress d n r working₀ working Q Q c × turnsLeft n r working Q Q c < turnsLeft n r working P Q c
+    pub progress-back : weight n (withCuts n r (take c working)) (a .index) < 2 * d → P < Q → Progress d n r working₀ working Q Q c × turnsLeft n r working Q Q c < turnsLeft n r working P Q c
     progress-back w l =
-        let s = sweeping-back d n many r c₀ (withCuts n r (take c working)) P Q (g .sweeping) (a .index) (a .known) (a .at) (light-weight w) l in
+        let s = sweeping-back d n many r c₀ (withCuts n r (take c working)) P Q (g .sweeping) (a .index) (a .known) (a .at) w l in
         (record { sweeping = s .0; starts = g .starts; fits = g .fits; kept = g .kept; rest = g .rest }, s .1)
 
-    pub progress-on : piece .weight < 2 * d → Q ≤ P → Progress d n r working₀ working (piece .to) (piece .to) c × turnsLeft n r working (piece .to) (piece .to) c < turnsLeft n r working P Q c
+    pub progress-on : weight n (withCuts n r (take c working)) (a .index) < 2 * d → Q ≤ P → Progress d n r working₀ working (piece .to) (piece .to) c × turnsLeft n r working (piece .to) (piece .to) c < turnsLeft n r working P Q c
     progress-on w l =
-        let s = sweeping-on d n many r c₀ (withCuts n r (take c working)) P Q (g .sweeping) (a .index) (a .known) (a .at) (light-weight w) l in
+        let s = sweeping-on d n many r c₀ (withCuts n r (take c working)) P Q (g .sweeping) (a .index) (a .known) (a .at) w l in
         subst (λ (t : ℕ). Progress d n r working₀ working t t c × turnsLeft n r working t t c < turnsLeft n r working P Q c) (a .to-is)
         (record { sweeping = s .0; starts = g .starts; fits = g .fits; kept = g .kept; rest = g .rest }, s .1)
 
+-- the image of a piece ends after P, within the places
+pub piece-to : (n : ℕ) (r : Runs) (cuts : List ℕ) (P : ℕ) (piece : Piece) → Legal n r → Starts n (r .starts) cuts → PieceAt n (withCuts n r cuts) P piece
+    → (P ≤ piece .to) × (piece .to ≤ n)
+piece-to n r cuts P piece c s a = omega (arith, a .at, a .to-is, with-legal n r cuts c s .within (a .index) (a .known))
+
+-- what two looks of d starts each, from the mark before P, tell of the piece's weight
+module _ (n d : ℕ) (r : Runs) (cuts : List ℕ) (P : ℕ) (piece : Piece) (c : Starts n (r .starts) cuts) (a : PieceAt n (withCuts n r cuts) P piece)
+    (mark middle last : Mark) (some : 0 < d) (e : mark .starts + mark .cuts ≡ countBelow P (merged (r .starts) cuts))
+    (f : Skips n (r .starts) cuts mark d (piece .to) middle) (g : Skips n (r .starts) cuts middle d (piece .to) last) where
+  weight-between : weight n (withCuts n r cuts) (a .index) + countBelow P (merged (r .starts) cuts) ≡ countBelow (piece .to) (merged (r .starts) cuts)
+  weight-between =
+      let q = withCuts n r cuts in
+      let l = merged (r .starts) cuts in
+      omega (
+        arith,
+        weight-is n q (a .index),
+        count-inside (imageOf q (a .index)) (imageEnd n q (a .index)) l (omega arith),
+        ap (λ (p : ℕ). countBelow p l) (a .at),
+        ap (λ (p : ℕ). countBelow p l) (a .to-is),
+      )
+
+  pub looked-light : last .starts + last .cuts < mark .starts + mark .cuts + 2 * d
+      → (weight n (withCuts n r cuts) (a .index) < 2 * d) × (last .starts + last .cuts ≡ countBelow (piece .to) (merged (r .starts) cuts))
+  looked-light h =
+      let w = weight-between in
+      let k : last .starts + last .cuts ≡ countBelow (piece .to) (merged (r .starts) cuts) = go (lt-or-le (middle .starts + middle .cuts) (mark .starts + mark .cuts + d)) in
+      (omega arith, k)
+    where
+      go : (middle .starts + middle .cuts < mark .starts + mark .cuts + d) ⊎ (mark .starts + mark .cuts + d ≤ middle .starts + middle .cuts)
+          → last .starts + last .cuts ≡ countBelow (piece .to) (merged (r .starts) cuts)
+      go (inl l) = let k = f .stopped l in g .stopped (omega (arith, g .below))
+      go (inr l) = g .stopped (omega arith)
+
+  pub looked-heavy : mark .starts + mark .cuts + 2 * d ≤ last .starts + last .cuts
+      → (2 * d ≤ weight n (withCuts n r cuts) (a .index)) × (middle .starts + middle .cuts ≡ countBelow P (merged (r .starts) cuts) + d)
+  looked-heavy h = (omega (arith, weight-between, g .below), omega (arith, g .far, f .far))
+
 -- a cut of the piece at P, which is heavy: s is the (d + 1)th start under its image, and u the start that is added
 module _ (d n : ℕ) (many : 2 ≤ d) (r : Runs) (c₀ : Legal n r) (working₀ working : List ℕ) (P Q c : ℕ) (g : Progress d n r working₀ working P Q c)
-    (piece : Piece) (a : PieceAt n (withCuts n r (take c working)) P piece) (heavy : 2 * d ≤ piece .weight) where
-  weighs : 2 * d ≤ weight n (withCuts n r (take c working)) (a .index)
-  weighs = omega (arith, a .weight-is)
-
+    (piece : Piece) (a : PieceAt n (withCuts n r (take c working)) P piece) (weighs : 2 * d ≤ weight n (withCuts n r (take c working)) (a .index)) where
   legal : Legal n (withCuts n r (take c working))
   legal = g .sweeping .swept .legal
 
-  pub cut-index : countBelow P (merged (r .starts) (take c working)) + d < length (merged (r .starts) (take c working))
-  cut-index = let i = weight-less n (withCuts n r (take c working)) legal (a .index) d (omega (arith, weighs)) .0 in omega (arith, ap (λ (p : ℕ). countBelow p (merged (r .starts) (take c working))) (a .at))
-
-  pub cut-place : (s : ℕ) → s ≡ getD (merged (r .starts) (take c working)) (countBelow P (merged (r .starts) (take c working)) + d) 0
+  pub cut-place : (m s : ℕ) → m ≡ countBelow P (merged (r .starts) (take c working)) + d → s ≡ getD (merged (r .starts) (take c working)) m n
       → s ≡ cutPlace d n (withCuts n r (take c working)) (a .index)
-  cut-place s e =
-      e ∙ ap (λ (p : ℕ). getD (merged (r .starts) (take c working)) (countBelow p (merged (r .starts) (take c working)) + d) 0) (sym (a .at))
+  cut-place m s f e =
+      let l = merged (r .starts) (take c working) in
+      let i = weight-less n (withCuts n r (take c working)) legal (a .index) d (omega (arith, weighs)) .0 in
+      let k : m ≡ countBelow (imageOf (withCuts n r (take c working)) (a .index)) l + d = f ∙ ap (λ (p : ℕ). countBelow p l + d) (sym (a .at)) in
+      e ∙ getD-default l m n 0 (omega arith) ∙ ap (λ (p : ℕ). getD l p 0) k
       ∙ sym (under-at n (withCuts n r (take c working)) legal (a .index) d (omega (arith, weighs)))
 
   module _ (s : ℕ) (e : s ≡ cutPlace d n (withCuts n r (take c working)) (a .index)) where

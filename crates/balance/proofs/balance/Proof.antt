@@ -1,4 +1,4 @@
--- `balance::balance` meets its contract: a list that `check` refuses, or the outcome of an accepted one.
+-- `balance` meets its contract: a list that `check` refuses, or the outcome of an accepted one.
 use borrow.Author.Needs.{needs}
 use mathlib.Core.Path.{_≡_, sym, ap, _∙_}
 use Rattle.runs.specs.Refusal.{checkedSays}

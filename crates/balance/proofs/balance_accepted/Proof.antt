@@ -1,4 +1,4 @@
--- `balance::balance_accepted` meets its contract: one law for each way to return (proofs/Outcomes).
+-- `balance_accepted` meets its contract: one law for each way to return (proofs/Outcomes).
 use borrow.Author.Needs.{needs}
 use mathlib.Core.Path.{sym, _∙_}
 use native.Mathlib.Omega.{arith}

@@ -1,4 +1,4 @@
--- `balance::bound_of` meets its contract: d and k are small, so the product fits.
+-- `bound_of` meets its contract: d and k are small, so the product fits.
 use borrow.Author.Needs.{needs}
 use Prim.Native.Nat.{_*_, _-_, _/_, _≤_}
 use mathlib.Core.Path.{refl}

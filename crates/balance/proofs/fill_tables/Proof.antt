@@ -1,4 +1,4 @@
--- `balance::fill_tables` meets its contract: the list after the balancing cuts is the balanced list.
+-- `fill_tables` meets its contract: the list after the balancing cuts is the balanced list.
 use borrow.Author.Needs.{needs}
 use Prim.Native.Nat.{_+_, _≤_}
 use mathlib.Core.Path.{_≡_, sym}

@@ -1,4 +1,4 @@
--- `balance::is_short` meets its contract: by cases, in the order of test 8.
+-- `is_short` meets its contract: by cases, in the order of test 8.
 use lib.ListN.{length}
 use borrow.Author.Tests.{lt-ltb, le-ltb}
 use Rattle.balance.specs.Lent.{tooShort}
