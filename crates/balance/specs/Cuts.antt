@@ -41,7 +41,8 @@ pub record Skips (n : ℕ) (starts cuts : List ℕ) (mark : Mark) (count t : ℕ
   pub at : At n starts cuts to (to .starts + to .cuts)
   pub below : to .starts + to .cuts ≤ countBelow t (merged starts cuts)
   pub far : to .starts + to .cuts ≤ mark .starts + mark .cuts + count
-  pub stopped : to .starts + to .cuts < mark .starts + mark .cuts + count → to .starts + to .cuts ≡ countBelow t (merged starts cuts)
+  pub stopped : to .starts + to .cuts < mark .starts + mark .cuts + count
+      → to .starts + to .cuts ≡ countBelow t (merged starts cuts)
 
 -- the run at x of a list with these starts has place p
 pub record Has (n : ℕ) (starts : List ℕ) (x p : ℕ) : Type 0 where
@@ -128,5 +129,6 @@ pub record Fillable (n : ℕ) (r : Runs) (d b : ℕ) (l : Lent) : Type 0 where
 -- the tables t stand in the lent ones, and the working table is cleared
 pub record Filled (t : Tables) (b : ℕ) (entry exit : Lent) (k : ℕ) : Type 0 where
   pub counted : k ≡ sizeOf t
-  pub written : TablesWritten t (entry .starts) (entry .images) (entry .holders) (exit .starts) (exit .images) (exit .holders)
+  pub written : TablesWritten t (entry .starts) (entry .images) (entry .holders) (exit .starts) (exit .images)
+      (exit .holders)
   pub cleared : exit .working ≡ over (replicate b 0) (entry .working)

@@ -47,7 +47,8 @@ fn write_list(
 // Writes the holder of each image: the run that has it.
 fn write_holders(n: u32, starts: &[u32], images: &[u32], to: &mut [u32])
     requires { ⌜ Legal n (runs (now starts) (now images)) × (length (now starts) ≤ length (now to)) ⌝ }
-    ensures { λ _. ⌜ now (to .exit) ≡ over (map (runAt n (runs (now (starts .entry)) (now (images .entry)))) (now (images .entry))) (now (to .entry)) ⌝ }
+    ensures { λ _. ⌜ now (to .exit)
+        ≡ over (map (runAt n (runs (now (starts .entry)) (now (images .entry)))) (now (images .entry))) (now (to .entry)) ⌝ }
 {
     let mut x = 0;
     while x < images.len() {
@@ -70,7 +71,8 @@ pub(crate) fn write_tables(
         × (length (now starts) + length (now cuts) ≤ length (now «to_starts»))
         × (length (now starts) + length (now cuts) ≤ length (now «to_images»))
         × (length (now starts) + length (now cuts) ≤ length (now «to_holders»)) ⌝ }
-    ensures { λ _. ⌜ TablesWritten (tablesOf n (withCuts n (runs (now (starts .entry)) (now (images .entry))) (now (cuts .entry))))
+    ensures { λ _. ⌜ TablesWritten
+        (tablesOf n (withCuts n (runs (now (starts .entry)) (now (images .entry))) (now (cuts .entry))))
         (now («to_starts» .entry)) (now («to_images» .entry)) (now («to_holders» .entry))
         (now («to_starts» .exit)) (now («to_images» .exit)) (now («to_holders» .exit)) ⌝ }
 {

@@ -1,8 +1,8 @@
 // Balancing: the same permutation with more starts, so that a move through the table passes at most 2d - 1 of them.
 //
 // The cuts are found by a sweep along the images (Nishimoto and Tabei's fast balancing, with binary searches for its
-// trees); the list itself is read where it lies. The definitions that `balance`'s contract cites are in specs/Balance and
-// specs/Lent.
+// trees); the list itself is read where it lies. The definitions that `balance`'s contract cites are in specs/Balance
+// and specs/Lent.
 
 mod fill;
 mod marks;
@@ -54,7 +54,8 @@ fn is_short(
     to_holders: &[u32],
     working: &[u32],
 ) -> bool
-    ensures { λ r. ⌜ r ≡ tooShort b (lent (now («to_starts» .entry)) (now («to_images» .entry)) (now («to_holders» .entry)) (now (working .entry))) ⌝ }
+    ensures { λ r. ⌜ r ≡ tooShort b
+        (lent (now («to_starts» .entry)) (now («to_images» .entry)) (now («to_holders» .entry)) (now (working .entry))) ⌝ }
 {
     if to_starts.len() < b {
         return true;
@@ -80,7 +81,8 @@ fn fill_tables(
     to_holders: &mut [u32],
     working: &mut [u32],
 ) -> u32
-    requires { ⌜ Fillable n (runs (now starts) (now images)) d b (lent (now «to_starts») (now «to_images») (now «to_holders») (now working)) ⌝ }
+    requires { ⌜ Fillable n (runs (now starts) (now images)) d b
+        (lent (now «to_starts») (now «to_images») (now «to_holders») (now working)) ⌝ }
     ensures { λ r. ⌜ Filled (tablesOf n (balanced d n (runs (now (starts .entry)) (now (images .entry))))) b
         (lent (now («to_starts» .entry)) (now («to_images» .entry)) (now («to_holders» .entry)) (now (working .entry)))
         (lent (now («to_starts» .exit)) (now («to_images» .exit)) (now («to_holders» .exit)) (now (working .exit))) r ⌝ }

@@ -29,7 +29,8 @@ pub(crate) fn piece_at(
 ) -> Piece
     requires { ⌜ Ranked n (runs (now starts) (now images)) (now order) (now ranked) × Starts n (now starts) (now cuts)
         × Begins (withCuts n (runs (now starts) (now images)) (now cuts)) p ⌝ }
-    ensures { λ r. ⌜ PieceAt n (withCuts n (runs (now (starts .entry)) (now (images .entry))) (now (cuts .entry))) p r ⌝ }
+    ensures { λ r. ⌜ PieceAt n
+        (withCuts n (runs (now (starts .entry)) (now (images .entry))) (now (cuts .entry))) p r ⌝ }
 {
     let x = run_at_rank(order, ranked, p);
     let start = starts[x] + (p - images[x]);
@@ -67,8 +68,10 @@ pub(crate) fn image_around(
     cuts: &[u32],
     u: u32,
 ) -> u32
-    requires { ⌜ Ranked n (runs (now starts) (now images)) (now order) (now ranked) × Starts n (now starts) (now cuts) × (u < n) ⌝ }
-    ensures { λ r. ⌜ Covers n (withCuts n (runs (now (starts .entry)) (now (images .entry))) (now (cuts .entry))) u r ⌝ }
+    requires { ⌜ Ranked n (runs (now starts) (now images)) (now order) (now ranked)
+        × Starts n (now starts) (now cuts) × (u < n) ⌝ }
+    ensures { λ r. ⌜ Covers n
+        (withCuts n (runs (now (starts .entry)) (now (images .entry))) (now (cuts .entry))) u r ⌝ }
 {
     let x = run_at_rank(order, ranked, u);
     let v = starts[x] + (u - images[x]);

@@ -13,9 +13,10 @@ ghost use Rattle.runs.specs.Check.{maxRuns};
 ghost use Rattle.balance.specs.Balance.{boundOf};
 ghost use Rattle.balance.specs.Cuts.{Ranked, BalancingCuts, over};
 
-// Cuts pieces until none is heavy, each time the heavy one with the lowest image: the cuts come to stand in `working`,
-// in rising order. Answers how many there are. Before `q` only the piece at `p` may be heavy; a cut there can make one
-// piece before `q` heavy again, the one under whose image the new start lies. `mark` is the one before `p`.
+// Cuts pieces until none is heavy, each time the heavy one with the lowest image: the cuts come to stand in
+// `working`, in rising order. Answers how many there are. Before `q` only the piece at `p` may be heavy, and a cut
+// there can make one piece before `q` heavy again: the one under whose image the new start lies. `mark` stands before
+// the first start from `p` on, so that two looks of `d` starts each tell a heavy piece, and where to cut it.
 fn sweep(
     n: u32,
     starts: &[u32],
@@ -27,7 +28,8 @@ fn sweep(
 ) -> usize
     requires { ⌜ Ranked n (runs (now starts) (now images)) (now order) (now ranked) × (2 ≤ d) × (d ≤ 64)
         × (boundOf d (length (now starts)) ≤ length (now working)) ⌝ }
-    ensures { λ r. ⌜ BalancingCuts d n (runs (now (starts .entry)) (now (images .entry))) (now (working .entry)) (now (working .exit)) r ⌝ }
+    ensures { λ r. ⌜ BalancingCuts d n (runs (now (starts .entry)) (now (images .entry)))
+        (now (working .entry)) (now (working .exit)) r ⌝ }
 {
     let mut cuts = 0;
     let mut p = 0;
@@ -79,8 +81,10 @@ pub(crate) fn balancing_cuts(
     d: u32,
     working: &mut [u32],
 ) -> usize
-    requires { ⌜ Legal n (runs (now starts) (now images)) × (length (now starts) ≤ maxRuns) × (2 ≤ d) × (d ≤ 64) × (boundOf d (length (now starts)) ≤ length (now working)) ⌝ }
-    ensures { λ r. ⌜ BalancingCuts d n (runs (now (starts .entry)) (now (images .entry))) (now (working .entry)) (now (working .exit)) r ⌝ }
+    requires { ⌜ Legal n (runs (now starts) (now images)) × (length (now starts) ≤ maxRuns) × (2 ≤ d) × (d ≤ 64)
+        × (boundOf d (length (now starts)) ≤ length (now working)) ⌝ }
+    ensures { λ r. ⌜ BalancingCuts d n (runs (now (starts .entry)) (now (images .entry)))
+        (now (working .entry)) (now (working .exit)) r ⌝ }
 {
     let mut order: [u32; runs::MAX_RUNS] = [0; runs::MAX_RUNS];
     let mut ranked: [u32; runs::MAX_RUNS] = [0; runs::MAX_RUNS];

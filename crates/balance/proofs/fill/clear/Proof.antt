@@ -36,7 +36,9 @@ loop-again c =
       omega arith,
       length-set (l .s) (l .i) 0 ∙ l .inv .1,
       ap (λ (t : List ℕ). set t (l .i) 0) (l .inv .2)
-          ∙ written-more (replicate (a .count) 0) (a .s .now) (l .i) 0 (omega (arith, length-replicate {A = ℕ} (a .count) 0)) (omega arith) (sym (getD-replicate (a .count) (l .i) 0 0 (c .loop-test .taken))),
+          ∙ written-more (replicate (a .count) 0) (a .s .now) (l .i) 0
+          (omega (arith, length-replicate {A = ℕ} (a .count) 0)) (omega arith)
+          (sym (getD-replicate (a .count) (l .i) 0 0 (c .loop-test .taken))),
     )
 
 same-length : tie.Need-same-length Inv-loop μ-loop
@@ -46,7 +48,8 @@ returns : tie.Need-returns Inv-loop μ-loop
 returns c =
     let a = c .before .before .args in
     let l = c .before .loop in
-    l .inv .2 ∙ written-all (replicate (a .count) 0) (a .s .now) (l .i) (omega (arith, length-replicate {A = ℕ} (a .count) 0))
+    l .inv .2 ∙ written-all (replicate (a .count) 0) (a .s .now) (l .i)
+    (omega (arith, length-replicate {A = ℕ} (a .count) 0))
 
 pub clear-spec : {M : Type 1} → statement M
 clear-spec =

@@ -23,7 +23,8 @@ sub-result : tie.Need-sub-result
 sub-result c = search needs
 
 add-result : tie.Need-add-result
-add-result c = let a = c .before .before in omega (arith, a .pre .0 .within (a .args .x) (a .pre .1 .known), a .pre .1)
+add-result c = let a = c .before .before in
+    omega (arith, a .pre .0 .within (a .args .x) (a .pre .1 .known), a .pre .1)
 
 returns : tie.Need-returns
 returns c =

@@ -13,10 +13,16 @@ entry-or-requires-2 : tie.Need-entry-or-requires-2
 entry-or-requires-2 c κs = search needs
 
 returns : tie.Need-returns
-returns c = c .before .entry-or2 .ensures ∙ at-cut (c .before .before .before .before .before .args .n) (c .before .before .before .before .before .args .starts .now) (c .before .before .before .before .before .args .cuts .now) (c .before .before .before .before .before .pre .0) (c .before .before .before .before .before .args .mark) _ (c .before .before .before .before .before .pre .1) (omega (arith, c .before .before .entry-or .ensures, c .before .entry-or2 .ensures, c .if1 .taken))
+returns c = c .before .entry-or2 .ensures
+    ∙ at-cut _ _ _ (c .before .before .before .before .before .pre .0) _ _
+    (c .before .before .before .before .before .pre .1)
+    (omega (arith, c .before .before .entry-or .ensures, c .before .entry-or2 .ensures, c .if1 .taken))
 
 returns-2 : tie.Need-returns-2
-returns-2 c = c .before .before .entry-or .ensures ∙ at-start (c .before .before .before .before .before .args .n) (c .before .before .before .before .before .args .starts .now) (c .before .before .before .before .before .args .cuts .now) (c .before .before .before .before .before .pre .0) (c .before .before .before .before .before .args .mark) _ (c .before .before .before .before .before .pre .1) (omega (arith, c .before .before .entry-or .ensures, c .before .entry-or2 .ensures, c .if1 .left))
+returns-2 c = c .before .before .entry-or .ensures
+    ∙ at-start _ _ _ (c .before .before .before .before .before .pre .0) _ _
+    (c .before .before .before .before .before .pre .1)
+    (omega (arith, c .before .before .entry-or .ensures, c .before .entry-or2 .ensures, c .if1 .left))
 
 pub entry-at-spec : {M : Type 1} → statement M
 entry-at-spec = tie.close (tie.spec entry-or-requires entry-or-requires-2 returns returns-2)

@@ -26,7 +26,8 @@ cast-result : tie.Need-cast-result
 cast-result c = omega (arith, c .shared-slice-known3 .given (c .before .count-below .result - 1))
 
 returns : tie.Need-returns
-returns c = ap (λ (k : ℕ). getD (c .before .before .before .before .args .order .now) (k - 1) 0) (c .before .count-below .ensures)
+returns c = ap (λ (k : ℕ). getD (c .before .before .before .before .args .order .now) (k - 1) 0)
+    (c .before .count-below .ensures)
 
 pub run-at-rank-spec : {M : Type 1} → statement M
 run-at-rank-spec =

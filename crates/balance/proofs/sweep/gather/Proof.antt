@@ -12,7 +12,8 @@ use Rattle.balance.proofs.sweep.gather.Statement.{statement}
 use Rattle.balance.proofs.sweep.gather.Tie as tie
 
 abbrev Inv-loop : tie.InvT-loop
-Inv-loop key order to₀ j₀ to j = (j ≤ length order) × (length to ≡ length to₀) × (to ≡ written (map (keyOf key) order) j to₀)
+Inv-loop key order to₀ j₀ to j = (j ≤ length order) × (length to ≡ length to₀)
+    × (to ≡ written (map (keyOf key) order) j to₀)
 
 abbrev μ-loop : tie.MeasureT-loop
 μ-loop key order to₀ j₀ to j = length order - j
@@ -21,8 +22,10 @@ loop-holds : tie.Need-loop-holds Inv-loop μ-loop
 loop-holds c = (omega arith, refl, refl)
 
 -- the index is one of a key
-known : (c : tie.In-loop Inv-loop μ-loop) → getD (c .before .before .args .order .now) (c .before .loop .j) 0 < length (c .before .before .args .key .now)
-known c = all-at (λ i. i < length (c .before .before .args .key .now)) (c .before .before .args .order .now) (c .before .before .pre .0) (c .before .loop .j) (c .loop-test .taken)
+known : (c : tie.In-loop Inv-loop μ-loop)
+    → getD (c .before .before .args .order .now) (c .before .loop .j) 0 < length (c .before .before .args .key .now)
+known c = all-at (λ i. i < length (c .before .before .args .key .now)) (c .before .before .args .order .now)
+    (c .before .before .pre .0) (c .before .loop .j) (c .loop-test .taken)
 
 mul-to : tie.Need-mul-to Inv-loop μ-loop
 mul-to c = omega arith
@@ -60,7 +63,9 @@ loop-again c =
       omega arith,
       length-set (l .to) (l .j) v ∙ l .inv .1,
       ap (λ (t : List ℕ). set t (l .j) v) (l .inv .2)
-          ∙ written-more m (a .to .now) (l .j) v (omega (arith, length-map (a .order .now) (keyOf (a .key .now)))) (omega (arith, c .before .before .before .before .pre .1)) (sym (getD-map (keyOf (a .key .now)) (a .order .now) (l .j) 0 (c .before .before .loop-test .taken))),
+          ∙ written-more m (a .to .now) (l .j) v (omega (arith, length-map (a .order .now) (keyOf (a .key .now))))
+          (omega (arith, c .before .before .before .before .pre .1))
+          (sym (getD-map (keyOf (a .key .now)) (a .order .now) (l .j) 0 (c .before .before .loop-test .taken))),
     )
 
 same-length : tie.Need-same-length Inv-loop μ-loop
@@ -70,7 +75,8 @@ returns : tie.Need-returns Inv-loop μ-loop
 returns c =
     let a = c .before .before .args in
     let l = c .before .loop in
-    l .inv .2 ∙ written-all (map (keyOf (a .key .now)) (a .order .now)) (a .to .now) (l .j) (omega (arith, length-map (a .order .now) (keyOf (a .key .now))))
+    l .inv .2 ∙ written-all (map (keyOf (a .key .now)) (a .order .now)) (a .to .now) (l .j)
+    (omega (arith, length-map (a .order .now) (keyOf (a .key .now))))
 
 pub gather-spec : {M : Type 1} → statement M
 gather-spec =
