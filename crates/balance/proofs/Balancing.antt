@@ -47,8 +47,7 @@ module _ (d n : ℕ) (r : Runs) where
   next-is x h e = record {
     known = h;
     weighs = leb-true (2 * d) (weight n r x) (i .0);
-    lowest =
-        λ y hy w. go y hy w (lt-or-le (imageOf r y) (imageOf r x));
+    lowest = λ y hy w. go y hy w (lt-or-le (imageOf r y) (imageOf r x));
   }
     where
       i : (heavy d n r x ≡ true) × (not (anyBelow (lower d n r x) (countOf r)) ≡ true)
@@ -76,8 +75,7 @@ module _ (d n : ℕ) (r : Runs) where
       go (inr a) = inr (record {
         known = h;
         weighs = w;
-        lowest =
-            λ y hy v. at y hy v (lt-or-le (imageOf r y) (imageOf r x));
+        lowest = λ y hy v. at y hy v (lt-or-le (imageOf r y) (imageOf r x));
       })
         where
           at : (y : ℕ) → y < countOf r → 2 * d ≤ weight n r y

@@ -47,8 +47,7 @@ module _ (n : ℕ) (r : Runs) (pair : length (r .images) ≡ countOf r) (x s : �
   pub cut-left : (y : ℕ) → y < x → Is n (cut r x s) y (startOf r y) (imageOf r y) (endOf n r y)
   cut-left y l = record {
     start-is = starts-before y 0 (omega arith);
-    image-is =
-        images-before y (omega arith);
+    image-is = images-before y (omega arith);
     end-is = starts-before (suc y) n (suc-le-suc l);
   }
 
@@ -56,8 +55,7 @@ module _ (n : ℕ) (r : Runs) (pair : length (r .images) ≡ countOf r) (x s : �
   cut-first = record {
     start-is = starts-before x 0 (omega arith);
     image-is = images-before x (omega arith);
-    end-is =
-        insert-at (suc x) (carryBack r x s) (r .starts) n hx;
+    end-is = insert-at (suc x) (carryBack r x s) (r .starts) n hx;
   }
 
   pub cut-second : Is n (cut r x s) (suc x) (carryBack r x s) s (endOf n r x)

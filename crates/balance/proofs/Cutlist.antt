@@ -275,8 +275,7 @@ module _ (n : ℕ) (r : Runs) (c : Legal n r) where
             rank-below = omega (arith, ranked-length);
             known = hy;
             from = omega arith;
-            to =
-                omega (arith, ap (imageEnd n r) same);
+            to = omega (arith, ap (imageEnd n r) same);
           }
 
   -- what is sent to q from that run
@@ -297,6 +296,5 @@ module _ (n : ℕ) (r : Runs) (order ranked : List ℕ) (c : Ranked n r order ra
         sorted = rw (c .ranked-is) (order-sorted n r (c .legal));
         some = f .some;
         known = f .rank-below;
-        fits =
-            omega arith;
+        fits = omega arith;
       }

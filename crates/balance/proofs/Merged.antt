@@ -73,8 +73,7 @@ joins-starts : (n : ℕ) (S C : List ℕ) → Starts n S C → Joins S C (merged
 joins-starts n S C c = record {
   rises = c .starts-rise;
   sorted = strict-sorted C (c .cuts-rise);
-  counts =
-      λ t. omega (arith, merged-count S C t);
+  counts = λ t. omega (arith, merged-count S C t);
   has = merged-start S C;
 }
 
@@ -82,8 +81,7 @@ joins-cuts : (n : ℕ) (S C : List ℕ) → Starts n S C → Joins C S (merged S
 joins-cuts n S C c = record {
   rises = c .cuts-rise;
   sorted = strict-sorted S (c .starts-rise);
-  counts =
-      merged-count S C;
+  counts = merged-count S C;
   has = merged-cut S C;
 }
 
@@ -104,8 +102,8 @@ module _ (A B M : List ℕ) (j : Joins A B M) where
       let i = j .has (countBelow t A) h in
       ap (λ (k : ℕ). getD M k n) (sym e) ∙ getD-default M (countBelow w M) n 0 (i .0) ∙ i .1
     where
-      same : (countBelow t B < countBelow (getD A (countBelow t A) 0) B) ⊎ (countBelow (getD A (countBelow t A) 0)
-          B ≤ countBelow t B)
+      same : (countBelow t B < countBelow (getD A (countBelow t A) 0) B)
+          ⊎ (countBelow (getD A (countBelow t A) 0) B ≤ countBelow t B)
           → countBelow (getD A (countBelow t A) 0) B ≡ countBelow t B
       same (inl m) =
           absurd (omega (
@@ -316,8 +314,7 @@ module _ (n : ℕ) (S C : List ℕ) (c : Starts n S C) where
           record {
             within = omega arith;
             starts-before = omega (arith, split, at-sum);
-            cuts-before =
-                omega (arith, split, at-sum);
+            cuts-before = omega (arith, split, at-sum);
           }
 
       pub next-cut : getD C (mark .cuts) n < getD S (mark .starts) n
@@ -327,8 +324,7 @@ module _ (n : ℕ) (S C : List ℕ) (c : Starts n S C) where
           record {
             within = omega arith;
             starts-before = omega (arith, split, at-sum);
-            cuts-before =
-                omega (arith, split, at-sum);
+            cuts-before = omega (arith, split, at-sum);
           }
 
   -- the mark before the first entry at or above t

@@ -95,8 +95,7 @@ refines-self n r c = record {
           from = omega arith;
           lasting = homes n r c .lasting y h;
           to = omega arith;
-          shift =
-              refl;
+          shift = refl;
         },
       );
 }
@@ -106,8 +105,7 @@ refines-on n r q t f g = record {
   some = g .some;
   paired = g .paired;
   first = g .first;
-  piece =
-      λ y h. go (g .piece y h);
+  piece = λ y h. go (g .piece y h);
 }
   where
     go : {y : ℕ} → (o : ℕ) × Piece n q t y o → (o : ℕ) × Piece n r t y o
@@ -117,8 +115,7 @@ refines-on n r q t f g = record {
         known = u .1 .known;
         from = omega (arith, i, u .1);
         lasting = i .lasting;
-        to =
-            omega (arith, i, u .1);
+        to = omega (arith, i, u .1);
         shift = omega (arith, i, u .1);
       },
     )

@@ -28,8 +28,7 @@ sweeping-start d n r c = record {
   swept = swept-start d n r c;
   cuts = countOf r;
   counted = omega arith;
-  enough =
-      omega arith;
+  enough = omega arith;
   goal = refl;
 }
 
@@ -55,8 +54,7 @@ module _ (d n : ℕ) (many : 2 ≤ d) (list₀ : Runs) (c₀ : Legal n list₀) 
         swept = swept-back d n r P Q (c .swept) x hx at w l;
         cuts = c .cuts;
         counted = c .counted;
-        enough =
-            c .enough;
+        enough = c .enough;
         goal = c .goal;
       },
       steps-back (2 * countOf list₀ - countOf r) r P Q l,
@@ -67,8 +65,7 @@ module _ (d n : ℕ) (many : 2 ≤ d) (list₀ : Runs) (c₀ : Legal n list₀) 
     sweeping-on w l = (
       record {
         swept = swept-on d n r P Q (c .swept) x hx at w (omega (arith, c .swept .ordered));
-        cuts =
-            c .cuts;
+        cuts = c .cuts;
         counted = c .counted;
         enough = c .enough;
         goal = c .goal;

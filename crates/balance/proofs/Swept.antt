@@ -122,8 +122,7 @@ module _ (d n : ℕ) (r : Runs) (P Q : ℕ) (c : Swept d n r P Q) where
     swept-lowest w = record {
       known = hx;
       weighs = w;
-      lowest =
-          λ y hy v. go y hy v (lt-or-le (imageOf r y) (imageOf r x));
+      lowest = λ y hy v. go y hy v (lt-or-le (imageOf r y) (imageOf r x));
     }
       where
         go : (y : ℕ) → y < countOf r → 2 * d ≤ weight n r y

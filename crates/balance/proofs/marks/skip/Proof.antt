@@ -70,8 +70,7 @@ returns-2 c = let l = c .before .loop in
       at = l .inv .1;
       below = l .inv .3;
       far = omega (arith, l .inv);
-      stopped =
-          λ z. absurd (omega (arith, l .inv));
+      stopped = λ z. absurd (omega (arith, l .inv));
     }
 
 pub skip-spec : {M : Type 1} → statement M

@@ -51,8 +51,7 @@ returns-2 c = let e = cut-is (c .before .before .before) in
             c .if2 .taken,
             h (omega (arith, c .before .before .if1 .left, c .before .before .before .count-below .ensures)),
           ));
-      cut-is =
-          λ h l. e;
+      cut-is = λ h l. e;
     }
 
 returns-3 : tie.Need-returns-3

@@ -113,10 +113,8 @@ sweep-requires c κs =
     .before .before .pre in (
       record {
         legal = a .0;
-        order-is =
-            sorted (c .before .before .before .before .before .before .before .before .before) .1;
-        ranked-is =
-            gathered (c .before .before .before .before);
+        order-is = sorted (c .before .before .before .before .before .before .before .before .before) .1;
+        ranked-is = gathered (c .before .before .before .before);
       },
       a .2,
       a .3,

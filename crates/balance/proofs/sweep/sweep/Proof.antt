@@ -26,7 +26,7 @@ abbrev μ-loop : tie.MeasureT-loop
 μ-loop n starts images order ranked d working₀ cuts₀ p₀ q₀ mark₀ working cuts p q mark =
     turnsLeft n (runs starts images) working p q cuts
 
--- the list that is handed in; the cuts so far, the starts with them, and the list after them; the turns that are left
+-- the list that is handed in; the cuts so far, the starts with them, and the list after them
 abbrev listOf : tie.Start Inv-loop μ-loop → Runs
 listOf a = runs (a .args .starts .now) (a .args .images .now)
 
@@ -40,10 +40,32 @@ abbrev afterOf : tie.At-loop Inv-loop μ-loop → Runs
 afterOf c = withCuts (c .before .before .before .before .before .before .args .n)
     (listOf (c .before .before .before .before .before .before)) (cutsOf c)
 
-abbrev turns : tie.At-loop Inv-loop μ-loop → ℕ
-turns c = turnsLeft (c .before .before .before .before .before .before .args .n)
-    (listOf (c .before .before .before .before .before .before)) (c .loop .working) (c .loop .p) (c .loop .q)
-    (c .loop .cuts)
+-- a turn's progress to other places, and another table
+abbrev Moves : tie.At-loop Inv-loop μ-loop → List ℕ → ℕ → ℕ → ℕ → Type 0
+Moves c working p q cuts =
+    let a = c .before .before .before .before .before .before in
+    Progress (a .args .d) (a .args .n) (listOf a) (a .args .working .now) working p q cuts
+    × turnsLeft (a .args .n) (listOf a) working p q cuts < turnsLeft (a .args .n) (listOf a) (c .loop .working)
+    (c .loop .p) (c .loop .q) (c .loop .cuts)
+
+-- the turn of a light piece, and that of a heavy one
+abbrev pieceT : tie.Then1 Inv-loop μ-loop → tie.After-piece-at Inv-loop μ-loop
+pieceT c = c .before .before .before .before .before .before .before
+
+abbrev turnT : tie.Then1 Inv-loop μ-loop → tie.At-loop Inv-loop μ-loop
+turnT c = c .before .before .before .before .before .before .before .before .before .before
+
+abbrev startT : tie.Then1 Inv-loop μ-loop → tie.Start Inv-loop μ-loop
+startT c = let t = turnT c in t .before .before .before .before .before .before
+
+abbrev pieceE : tie.Else1 Inv-loop μ-loop → tie.After-piece-at Inv-loop μ-loop
+pieceE c = c .before .before .before .before .before .before .before
+
+abbrev turnE : tie.Else1 Inv-loop μ-loop → tie.At-loop Inv-loop μ-loop
+turnE c = c .before .before .before .before .before .before .before .before .before .before
+
+abbrev startE : tie.Else1 Inv-loop μ-loop → tie.Start Inv-loop μ-loop
+startE c = let t = turnE c in t .before .before .before .before .before .before
 
 sorted : {n : ℕ} {starts cuts : List ℕ} → Starts n starts cuts → Sorted starts × Sorted cuts
 sorted {n} {starts} {cuts} g = (strict-sorted starts (g .starts-rise), strict-sorted cuts (g .cuts-rise))
@@ -154,132 +176,51 @@ add-if1-2 c = omega (
 )
 
 mul-if1 : tie.Need-mul-if1 Inv-loop μ-loop
-mul-if1 c = omega (
-  arith,
-  c .before .before .before .before .before .before .before .before .before .before .before .before .before .before
-      .before .pre .2,
-)
+mul-if1 c = let a = c .before .before .before .before .before .before .before .before .before in
+    omega (arith, a .before .before .before .before .before .before .pre .2)
 
 add-if1-3 : tie.Need-add-if1-3 Inv-loop μ-loop
-add-if1-3 c = omega (
-  arith,
-  few (c .before .before .before .before .before .before .before .before),
-  marked (c .before .before .before .before .before .before .before .before),
-  c .before .before .before .before .before .before .before .before .before .before .before .before .before .before
-      .before .pre .2,
-)
+add-if1-3 c = let a = c .before .before .before .before .before .before .before .before .before in
+    omega (
+      arith,
+      few (c .before .before .before .before .before .before .before .before),
+      marked (c .before .before .before .before .before .before .before .before),
+      a .before .before .before .before .before .before .pre .2,
+    )
 
 slice-reshare-prefix-mark-at : tie.Need-slice-reshare-prefix-mark-at Inv-loop μ-loop
-slice-reshare-prefix-mark-at c =
-    c .before .before .before .before .before .before .before .before .before .before .before .loop .inv .0 .fits
+slice-reshare-prefix-mark-at c = turnT (c .before) .loop .inv .0 .fits
 
 slice-aggregate-mark-at : tie.Need-slice-aggregate-mark-at Inv-loop μ-loop
-slice-aggregate-mark-at c = let l =
-    c .before .before .before .before .before .before .before .before .before .before .before .before .loop in
+slice-aggregate-mark-at c = let l = turnT (c .before .before) .loop in
     sym (length-take-le (l .cuts) (l .working) (l .inv .0 .fits))
 
 mark-at-requires : tie.Need-mark-at-requires Inv-loop μ-loop
-mark-at-requires c κs = sorted
-    (c .before .before .before .before .before .before .before .before .before .before .before .before .loop .inv .0
-    .starts)
+mark-at-requires c κs = sorted (turnT (c .before .before) .loop .inv .0 .starts)
 
 -- a light piece: on from `q`, or back to it
-light : (c : tie.Then1 Inv-loop μ-loop)
-    → (weight (c .before .before .before .before .before .before .before .before .before .before .before .before
-    .before .before .before .before .args .n)
-    (afterOf (c .before .before .before .before .before .before .before .before .before .before))
-    (c .before .before .before .before .before .before .before .piece-at .ensures .index) < 2 * c .before .before
-    .before .before .before .before .before .before .before .before .before .before .before .before .before .before
-    .args .d)
-    × (c .before .before .before .skip2 .result .starts + c .before .before .before .skip2 .result .cuts ≡ countBelow
-    (c .before .before .before .before .before .before .before .piece-at .result .to)
-    (mergedOf (c .before .before .before .before .before .before .before .before .before .before)))
-light c = looked-light _ (c .before .before .before .before .before .before .before .before .before .before .before
-    .before .before .before .before .before .args .d)
-    (listOf (c .before .before .before .before .before .before .before .before .before .before .before .before .before
-    .before .before .before)) _ _ _
-    (c .before .before .before .before .before .before .before .before .before .before .loop .inv .0 .starts)
-    (c .before .before .before .before .before .before .before .piece-at .ensures) _ _ _
-    (omega (
-      arith,
-      c .before .before .before .before .before .before .before .before .before .before .before .before
-          .before .before .before .before .pre .1,
-    ))
-    (at-sum _ _ _ (c .before .before .before .before .before .before .before .before .before .before .loop .inv .0
-    .starts) _ _ (c .before .before .before .before .before .before .before .before .before .before .loop .inv .1))
+light : (c : tie.Then1 Inv-loop μ-loop) → let a = startT c .args in
+    let last = c .before .before .before .skip2 .result in
+    (weight (a .n) (afterOf (turnT c)) (pieceT c .piece-at .ensures .index) < 2 * a .d)
+    × (last .starts + last .cuts ≡ countBelow (pieceT c .piece-at .result .to) (mergedOf (turnT c)))
+light c = looked-light _ (startT c .args .d) (listOf (startT c)) _ _ _ (turnT c .loop .inv .0 .starts)
+    (pieceT c .piece-at .ensures) _ _ _ (omega (arith, startT c .pre .1))
+    (at-sum _ _ _ (turnT c .loop .inv .0 .starts) _ _ (turnT c .loop .inv .1))
     (c .before .before .before .before .before .skip .ensures) (c .before .before .before .skip2 .ensures)
     (c .if1 .taken)
 
-on : (c : tie.Then2 Inv-loop μ-loop)
-    → Progress (c .before .before .before .before .before .before .before .before .before .before .before .before
-    .before .before .before .before .before .args .d)
-    (c .before .before .before .before .before .before .before .before .before .before .before .before .before .before
-    .before .before .before .args .n)
-    (listOf (c .before .before .before .before .before .before .before .before .before .before .before .before .before
-    .before .before .before .before))
-    (c .before .before .before .before .before .before .before .before .before .before .before .before .before .before
-    .before .before .before .args .working .now)
-    (c .before .before .before .before .before .before .before .before .before .before .before .loop .working)
-    (c .before .before .before .before .before .before .before .before .piece-at .result .to)
-    (c .before .before .before .before .before .before .before .before .piece-at .result .to)
-    (c .before .before .before .before .before .before .before .before .before .before .before .loop .cuts)
-    × turnsLeft (c .before .before .before .before .before .before .before .before .before .before .before .before
-    .before .before .before .before .before .args .n)
-    (listOf (c .before .before .before .before .before .before .before .before .before .before .before .before .before
-    .before .before .before .before))
-    (c .before .before .before .before .before .before .before .before .before .before .before .loop .working)
-    (c .before .before .before .before .before .before .before .before .piece-at .result .to)
-    (c .before .before .before .before .before .before .before .before .piece-at .result .to)
-    (c .before .before .before .before .before .before .before .before .before .before .before .loop .cuts) < turns
-    (c .before .before .before .before .before .before .before .before .before .before .before)
-on c = progress-on _ _ (c .before .before .before .before .before .before .before .before .before .before .before
-    .before .before .before .before .before .before .pre .1)
-    (listOf (c .before .before .before .before .before .before .before .before .before .before .before .before .before
-    .before .before .before .before))
-    (c .before .before .before .before .before .before .before .before .before .before .before .before .before .before
-    .before .before .before .pre .0 .legal) _ _ _ _ _
-    (c .before .before .before .before .before .before .before .before .before .before .before .loop .inv .0) _
-    (c .before .before .before .before .before .before .before .before .piece-at .ensures) (light (c .before) .0)
+on : (c : tie.Then2 Inv-loop μ-loop) → let l = turnT (c .before) .loop in
+    let to = pieceT (c .before) .piece-at .result .to in Moves (turnT (c .before)) (l .working) to to (l .cuts)
+on c = progress-on _ _ (startT (c .before) .pre .1) (listOf (startT (c .before))) (startT (c .before) .pre .0 .legal)
+    _ _ _ _ _ (turnT (c .before) .loop .inv .0) _ (pieceT (c .before) .piece-at .ensures) (light (c .before) .0)
     (omega (arith, c .if2 .taken))
 
-back : (c : tie.Else2 Inv-loop μ-loop)
-    → Progress (c .before .before .before .before .before .before .before .before .before .before .before .before
-    .before .before .before .before .before .args .d)
-    (c .before .before .before .before .before .before .before .before .before .before .before .before .before .before
-    .before .before .before .args .n)
-    (listOf (c .before .before .before .before .before .before .before .before .before .before .before .before .before
-    .before .before .before .before))
-    (c .before .before .before .before .before .before .before .before .before .before .before .before .before .before
-    .before .before .before .args .working .now)
-    (c .before .before .before .before .before .before .before .before .before .before .before .loop .working)
-    (c .before .before .before .before .before .before .before .before .before .before .before .loop .q)
-    (c .before .before .before .before .before .before .before .before .before .before .before .loop .q)
-    (c .before .before .before .before .before .before .before .before .before .before .before .loop .cuts)
-    × turnsLeft (c .before .before .before .before .before .before .before .before .before .before .before .before
-    .before .before .before .before .before .args .n)
-    (listOf (c .before .before .before .before .before .before .before .before .before .before .before .before .before
-    .before .before .before .before))
-    (c .before .before .before .before .before .before .before .before .before .before .before .loop .working)
-    (c .before .before .before .before .before .before .before .before .before .before .before .loop .q)
-    (c .before .before .before .before .before .before .before .before .before .before .before .loop .q)
-    (c .before .before .before .before .before .before .before .before .before .before .before .loop .cuts) < turns
-    (c .before .before .before .before .before .before .before .before .before .before .before)
-back c = progress-back _ _
-    (c .before .before .before .before .before .before .before .before .before .before .before .before .before .before
-    .before .before .before .pre .1)
-    (listOf (c .before .before .before .before .before .before .before .before .before .before .before .before .before
-    .before .before .before .before))
-    (c .before .before .before .before .before .before .before .before .before .before .before .before .before .before
-    .before .before .before .pre .0 .legal) _ _ _ _ _
-    (c .before .before .before .before .before .before .before .before .before .before .before .loop .inv .0) _
-    (c .before .before .before .before .before .before .before .before .piece-at .ensures) (light (c .before) .0)
-    (omega (
-      arith,
-      c .if2 .left,
-      c .before .before .before .before .before .before .before .before .before .before .before .loop .inv .0
-          .sweeping
-          .swept .ordered,
-    ))
+back : (c : tie.Else2 Inv-loop μ-loop) → let l = turnT (c .before) .loop in
+    Moves (turnT (c .before)) (l .working) (l .q) (l .q) (l .cuts)
+back c = progress-back _ _ (startT (c .before) .pre .1) (listOf (startT (c .before)))
+    (startT (c .before) .pre .0 .legal) _ _ _ _ _ (turnT (c .before) .loop .inv .0) _
+    (pieceT (c .before) .piece-at .ensures) (light (c .before) .0)
+    (omega (arith, c .if2 .left, turnT (c .before) .loop .inv .0 .sweeping .swept .ordered))
 
 loop-less : tie.Need-loop-less Inv-loop μ-loop
 loop-less c = on c .1
@@ -293,178 +234,97 @@ loop-less-2 c = back (c .before .before) .1
 loop-again-2 : tie.Need-loop-again-2 Inv-loop μ-loop
 loop-again-2 c = (
   back (c .before .before) .0,
-  at-counts _ _ _ (c .before .before .before .before .before .before .before .before .before .before .before .before
-      .before .loop .inv .0 .starts) _ _ (c .mark-at .ensures .0) (c .mark-at .ensures .1),
+  at-counts _ _ _ (turnT (c .before .before .before) .loop .inv .0 .starts) _ _ (c .mark-at .ensures .0)
+      (c .mark-at .ensures .1),
 )
 
 slice-reshare-prefix-entry-at : tie.Need-slice-reshare-prefix-entry-at Inv-loop μ-loop
-slice-reshare-prefix-entry-at c =
-    c .before .before .before .before .before .before .before .before .before .before .loop .inv .0 .fits
+slice-reshare-prefix-entry-at c = turnE c .loop .inv .0 .fits
 
 slice-aggregate-entry-at : tie.Need-slice-aggregate-entry-at Inv-loop μ-loop
-slice-aggregate-entry-at c = let l =
-    c .before .before .before .before .before .before .before .before .before .before .before .loop in
+slice-aggregate-entry-at c = let l = turnE (c .before) .loop in
     sym (length-take-le (l .cuts) (l .working) (l .inv .0 .fits))
 
 entry-at-requires : tie.Need-entry-at-requires Inv-loop μ-loop
 entry-at-requires c κs = (
-  c .before .before .before .before .before .before .before .before .before .before .before
-      .loop .inv .0 .starts,
+  turnE (c .before) .loop .inv .0 .starts,
   c .before .before .before .before .before .before .skip .ensures .at,
 )
 
 -- the cut of a heavy piece
-heavy : (c : tie.Else1 Inv-loop μ-loop)
-    → (2 * c .before .before .before .before .before .before .before .before .before .before .before .before .before
-    .before .before .before .args .d ≤ weight
-    (c .before .before .before .before .before .before .before .before .before .before .before .before .before .before
-    .before .before .args .n)
-    (afterOf (c .before .before .before .before .before .before .before .before .before .before))
-    (c .before .before .before .before .before .before .before .piece-at .ensures .index))
-    × (c .before .before .before .before .before .skip .result .starts + c .before .before .before .before .before
-    .skip .result .cuts ≡ countBelow
-    (c .before .before .before .before .before .before .before .before .before .before .loop .p)
-    (mergedOf (c .before .before .before .before .before .before .before .before .before .before)) + c .before .before
-    .before .before .before .before .before .before .before .before .before .before .before .before .before .before
-    .args .d)
-heavy c = looked-heavy _ (c .before .before .before .before .before .before .before .before .before .before .before
-    .before .before .before .before .before .args .d)
-    (listOf (c .before .before .before .before .before .before .before .before .before .before .before .before .before
-    .before .before .before)) _ _ _
-    (c .before .before .before .before .before .before .before .before .before .before .loop .inv .0 .starts)
-    (c .before .before .before .before .before .before .before .piece-at .ensures) _ _ _
-    (omega (
-      arith,
-      c .before .before .before .before .before .before .before .before .before .before .before .before
-          .before .before .before .before .pre .1,
-    ))
-    (at-sum _ _ _ (c .before .before .before .before .before .before .before .before .before .before .loop .inv .0
-    .starts) _ _ (c .before .before .before .before .before .before .before .before .before .before .loop .inv .1))
+heavy : (c : tie.Else1 Inv-loop μ-loop) → let a = startE c .args in
+    let middle = c .before .before .before .before .before .skip .result in
+    (2 * a .d ≤ weight (a .n) (afterOf (turnE c)) (pieceE c .piece-at .ensures .index))
+    × (middle .starts + middle .cuts ≡ countBelow (turnE c .loop .p) (mergedOf (turnE c)) + a .d)
+heavy c = looked-heavy _ (startE c .args .d) (listOf (startE c)) _ _ _ (turnE c .loop .inv .0 .starts)
+    (pieceE c .piece-at .ensures) _ _ _ (omega (arith, startE c .pre .1))
+    (at-sum _ _ _ (turnE c .loop .inv .0 .starts) _ _ (turnE c .loop .inv .1))
     (c .before .before .before .before .before .skip .ensures) (c .before .before .before .skip2 .ensures)
     (c .if1 .left)
 
-placed : (c : tie.After-entry-at Inv-loop μ-loop)
-    → c .entry-at .result ≡ cutPlace
-    (c .before .before .before .before .before .before .before .before .before .before .before .before .before .before
-    .before .before .before .before .args .d)
-    (c .before .before .before .before .before .before .before .before .before .before .before .before .before .before
-    .before .before .before .before .args .n)
-    (afterOf (c .before .before .before .before .before .before .before .before .before .before .before .before))
-    (c .before .before .before .before .before .before .before .before .before .piece-at .ensures .index)
-placed c = cut-place _ _ (c .before .before .before .before .before .before .before .before .before .before .before
-    .before .before .before .before .before .before .before .pre .1)
-    (listOf (c .before .before .before .before .before .before .before .before .before .before .before .before .before
-    .before .before .before .before .before))
-    (c .before .before .before .before .before .before .before .before .before .before .before .before .before .before
-    .before .before .before .before .pre .0 .legal) _ _ _ _ _
-    (c .before .before .before .before .before .before .before .before .before .before .before .before .loop .inv .0)
-    _ (c .before .before .before .before .before .before .before .before .before .piece-at .ensures)
-    (heavy (c .before .before) .0) _ _ (heavy (c .before .before) .1) (c .entry-at .ensures)
+placed : (c : tie.After-entry-at Inv-loop μ-loop) → let a = startE (c .before .before) .args in
+    c .entry-at .result ≡ cutPlace (a .d) (a .n) (afterOf (turnE (c .before .before)))
+    (pieceE (c .before .before) .piece-at .ensures .index)
+placed c = cut-place _ _ (startE (c .before .before) .pre .1) (listOf (startE (c .before .before)))
+    (startE (c .before .before) .pre .0 .legal) _ _ _ _ _ (turnE (c .before .before) .loop .inv .0) _
+    (pieceE (c .before .before) .piece-at .ensures) (heavy (c .before .before) .0) _ _ (heavy (c .before .before) .1)
+    (c .entry-at .ensures)
 
-inside : (c : tie.After-entry-at Inv-loop μ-loop)
-    → (c .before .before .before .before .before .before .before .before .before .before .before .before .loop .p < c
-    .entry-at .result) × (c .entry-at .result < c .before .before .before .before .before .before .before .before
-    .before .piece-at .result .to)
-inside c = cut-inside _ _
-    (c .before .before .before .before .before .before .before .before .before .before .before .before .before .before
-    .before .before .before .before .pre .1)
-    (listOf (c .before .before .before .before .before .before .before .before .before .before .before .before .before
-    .before .before .before .before .before))
-    (c .before .before .before .before .before .before .before .before .before .before .before .before .before .before
-    .before .before .before .before .pre .0 .legal) _ _ _ _ _
-    (c .before .before .before .before .before .before .before .before .before .before .before .before .loop .inv .0)
-    _ (c .before .before .before .before .before .before .before .before .before .piece-at .ensures)
-    (heavy (c .before .before) .0) _ (placed (c))
+inside : (c : tie.After-entry-at Inv-loop μ-loop) → (turnE (c .before .before) .loop .p < c .entry-at .result)
+    × (c .entry-at .result < pieceE (c .before .before) .piece-at .result .to)
+inside c = cut-inside _ _ (startE (c .before .before) .pre .1) (listOf (startE (c .before .before)))
+    (startE (c .before .before) .pre .0 .legal) _ _ _ _ _ (turnE (c .before .before) .loop .inv .0) _
+    (pieceE (c .before .before) .piece-at .ensures) (heavy (c .before .before) .0) _ (placed c)
 
-below : (c : tie.After-entry-at Inv-loop μ-loop)
-    → c .before .before .before .before .before .before .before .before .before .piece-at .result .start
-    + (c .entry-at .result - c .before .before .before .before .before .before .before .before .before .before .before
-    .before .loop .p) < c .before .before .before .before .before .before .before .before .before .before .before
-    .before .before .before .before .before .before .before .args .n
-below c = cut-below _ _ (c .before .before .before .before .before .before .before .before .before .before .before
-    .before .before .before .before .before .before .before .pre .1)
-    (listOf (c .before .before .before .before .before .before .before .before .before .before .before .before .before
-    .before .before .before .before .before))
-    (c .before .before .before .before .before .before .before .before .before .before .before .before .before .before
-    .before .before .before .before .pre .0 .legal) _ _ _ _ _
-    (c .before .before .before .before .before .before .before .before .before .before .before .before .loop .inv .0)
-    _ (c .before .before .before .before .before .before .before .before .before .piece-at .ensures)
-    (heavy (c .before .before) .0) _ (placed (c))
+-- the start that it adds
+abbrev cutOf : tie.After-entry-at Inv-loop μ-loop → ℕ
+cutOf c = pieceE (c .before .before) .piece-at .result .start + (c .entry-at .result - turnE
+    (c .before .before) .loop .p)
+
+below : (c : tie.After-entry-at Inv-loop μ-loop) → cutOf c < startE (c .before .before) .args .n
+below c = cut-below _ _ (startE (c .before .before) .pre .1) (listOf (startE (c .before .before)))
+    (startE (c .before .before) .pre .0 .legal) _ _ _ _ _ (turnE (c .before .before) .loop .inv .0) _
+    (pieceE (c .before .before) .piece-at .ensures) (heavy (c .before .before) .0) _ (placed c)
 
 room : (c : tie.After-entry-at Inv-loop μ-loop)
-    → c .before .before .before .before .before .before .before .before .before .before .before .before .loop .cuts
-    < length (c .before .before .before .before .before .before .before .before .before .before .before .before .loop
-    .working)
-room c = cut-room _ _ (c .before .before .before .before .before .before .before .before .before .before .before
-    .before .before .before .before .before .before .before .pre .1)
-    (listOf (c .before .before .before .before .before .before .before .before .before .before .before .before .before
-    .before .before .before .before .before))
-    (c .before .before .before .before .before .before .before .before .before .before .before .before .before .before
-    .before .before .before .before .pre .0 .legal) _ _ _ _ _
-    (c .before .before .before .before .before .before .before .before .before .before .before .before .loop .inv .0)
-    _ (c .before .before .before .before .before .before .before .before .before .piece-at .ensures)
-    (heavy (c .before .before) .0) _ (placed (c))
-    (omega (
-      arith,
-      c .before .before .before .before .before .before .before .before .before .before .before .before
-          .before .before .before .before .before .before .pre .3,
-      c .before .before .before .before .before .before .before .before .before .before .before .before .loop .inv .0
-          .kept,
-    ))
+    → turnE (c .before .before) .loop .cuts < length (turnE (c .before .before) .loop .working)
+room c = cut-room _ _ (startE (c .before .before) .pre .1) (listOf (startE (c .before .before)))
+    (startE (c .before .before) .pre .0 .legal) _ _ _ _ _ (turnE (c .before .before) .loop .inv .0) _
+    (pieceE (c .before .before) .piece-at .ensures) (heavy (c .before .before) .0) _ (placed c)
+    (omega (arith, startE (c .before .before) .pre .3, turnE (c .before .before) .loop .inv .0 .kept))
 
 sub-u : tie.Need-sub-u Inv-loop μ-loop
 sub-u c = omega (arith, inside c)
 
 add-u : tie.Need-add-u Inv-loop μ-loop
-add-u c = omega (
-  arith,
-  below (c .before),
-  c .before .before .before .before .before .before .before .before .before .before .before .before .before .before
-      .before .before .before .before .before .fits .n,
-)
+add-u c = omega (arith, below (c .before), startE (c .before .before .before) .fits .n)
 
 insert-requires : tie.Need-insert-requires Inv-loop μ-loop
-insert-requires c κs = (
-  room (c .before .before),
-  strict-sorted (take (c .before .before .before .before .before .before .before .before .before .before .before
-      .before .before .before .loop .cuts)
-      (c .before .before .before .before .before .before .before .before .before .before .before .before .before
-      .before
-      .loop .working)) (c .before .before .before .before .before .before .before .before .before .before .before
-      .before .before .before .loop .inv .0 .starts .cuts-rise),
-)
+insert-requires c κs = let l = turnE (c .before .before .before .before) .loop in
+    (room (c .before .before), strict-sorted (take (l .cuts) (l .working)) (l .inv .0 .starts .cuts-rise))
 
 -- the table with the cut in it
-added : (c : tie.After-insert Inv-loop μ-loop)
-    → let a = c .before .before .before .before .before .before .before .before .before .before .before .before
-    .before .before .before .before .before .before .before .before .before .args in
+added : (c : tie.After-insert Inv-loop μ-loop) → let a = startE (c .before .before .before .before .before) .args in
     Starts (a .n) (a .starts .now)
-    (take (c .before .before .before .before .before .before .before .before .before .before .before .before .before
-    .before .before .loop .cuts + 1) (c .insert .last .0))
-added c = cut-starts _ _ (c .before .before .before .before .before .before .before .before .before .before .before
-    .before .before .before .before .before .before .before .before .before .before .pre .1)
-    (listOf (c .before .before .before .before .before .before .before .before .before .before .before .before .before
-    .before .before .before .before .before .before .before .before))
-    (c .before .before .before .before .before .before .before .before .before .before .before .before .before .before
-    .before .before .before .before .before .before .before .pre .0 .legal) _ _ _ _ _
-    (c .before .before .before .before .before .before .before .before .before .before .before .before .before .before
-    .before .loop .inv .0) _ (c .before .before .before .before .before .before .before .before .before .before
-    .before .before .piece-at .ensures) (heavy (c .before .before .before .before .before) .0) _
-    (placed (c .before .before .before)) (c .insert .last .0) (c .insert .ensures)
+    (take (turnE (c .before .before .before .before .before) .loop .cuts + 1) (c .insert .last .0))
+added c = cut-starts _ _ (startE (c .before .before .before .before .before) .pre .1)
+    (listOf (startE (c .before .before .before .before .before)))
+    (startE (c .before .before .before .before .before) .pre .0 .legal) _ _ _ _ _
+    (turnE (c .before .before .before .before .before) .loop .inv .0) _
+    (pieceE (c .before .before .before .before .before) .piece-at .ensures)
+    (heavy (c .before .before .before .before .before) .0) _ (placed (c .before .before .before)) (c .insert .last .0)
+    (c .insert .ensures)
 
 grown : (c : tie.After-insert Inv-loop μ-loop)
-    → c .before .before .before .before .before .before .before .before .before .before .before .before .before
-    .before .before .loop .cuts + 1 ≤ length (c .insert .last .0)
+    → turnE (c .before .before .before .before .before) .loop .cuts + 1 ≤ length (c .insert .last .0)
 grown c = omega (arith, room (c .before .before .before), c .insert .kept .0)
 
 add-cuts : tie.Need-add-cuts Inv-loop μ-loop
 add-cuts c = omega (
   arith,
   room (c .before .before .before .before .before),
-  c .before .before .before .before .before .before .before .before .before .before .before .before .before .before
-      .before .before .before .loop .inv .0 .kept,
-  c .before .before .before .before .before .before .before .before .before .before .before .before .before .before
-      .before .before .before .before .before .before .before .before .before .good,
+  turnE (c .before .before .before .before .before .before .before) .loop .inv .0 .kept,
+  startE (c .before .before .before .before .before .before .before) .good,
 )
 
 slice-reshare-prefix-image-around : tie.Need-slice-reshare-prefix-image-around Inv-loop μ-loop
@@ -472,14 +332,13 @@ slice-reshare-prefix-image-around c = grown (c .before .before .before)
 
 slice-aggregate-image-around : tie.Need-slice-aggregate-image-around Inv-loop μ-loop
 slice-aggregate-image-around c =
-    sym (length-take-le (c .before .before .before .before .before .before .before .before .before .before .before
-    .before .before .before .before .before .before .before .before .loop .cuts + 1)
+    sym (length-take-le (turnE
+    (c .before .before .before .before .before .before .before .before .before) .loop .cuts + 1)
     (c .before .before .before .before .insert .last .0) (grown (c .before .before .before .before)))
 
 image-around-requires : tie.Need-image-around-requires Inv-loop μ-loop
 image-around-requires c κs = (
-  c .before .before .before .before .before .before .before .before .before .before .before .before .before .before
-      .before .before .before .before .before .before .before .before .before .before .before .pre .0,
+  startE (c .before .before .before .before .before .before .before .before .before) .pre .0,
   added (c .before .before .before .before),
   below (c .before .before .before .before .before .before .before),
 )
@@ -489,77 +348,31 @@ slice-reshare-prefix-mark-at-2 c = grown (c .before .before .before)
 
 slice-aggregate-mark-at-2 : tie.Need-slice-aggregate-mark-at-2 Inv-loop μ-loop
 slice-aggregate-mark-at-2 c =
-    sym (length-take-le (c .before .before .before .before .before .before .before .before .before .before .before
-    .before .before .before .before .before .before .before .before .loop .cuts + 1)
+    sym (length-take-le (turnE
+    (c .before .before .before .before .before .before .before .before .before) .loop .cuts + 1)
     (c .before .before .before .before .insert .last .0) (grown (c .before .before .before .before)))
 
 mark-at-requires-2 : tie.Need-mark-at-requires-2 Inv-loop μ-loop
 mark-at-requires-2 c κs = sorted (added (c .before .before .before .before))
 
-next : (c : tie.After-insert Inv-loop μ-loop) (p : ℕ)
-    → let l = c .before .before .before .before .before .before .before .before .before .before .before .before
-    .before .before .before .loop in
-    let u = c .before .before .before .before .before .before .before .before .before .before .before .before
-    .piece-at .result .start + (c .before .before .before .entry-at .result - l .p) in let w = c .insert .last .0 in
-    (u < l .q → Covers (c .before .before .before .before .before .before .before .before .before .before .before
-    .before .before .before .before .before .before .before .before .before .before .args .n)
-    (withCuts (c .before .before .before .before .before .before .before .before .before .before .before .before
-    .before .before .before .before .before .before .before .before .before .args .n)
-    (listOf (c .before .before .before .before .before .before .before .before .before .before .before .before
-    .before .before .before .before .before .before .before .before .before)) (take (l .cuts + 1) w)) u p)
+next : (c : tie.After-insert Inv-loop μ-loop) (p : ℕ) → let a = startE (c .before .before .before .before .before) in
+    let l = turnE (c .before .before .before .before .before) .loop in let u = cutOf (c .before .before .before) in
+    let w = c .insert .last .0 in
+    (u < l .q → Covers (a .args .n) (withCuts (a .args .n) (listOf a) (take (l .cuts + 1) w)) u p)
     → (l .q ≤ u → p ≡ l .q)
-    → Progress (c .before .before .before .before .before .before .before .before .before .before .before .before
-    .before .before .before .before .before .before .before .before .before .args .d)
-    (c .before .before .before .before .before .before .before .before .before .before .before .before .before .before
-    .before .before .before .before .before .before .before .args .n)
-    (listOf (c .before .before .before .before .before .before .before .before .before .before .before .before .before
-    .before .before .before .before .before .before .before .before))
-    (c .before .before .before .before .before .before .before .before .before .before .before .before .before .before
-    .before .before .before .before .before .before .before .args .working .now) w p (l .q) (l .cuts + 1)
-    × turnsLeft (c .before .before .before .before .before .before .before .before .before .before .before .before
-    .before .before .before .before .before .before .before .before .before .args .n)
-    (listOf (c .before .before .before .before .before .before .before .before .before .before .before .before .before
-    .before .before .before .before .before .before .before .before)) w p (l .q) (l .cuts + 1) < turns
-    (c .before .before .before .before .before .before .before .before .before .before .before .before .before .before
-    .before)
-next c p f g = progress-cut _ _
-    (c .before .before .before .before .before .before .before .before .before .before .before .before .before .before
-    .before .before .before .before .before .before .before .pre .1)
-    (listOf (c .before .before .before .before .before .before .before .before .before .before .before .before .before
-    .before .before .before .before .before .before .before .before))
-    (c .before .before .before .before .before .before .before .before .before .before .before .before .before .before
-    .before .before .before .before .before .before .before .pre .0 .legal) _ _ _ _ _
-    (c .before .before .before .before .before .before .before .before .before .before .before .before .before .before
-    .before .loop .inv .0) _ (c .before .before .before .before .before .before .before .before .before .before
-    .before .before .piece-at .ensures) (heavy (c .before .before .before .before .before) .0) _
-    (placed (c .before .before .before)) p (c .insert .last .0) (room (c .before .before .before))
-    (c .insert .ensures) f g
+    → Moves (turnE (c .before .before .before .before .before)) w p (l .q) (l .cuts + 1)
+next c p f g = progress-cut _ _ (startE (c .before .before .before .before .before) .pre .1)
+    (listOf (startE (c .before .before .before .before .before)))
+    (startE (c .before .before .before .before .before) .pre .0 .legal) _ _ _ _ _
+    (turnE (c .before .before .before .before .before) .loop .inv .0) _
+    (pieceE (c .before .before .before .before .before) .piece-at .ensures)
+    (heavy (c .before .before .before .before .before) .0) _ (placed (c .before .before .before)) p
+    (c .insert .last .0) (room (c .before .before .before)) (c .insert .ensures) f g
 
 stepped : (c : tie.Joined3 Inv-loop μ-loop)
-    → Progress (c .before .before .before .before .before .before .before .before .before .before .before .before
-    .before .before .before .before .before .before .before .before .before .before .before .before .args .d)
-    (c .before .before .before .before .before .before .before .before .before .before .before .before .before .before
-    .before .before .before .before .before .before .before .before .before .before .args .n)
-    (listOf (c .before .before .before .before .before .before .before .before .before .before .before .before .before
-    .before .before .before .before .before .before .before .before .before .before .before))
-    (c .before .before .before .before .before .before .before .before .before .before .before .before .before .before
-    .before .before .before .before .before .before .before .before .before .before .args .working .now)
-    (c .before .before .before .insert .last .0) (c .if3 .p)
-    (c .before .before .before .before .before .before .before .before .before .before .before .before .before .before
-    .before .before .before .before .loop .q)
-    (c .before .before .before .before .before .before .before .before .before .before .before .before .before .before
-    .before .before .before .before .loop .cuts + 1)
-    × turnsLeft (c .before .before .before .before .before .before .before .before .before .before .before .before
-    .before .before .before .before .before .before .before .before .before .before .before .before .args .n)
-    (listOf (c .before .before .before .before .before .before .before .before .before .before .before .before .before
-    .before .before .before .before .before .before .before .before .before .before .before))
-    (c .before .before .before .insert .last .0) (c .if3 .p)
-    (c .before .before .before .before .before .before .before .before .before .before .before .before .before .before
-    .before .before .before .before .loop .q)
-    (c .before .before .before .before .before .before .before .before .before .before .before .before .before .before
-    .before .before .before .before .loop .cuts + 1) < turns
-    (c .before .before .before .before .before .before .before .before .before .before .before .before .before .before
-    .before .before .before .before)
+    → let l = turnE (c .before .before .before .before .before .before .before .before) .loop in
+    Moves (turnE (c .before .before .before .before .before .before .before .before))
+    (c .before .before .before .insert .last .0) (c .if3 .p) (l .q) (l .cuts + 1)
 stepped c =
     ⊎-elim
     (λ w. rw (w .3) (next (c .before .before .before) _ (λ l. w .2 .ensures)
