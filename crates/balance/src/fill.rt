@@ -47,8 +47,9 @@ fn write_list(
 // Writes the holder of each image: the run that has it.
 fn write_holders(n: u32, starts: &[u32], images: &[u32], to: &mut [u32])
     requires { ⌜ Legal n (runs (now starts) (now images)) × (length (now starts) ≤ length (now to)) ⌝ }
-    ensures { λ _. ⌜ now (to .exit)
-        ≡ over (map (runAt n (runs (now (starts .entry)) (now (images .entry)))) (now (images .entry))) (now (to .entry)) ⌝ }
+    ensures { λ _. ⌜ now (to .exit) ≡ over
+        (map (runAt n (runs (now (starts .entry)) (now (images .entry)))) (now (images .entry)))
+        (now (to .entry)) ⌝ }
 {
     let mut x = 0;
     while x < images.len() {

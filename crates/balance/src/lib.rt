@@ -55,7 +55,8 @@ fn is_short(
     working: &[u32],
 ) -> bool
     ensures { λ r. ⌜ r ≡ tooShort b
-        (lent (now («to_starts» .entry)) (now («to_images» .entry)) (now («to_holders» .entry)) (now (working .entry))) ⌝ }
+        (lent (now («to_starts» .entry)) (now («to_images» .entry)) (now («to_holders» .entry))
+        (now (working .entry))) ⌝ }
 {
     if to_starts.len() < b {
         return true;
