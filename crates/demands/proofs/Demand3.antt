@@ -23,13 +23,13 @@ use Rattle.tables.proofs.Walks.{above-to, walk-bound}
 use Rattle.tables.proofs.LegalTables.{legal-find-beyond}
 use Rattle.tables.specs.Move.{findOf}
 use Rattle.balance.specs.Balance.{balanced, boundOf}
-use Rattle.balance.specs.Lent.{Lent, balancedSays, balanceOf, balanceTests, tooShort, Balances}
+use Rattle.balance.specs.Lent.{Lent, firstOf, balancedSays, balanceOf, balanceTests, tooShort, Balances}
 use Rattle.balance.specs.declared.Balanced.{Balanced}
 use Rattle.balance.proofs.Heads.{answer-is, head-is}
 use Rattle.balance.proofs.Balancing.{balanced-legal, balanced-map, balanced-light, balanced-count}
 use Rattle.demands.specs.Calls.{Call, allMoves, allCounts}
 use Rattle.demands.specs.PlainWalk.{plainMove, plainWalk, walkCounts}
-use Rattle.demands.specs.Demands.{Through, Roomy, firstOf, Serves, Demand3}
+use Rattle.demands.specs.Demands.{Through, Roomy, Serves, Demand3}
 use Rattle.demands.proofs.Demand2.{balanced-few, through-balanced}
 use Rattle.demands.proofs.Serving.{same-replies}
 use Rattle.demands.proofs.Counting.{counts-length, counts-sum, counts-most, sum-most}
