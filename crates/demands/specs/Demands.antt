@@ -21,7 +21,7 @@ use Rattle.tables.specs.Under.{underTests}
 use Rattle.tables.specs.Bookmark.{bookmarkTests, bookmarkOf, fresh, Advances}
 use Rattle.tables.specs.declared.Step.{Step}
 use Rattle.tables.specs.declared.Bookmark.{Bookmark}
-use Rattle.tables.specs.declared.Marked.{Marked}
+use Rattle.tables.specs.declared.Moved.{Moved}
 use Rattle.balance.specs.Balance.{balanced, boundOf}
 use Rattle.balance.specs.Lent.{Lent, firstOf, balancedSays, balanceTests, Balances}
 use Rattle.balance.specs.declared.Balanced.{Balanced}
@@ -73,8 +73,8 @@ pub record Demand1 : Type 1 where
       → (k p : ℕ) → checkedSays o ≡ refused k p → (a′ ≡ a) × (b′ ≡ b)
   pub balance-kept : (n : ℕ) (r : Runs) (d : ℕ) (entry exit : Lent) (o : Balanced) → Balances n r d entry exit o
       → (k p : ℕ) → balancedSays o ≡ refused k p → exit ≡ entry
-  pub bookmark-kept : (n : ℕ) (t : Tables) (b : Bookmark) (m : Marked) → Advances n t b m
-      → (k p : ℕ) → movedSays (m .moved) ≡ refused k p → m .bookmark ≡ b
+  pub bookmark-kept : (n : ℕ) (t : Tables) (b : Bookmark) (m : Moved) (left : Bookmark) → Advances n t b m left
+      → (k p : ℕ) → movedSays m ≡ refused k p → left ≡ b
 
 -- DEMAND 2. "A list is accepted if and only if it has at most 16,384 runs and is a disjoint interval sequence; through
 -- its tables find, move, repeated move, bookmark and inverse give that sequence's function."

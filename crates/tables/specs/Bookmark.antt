@@ -9,7 +9,7 @@ use Rattle.tables.specs.Tables.{Tables}
 use Rattle.tables.specs.Move.{movedSays, stepOf, moveTests}
 use Rattle.tables.specs.declared.Step.{Step}
 use Rattle.tables.specs.declared.Bookmark.{Bookmark}
-use Rattle.tables.specs.declared.Marked.{Marked}
+use Rattle.tables.specs.declared.Moved.{Moved}
 
 -- "A fresh one has both counters 0."
 abbrev pub fresh : ℕ → ℕ → Bookmark
@@ -33,7 +33,7 @@ markAfter b (done s) =
     record { place = s .place; interval = s .interval; moves = b .moves + 1; passed = b .passed + s .count }
 markAfter b (refused k p) = b
 
--- what a bookmark's move promises: the answer, and the bookmark that comes back
-pub record Advances (n : ℕ) (t : Tables) (b : Bookmark) (m : Marked) : Type 0 where
-  pub says : movedSays (m .moved) ≡ bookmarkOf n t b
-  pub mark : m .bookmark ≡ markAfter b (bookmarkOf n t b)
+-- what a bookmark's move promises: the answer, and the bookmark that it leaves of b
+pub record Advances (n : ℕ) (t : Tables) (b : Bookmark) (m : Moved) (left : Bookmark) : Type 0 where
+  pub says : movedSays m ≡ bookmarkOf n t b
+  pub mark : left ≡ markAfter b (bookmarkOf n t b)

@@ -160,7 +160,7 @@ pub fn starts_under<'a>(
 
 // A bookmark's move: its answer and the bookmark after it, which a refusal leaves as it was.
 pub fn advanced(n: u32, starts: &[u32], images: &[u32], holders: &[u32], b: Bookmark) -> Marked
-    ensures { λ r. ⌜ Advances n (tables (now (starts .entry)) (now (images .entry)) (now (holders .entry))) b r ⌝ }
+    ensures { λ r. ⌜ Advances n (tables (now (starts .entry)) (now (images .entry)) (now (holders .entry))) b (r .moved) (r .bookmark) ⌝ }
 {
     match move_query(n, starts, images, holders, b.interval, b.place) {
         Moved::Refused(r) => Marked {
@@ -169,4 +169,13 @@ pub fn advanced(n: u32, starts: &[u32], images: &[u32], holders: &[u32], b: Book
         },
         Moved::To(s) => marking::mark(b, s),
     }
+}
+
+// A bookmark's move on the spot: the bookmark is lent by its owner, and a refusal leaves it as it was.
+pub fn advance(n: u32, starts: &[u32], images: &[u32], holders: &[u32], b: &mut Bookmark) -> Moved
+    ensures { λ r. ⌜ Advances n (tables (now (starts .entry)) (now (images .entry)) (now (holders .entry))) (now (b .entry)) r (now (b .exit)) ⌝ }
+{
+    let m = advanced(n, starts, images, holders, *b);
+    *b = m.bookmark;
+    m.moved
 }
