@@ -6,6 +6,6 @@ pub mod Moves
 mod Sources
 mod Stretches
 pub mod Marks
-mod Markings
+pub mod Markings
 pub mod Walks
 pub mod LegalTables
