@@ -4,9 +4,10 @@
 use Prim.Native.Nat.{ℕ, _-_, _*_, _≤_, _<_}
 use mathlib.Core.Path.{_≡_, ap, _∙_}
 use native.Mathlib.Omega.{arith}
+use lib.ListN.{length}
 use borrow.Author.Tests.{le-ltb}
 use Rattle.runs.specs.Outcome.{done, refused, judge, andThen}
-use Rattle.runs.specs.Runs.{Runs, countOf, startOf, imageOf, endOf, carry, mapOf}
+use Rattle.runs.specs.Runs.{Runs, countOf, startOf, imageOf, endOf, runAt, carry, mapOf}
 use Rattle.runs.specs.Legal.{Legal}
 use Rattle.runs.specs.Check.{maxRuns, checkTests, checkOf}
 use Rattle.runs.proofs.Judging.{judge-append}
