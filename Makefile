@@ -17,4 +17,4 @@ test:
 	@cat $(verdict)
 
 bench:
-	@cd host && cargo run --release --offline --bin bench
+	@cd host && cargo bench --offline --bench compare
