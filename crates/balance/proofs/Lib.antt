@@ -11,3 +11,4 @@ pub mod Progress
 pub mod Filling
 pub mod Writing
 pub mod Outcomes
+pub mod Heads

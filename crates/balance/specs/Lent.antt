@@ -3,13 +3,13 @@ use Prim.Native.Nat.{ℕ}
 use mathlib.Core.Path.{_≡_}
 use mathlib.Core.Bool.{Bool, _||_}
 use mathlib.Core.List.{List, [], _∷_, _++_}
-use lib.ListN.{length, replicate}
+use lib.ListN.{length, take, replicate}
 use lib.Dec.{ltb}
 use Rattle.runs.specs.Outcome.{Outcome, done, Test, test, judge, mapDone, filled}
 use Rattle.runs.specs.Refusal.{refusalSays}
 use Rattle.runs.specs.Runs.{Runs, countOf}
 use Rattle.runs.specs.Check.{checkTests}
-use Rattle.tables.specs.Tables.{Tables, tablesOf, sizeOf}
+use Rattle.tables.specs.Tables.{Tables, tables, tablesOf, sizeOf}
 use Rattle.balance.specs.Balance.{balanced, boundOf}
 use Rattle.balance.specs.declared.Balanced.{Balanced}
 use Rattle.balance.specs.declared.Balanced.the-variants.{Intervals, Refused}
@@ -27,6 +27,10 @@ pub record Lent : Type 0 where
 
 abbrev pub lent : List ℕ → List ℕ → List ℕ → List ℕ → Lent
 lent s i h w = record { starts = s; images = i; holders = h; working = w }
+
+-- the first k entries of the three tables
+abbrev pub firstOf : ℕ → Lent → Tables
+firstOf k l = tables (take k (l .starts)) (take k (l .images)) (take k (l .holders))
 
 -- 7: "d outside 2 to 64"
 abbrev pub degreeTest : ℕ → Test

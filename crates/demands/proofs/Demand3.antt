@@ -25,6 +25,7 @@ use Rattle.tables.specs.Move.{findOf}
 use Rattle.balance.specs.Balance.{balanced, boundOf}
 use Rattle.balance.specs.Lent.{Lent, balancedSays, balanceOf, balanceTests, tooShort, Balances}
 use Rattle.balance.specs.declared.Balanced.{Balanced}
+use Rattle.balance.proofs.Heads.{answer-is, head-is}
 use Rattle.balance.proofs.Balancing.{balanced-legal, balanced-map, balanced-light, balanced-count}
 use Rattle.demands.specs.Calls.{Call, allMoves, allCounts}
 use Rattle.demands.specs.PlainWalk.{plainMove, plainWalk, walkCounts}
@@ -49,12 +50,6 @@ balance-done n r d l a many few m =
       le-ltb _ _ (m .holders),
       le-ltb _ _ (m .working),
     ))
-
--- what is written to the head of a table stands there
-filled-head : {A : Type 0} (l : A → List ℕ) (a : A) (o : Outcome A) (k : ℕ) (table : List ℕ) → o ≡ done a → length (l a) ≡ k
-    → take k (filled l o table) ≡ l a
-unfolding filled
-filled-head l a o k table e h = rw (e, ← h) (take-append-seam (l a) (drop (length (l a)) table))
 
 -- no move of a walk over a light list passes 2d starts
 move-most : (n d : ℕ) (r t : Runs) → Legal n t → ((p : ℕ) → p < n → mapOf n t p ≡ mapOf n r p)
@@ -97,22 +92,6 @@ module _ (n : ℕ) (r : Runs) (d : ℕ) (c : Legal n r) (k : countOf r ≤ maxRu
     same-trail = λ p h m. rw e
         (same-trail n (2 * d - 1) r t (tablesOf n t) (walks .move) (walks .inside) most (omega arith) m p 0 0 h (omega arith) (omega arith));
   }
-
--- the head of the lent tables after balancing
-module _ (n : ℕ) (r : Runs) (d : ℕ) (entry exit : Lent) (answer : Balanced) (b : Balances n r d entry exit answer)
-    (e : balanceOf n r d entry ≡ done (tablesOf n (balanced d n r)))
-    (paired : length (balanced d n r .images) ≡ countOf (balanced d n r)) where
-  answer-is : balancedSays answer ≡ done (countOf (balanced d n r))
-  unfolding mapDone
-  answer-is = b .says ∙ rw e
-
-  head-is : firstOf (countOf (balanced d n r)) exit ≡ tablesOf n (balanced d n r)
-  head-is =
-      let τ = tablesOf n (balanced d n r) in
-      let s = ap (take (countOf (balanced d n r))) (b .starts) ∙ filled-head (λ u. u .list .starts) τ _ _ (entry .starts) e refl in
-      let i = ap (take (countOf (balanced d n r))) (b .images) ∙ filled-head (λ u. u .list .images) τ _ _ (entry .images) e paired in
-      let h = ap (take (countOf (balanced d n r))) (b .holders) ∙ filled-head (λ u. u .holders) τ _ _ (entry .holders) e (length-map (balanced d n r .images) (runAt n (balanced d n r)) ∙ paired) in
-      λ j. tables (s j) (i j) (h j)
 
 pub demand3 : Demand3
 demand3 n r d entry exit answer b a many few room =

@@ -23,7 +23,7 @@ use Rattle.tables.specs.declared.Step.{Step}
 use Rattle.tables.specs.declared.Bookmark.{Bookmark}
 use Rattle.tables.specs.declared.Marked.{Marked}
 use Rattle.balance.specs.Balance.{balanced, boundOf}
-use Rattle.balance.specs.Lent.{Lent, balancedSays, balanceTests, Balances}
+use Rattle.balance.specs.Lent.{Lent, firstOf, balancedSays, balanceTests, Balances}
 use Rattle.balance.specs.declared.Balanced.{Balanced}
 use Rattle.demands.specs.Calls.{Call, allMoves, allCounts}
 use Rattle.demands.specs.PlainWalk.{plainMove, plainMoves, plainWalk, walkCounts, plainTrail}
@@ -108,10 +108,6 @@ pub record Roomy (b : ℕ) (l : Lent) : Type 0 where
   pub images : b ≤ length (l .images)
   pub holders : b ≤ length (l .holders)
   pub working : b ≤ length (l .working)
-
--- the first k entries of the three tables
-abbrev pub firstOf : ℕ → Lent → Tables
-firstOf k l = tables (take k (l .starts)) (take k (l .images)) (take k (l .holders))
 
 -- what the first k entries of the tables l serve, at degree d, for the list r
 pub record Serves (n : ℕ) (r : Runs) (d k : ℕ) (l : Lent) : Type 0 where

@@ -5,13 +5,15 @@ use mathlib.Core.Bool.{false}
 use mathlib.Core.List.{List, [], _∷_, _++_}
 use native.Mathlib.Omega.{arith}
 use lib.ListN.{length}
-use borrow.Author.Tests.{lt-ltb, le-ltb, ne-eqb, eq-eqb}
+use lib.Dec.{ltb}
+use borrow.Author.Tests.{lt-ltb, le-ltb, ne-eqb, eq-eqb, ltb-false}
 use Rattle.runs.specs.Outcome.{Outcome, done, refused, judge, andThen}
 use Rattle.runs.specs.Runs.{Runs, runs, countOf}
 use Rattle.runs.specs.Check.{unmatched, listTests, checkTests, checkOf, maxRuns}
-use Rattle.runs.proofs.Judging.{judge-append}
+use Rattle.runs.proofs.Judging.{done-refused, judge-append, judge-first, judge-done}
 use Rattle.listfile.specs.File.{wordOf, headerOf, headerTests, headingOf, runsAt, runsOf, Laid, degreeOf, bodyTests, bodyOf, fileTests, fileOf}
 use Rattle.listfile.specs.declared.Header.{Header}
+use Rattle.listfile.proofs.Heading.{or-false}
 
 -- test 7
 module _ (h : Header) where
@@ -43,7 +45,7 @@ module _ (most : ℕ) (bytes : List ℕ) (h : Header) (l : Laid most bytes h) (f
       checks-rest (h .n) r (l .places) (omega (arith, l .some)) (starts ∙ sym images) (omega (arith, l .few))
       ∙ rw (n-is, r-is)
 
-  body-is : bodyOf bytes ≡ andThen (checkOf (h .n) r) (λ u. degreeOf h)
+  pub body-is : bodyOf bytes ≡ andThen (checkOf (h .n) r) (λ u. degreeOf h)
   unfolding bodyOf bodyTests degreeOf
   body-is = judge-append {A = Unit {0}} (listTests (wordOf bytes 0) (runsOf bytes)) _ tt (headerOf bytes) ∙ rw (list-is, l .same)
 
@@ -55,9 +57,26 @@ module _ (most : ℕ) (bytes : List ℕ) (h : Header) (l : Laid most bytes h) (f
   unfolding andThen
   body-checked f = rw (body-is, ← f)
 
+  -- a body that was read: the list is accepted and the degree in range
+  pub body-parts : bodyOf bytes ≡ done h → (checkOf (h .n) r ≡ done tt) × (2 ≤ h .d) × (h .d ≤ 64)
+  unfolding andThen degreeOf
+  body-parts q = go (checkOf (h .n) r) refl (sym body-is ∙ q)
+    where
+      go : (o : Outcome (Unit {0})) → checkOf (h .n) r ≡ o → andThen o (λ u. degreeOf h) ≡ done h → (checkOf (h .n) r ≡ done tt) × (2 ≤ h .d) × (h .d ≤ 64)
+      go (done u) z w =
+          let t = judge-first _ _ _ h (sym w) in
+          let s = or-false (ltb (h .d) 2) (ltb 64 (h .d)) (t .0) in
+          (z, ltb-false (h .d) 2 (s .0), ltb-false 64 (h .d) (s .1))
+      go (refused k p) z w = absurd (done-refused h k p (sym w))
+
+-- a body that was read gives the header
+pub body-header : (bytes : List ℕ) (g h : Header) → h ≡ headerOf bytes → bodyOf bytes ≡ done g → g ≡ h
+unfolding bodyOf
+body-header bytes g h e q = sym (judge-done (bodyTests bytes) (headerOf bytes) g q) ∙ sym e
+
 -- the header's tests, and then the body's
 module _ (most : ℕ) (bytes : List ℕ) where
-  file-is : fileOf most bytes ≡ andThen (headingOf most bytes) (λ h. bodyOf bytes)
+  pub file-is : fileOf most bytes ≡ andThen (headingOf most bytes) (λ h. bodyOf bytes)
   unfolding fileOf fileTests headingOf bodyOf
   file-is = judge-append (headerTests most bytes) (bodyTests bytes) (headerOf bytes) (headerOf bytes)
 

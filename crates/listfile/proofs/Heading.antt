@@ -81,7 +81,7 @@ module _ (most : ℕ) (bytes : List ℕ) where
           heading-read h d g = rw (heading-rest, ← h, e, f, g)
 
 -- what holds of a header that was read
-or-false : (a b : Bool) → (a || b) ≡ false → (a ≡ false) × (b ≡ false)
+pub or-false : (a b : Bool) → (a || b) ≡ false → (a ≡ false) × (b ≡ false)
 or-false true b e = absurd (true≢false e)
 or-false false b e = (refl, e)
 

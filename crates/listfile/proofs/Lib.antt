@@ -6,3 +6,6 @@ mod Signs
 mod Heading
 mod Bodies
 mod Rows
+mod Answering
+pub mod Listings
+pub mod Longer

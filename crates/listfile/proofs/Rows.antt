@@ -1,5 +1,5 @@
 -- The lines of a listing: what they say, how long they are at most, and one more of them.
-use Prim.Native.Nat.{ℕ, suc, _+_, _-_, _*_, _^_, _≤_, _<_}
+use Prim.Native.Nat.{ℕ, zero, suc, _+_, _-_, _*_, _^_, _≤_, _<_}
 use mathlib.Core.Path.{_≡_, refl, sym, ap, _∙_}
 use mathlib.Core.Logic.{_⊎_, inl, inr}
 use mathlib.Core.Bool.{Bool, true, false}
@@ -23,7 +23,7 @@ use Rattle.tables.specs.Tables.{Tables, tablesOf, sizeOf, holderOf}
 use Rattle.tables.specs.Under.{weight, weightOf}
 use Rattle.tables.proofs.LegalTables.{holder-is, legal-weight}
 use Rattle.listfile.specs.Text.{decimal, negative, signed, line, texts}
-use Rattle.listfile.specs.Listing.{rowText, rowOf}
+use Rattle.listfile.specs.Listing.{headText, rowText, rowOf, refusalText}
 use Rattle.listfile.specs.Page.{Fits, Wrote, Listed}
 use Rattle.listfile.proofs.Digits.{decimal-length}
 use Rattle.listfile.proofs.Signs.{bits-back}
@@ -51,6 +51,13 @@ module _ (x start image : ℕ) (shift : ℤ) (holder weight : ℕ) where
   row-length a b c d e f =
       simp (length-append)
       (omega (arith, decimal-length x a, decimal-length start b, decimal-length image c, signed-length shift d, decimal-length holder e, decimal-length weight f))
+
+pub head-length : (n k d size : ℕ) → n < 4294967296 → k < 4294967296 → d < 4294967296 → size < 4294967296 → length (headText n k d size) ≤ 44
+head-length n k d size a b c e =
+    simp length-append (omega (arith, decimal-length n a, decimal-length k b, decimal-length d c, decimal-length size e))
+
+pub refusal-length : (number place : ℕ) → number < 4294967296 → place < 4294967296 → length (refusalText number place) ≤ 30
+refusal-length number place a b = simp length-append (omega (arith, decimal-length number a, decimal-length place b))
 
 -- the line of an interval of a legal list
 module _ (n : ℕ) (t : Tables) (l : Listed n t) (x : ℕ) (h : x < sizeOf t) where
@@ -99,27 +106,40 @@ texts-append : (f : ℕ → List ℕ) (a b : List ℕ) → texts f (a ++ b) ≡ 
 texts-append f [] b = refl
 texts-append f (x ∷ a) b = rw (texts-append f a b) (sym (append-assoc (f x) (texts f a) (texts f b)))
 
-texts-next : (f : ℕ → List ℕ) (x : ℕ) → texts f (upTo (x + 1)) ≡ texts f (upTo x) ++ f x
-texts-next f x =
+texts-suc : (f : ℕ → List ℕ) (x : ℕ) → texts f (upTo (suc x)) ≡ texts f (upTo x) ++ f x
+texts-suc f x =
     let e : 0 + x ≡ x = omega arith in
-    rw add-one (ap (texts f) (up-snoc 0 x) ∙ texts-append f (upTo x) ((0 + x) ∷ []) ∙ rw (e, append-nil))
+    ap (texts f) (up-snoc 0 x) ∙ texts-append f (upTo x) ((0 + x) ∷ []) ∙ rw (e, append-nil)
+
+texts-next : (f : ℕ → List ℕ) (x : ℕ) → texts f (upTo (x + 1)) ≡ texts f (upTo x) ++ f x
+texts-next f x = rw add-one (texts-suc f x)
+
+pub texts-most : (n : ℕ) (t : Tables) → Listed n t → n < 4294967296 → (x : ℕ) → x ≤ sizeOf t
+    → length (texts (rowOf n (t .list)) (upTo x)) ≤ 67 * x
+texts-most n t l small zero h = omega arith
+texts-most n t l small (suc x) h =
+    omega (
+      arith,
+      ap length (texts-suc (rowOf n (t .list)) x),
+      length-append (texts (rowOf n (t .list)) (upTo x)) (rowOf n (t .list) x),
+      texts-most n t l small x (omega arith),
+      row-most n t l x h small,
+    )
 
 -- x lines are written, from `at` on
 pub record Rows (n : ℕ) (t : Tables) (page₀ : List ℕ) (at : ℕ) (page : List ℕ) (next x : ℕ) : Type 0 where
   pub within : x ≤ sizeOf t
   pub wrote : Wrote page₀ at (texts (rowOf n (t .list)) (upTo x)) page next
-  pub long : length (texts (rowOf n (t .list)) (upTo x)) ≤ 67 * x
 
 pub rows-start : (n : ℕ) (t : Tables) (page : List ℕ) (at : ℕ) → at ≤ length page → Rows n t page at page at 0
-rows-start n t page at h = record { within = omega arith; wrote = wrote-nothing page at h; long = omega arith }
+rows-start n t page at h = record { within = omega arith; wrote = wrote-nothing page at h }
 
 module _ (n : ℕ) (t : Tables) (l : Listed n t) (small : n < 4294967296) (page₀ : List ℕ) (at : ℕ) (room : at + 67 * sizeOf t ≤ length page₀)
     (page : List ℕ) (next x : ℕ) (r : Rows n t page₀ at page next x) (h : x < sizeOf t) where
-  more : length (texts (rowOf n (t .list)) (upTo x) ++ rowOf n (t .list) x) ≤ 67 * (x + 1)
-  more = omega (arith, length-append (texts (rowOf n (t .list)) (upTo x)) (rowOf n (t .list) x), r .long, row-most n t l x h small)
-
   rows-fit : Fits page₀ at (texts (rowOf n (t .list)) (upTo x) ++ rowOf n (t .list) x)
-  rows-fit = record { room = omega (arith, more) }
+  rows-fit =
+      let m = rw (texts-next (rowOf n (t .list)) x) at (texts-most n t l small (x + 1) (omega arith)) in
+      record { room = omega arith }
 
   pub row-fits : Fits page next (rowOf n (t .list) x)
   row-fits = fits-second page₀ at _ _ rows-fit page next (r .wrote)
@@ -128,7 +148,6 @@ module _ (n : ℕ) (t : Tables) (l : Listed n t) (small : n < 4294967296) (page�
   rows-more page′ next′ w = record {
     within = omega arith;
     wrote = rw (texts-next (rowOf n (t .list)) x) (wrote-both page₀ at _ _ rows-fit page next (r .wrote) page′ next′ w);
-    long = rw (texts-next (rowOf n (t .list)) x) more;
   }
 
 -- the weight that an interval of a legal list is given

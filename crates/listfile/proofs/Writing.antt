@@ -13,19 +13,19 @@ pub wrote-nothing : (page : List ℕ) (at : ℕ) → at ≤ length page → Wrot
 unfolding overlaid
 wrote-nothing page at h =
     let e : at + 0 ≡ at = omega arith in
-    record { text = rw e (sym (take-append-drop at page)); till = omega arith }
+    record { text = rw e (sym (take-append-drop at page)); till = omega arith; inside = h }
 
 -- a text at the page's start
-pub wrote-start : (page s page′ : List ℕ) (end : ℕ) → end ≡ length s → page′ ≡ s ++ drop (length s) page → Wrote page 0 s page′ end
+pub wrote-start : (page s page′ : List ℕ) (end : ℕ) → length s ≤ length page → end ≡ length s → page′ ≡ s ++ drop (length s) page → Wrote page 0 s page′ end
 unfolding overlaid
-wrote-start page s page′ end e f =
+wrote-start page s page′ end r e f =
     let z : 0 + length s ≡ length s = omega arith in
-    record { text = f ∙ rw z; till = e ∙ sym z }
+    record { text = f ∙ rw z; till = e ∙ sym z; inside = omega arith }
 
 -- one byte
 pub wrote-byte : (page : List ℕ) (at b : ℕ) → at < length page → Wrote page at (b ∷ []) (set page at b) (at + 1)
 unfolding overlaid
-wrote-byte page at b h = record { text = set-split page at b h ∙ rw add-one; till = refl }
+wrote-byte page at b h = record { text = set-split page at b h ∙ rw add-one; till = refl; inside = omega arith }
 
 pub length-overlaid : (page : List ℕ) (at : ℕ) (s : List ℕ) → at + length s ≤ length page → length (overlaid page at s) ≡ length page
 unfolding overlaid
@@ -73,8 +73,5 @@ module _ (page : List ℕ) (at : ℕ) (s s′ : List ℕ) (f : Fits page at (s +
     wrote-both page″ e v = record {
       text = v .text ∙ rw (w .text, w .till) (overlaid-on page at s s′ (omega (arith, f .room)));
       till = omega (arith, v .till, w .till, sum);
+      inside = omega (arith, v .inside, ap length (w .text), length-overlaid page at s (omega (arith, f .room, sum)));
     }
-
--- a page keeps its length
-pub wrote-length : (page : List ℕ) (at : ℕ) (s page′ : List ℕ) (e : ℕ) → Fits page at s → Wrote page at s page′ e → length page′ ≡ length page
-wrote-length page at s page′ e f w = ap length (w .text) ∙ length-overlaid page at s (f .room)

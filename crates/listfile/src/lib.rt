@@ -5,6 +5,7 @@ mod text;
 mod words;
 
 use layout::read_header;
+pub use listing::list_file;
 use runs::Checked;
 use runs::Refusal;
 use words::read_words;

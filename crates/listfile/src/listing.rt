@@ -1,5 +1,7 @@
 // The lines of a listing, one for each interval of the tables of a legal list.
+use super::FileChecked;
 use super::Header;
+use super::layout::read_header;
 use super::read_list;
 use super::text;
 use balance::Balanced;
@@ -14,8 +16,8 @@ ghost use Rattle.tables.specs.Under.{weight};
 ghost use Rattle.listfile.specs.Text.{texts};
 ghost use Rattle.balance.specs.Lent.{lent};
 ghost use Rattle.listfile.specs.File.{Laid, ListRoom, bodyOf};
-ghost use Rattle.listfile.specs.Listing.{maxListed, rowOf, tableText, textOf};
-ghost use Rattle.listfile.specs.Page.{maxText, Fits, Wrote, Listed, Spacious};
+ghost use Rattle.listfile.specs.Listing.{maxListed, rowOf, tableText, textOf, listingOf};
+ghost use Rattle.listfile.specs.Page.{maxText, Fits, Wrote, Listed, Spacious, Answered, FileListed};
 
 // The weight of interval x, which no table of a legal list refuses.
 fn weight_of(n: u32, starts: &[u32], images: &[u32], holders: &[u32], x: u32) -> u32
@@ -87,6 +89,28 @@ fn table(page: &mut [u8], h: Header, starts: &[u32], images: &[u32], holders: &[
     rows(page, next, h.n, starts, images, holders)
 }
 
+// Writes what balancing answered: the listing of the tables that it filled, or its refusal.
+fn answer_text(
+    file: &[u8],
+    h: Header,
+    page: &mut [u8],
+    answer: Balanced,
+    starts: &[u32],
+    images: &[u32],
+    holders: &[u32],
+) -> usize
+    requires { ⌜ Answered (now file) h answer (now starts) (now images) (now holders) × (maxText ≤ length (now page)) ⌝ }
+    ensures { λ r. ⌜ Wrote (now (page .entry)) 0 (textOf (now (file .entry)) (bodyOf (now (file .entry)))) (now (page .exit)) r ⌝ }
+{
+    match answer {
+        Balanced::Refused(r) => text::refusal(page, r.number(), r.place()),
+        Balanced::Intervals(size) => {
+            let k = size as usize;
+            table(page, h, &starts[..k], &images[..k], &holders[..k])
+        }
+    }
+}
+
 // Balances the list of a file whose header is right, and writes its listing or the refusal, with room to work in.
 fn list_balanced(
     file: &[u8],
@@ -103,7 +127,7 @@ fn list_balanced(
     ensures { λ r. ⌜ Wrote (now (page .entry)) 0 (textOf (now (file .entry)) (bodyOf (now (file .entry)))) (now (page .exit)) r ⌝ }
 {
     read_list(file, h.k as usize, starts, images);
-    match balance::balance(
+    let answer = balance::balance(
         h.n,
         starts,
         images,
@@ -112,11 +136,63 @@ fn list_balanced(
         to_images,
         to_holders,
         working,
-    ) {
-        Balanced::Refused(r) => text::refusal(page, r.number(), r.place()),
-        Balanced::Intervals(size) => {
-            let k = size as usize;
-            table(page, h, &to_starts[..k], &to_images[..k], &to_holders[..k])
-        }
+    );
+    answer_text(file, h, page, answer, to_starts, to_images, to_holders)
+}
+
+// The same, with room of its own.
+fn list_body(file: &[u8], h: Header, page: &mut [u8]) -> usize
+    requires { ⌜ Laid maxListed (now file) h × (maxText ≤ length (now page)) ⌝ }
+    ensures { λ r. ⌜ Wrote (now (page .entry)) 0 (textOf (now (file .entry)) (bodyOf (now (file .entry)))) (now (page .exit)) r ⌝ }
+{
+    let k = h.k as usize;
+    let mut starts = [0u32; 1024];
+    let mut images = [0u32; 1024];
+    let mut to_starts = [0u32; 2048];
+    let mut to_images = [0u32; 2048];
+    let mut to_holders = [0u32; 2048];
+    let mut working = [0u32; 2048];
+    list_balanced(
+        file,
+        h,
+        page,
+        &mut starts[..k],
+        &mut images[..k],
+        &mut to_starts,
+        &mut to_images,
+        &mut to_holders,
+        &mut working,
+    )
+}
+
+// Writes the listing of a file at the page's start.
+fn listing(file: &[u8], page: &mut [u8]) -> usize
+    requires { ⌜ maxText ≤ length (now page) ⌝ }
+    ensures { λ r. ⌜ Wrote (now (page .entry)) 0 (listingOf (now (file .entry))) (now (page .exit)) r ⌝ }
+{
+    match read_header(file, 1024) {
+        FileChecked::Refused(r) => text::refusal(page, r.number(), r.place()),
+        FileChecked::Read(h) => list_body(file, h, page),
     }
+}
+
+// Writes the listing by way of a page, so that a text that is too short is left alone.
+fn list_by(file: &[u8], page: &mut [u8], text: &mut [u8]) -> usize
+    requires { ⌜ maxText ≤ length (now page) ⌝ }
+    ensures { λ r. ⌜ FileListed (now (file .entry)) (now (text .entry)) (now (text .exit)) r ⌝ }
+{
+    let end = listing(file, page);
+    if text.len() < end {
+        return 0;
+    }
+    bytes::copy(&page[..end], text)
+}
+
+// Writes the listing of a file, or the line of its refusal, at the start of `text`, and answers how many bytes that are;
+// 0, and nothing is written, where `text` is too short.
+pub fn list_file(file: &[u8], text: &mut [u8]) -> usize
+    ensures { λ r. ⌜ FileListed (now (file .entry)) (now (text .entry)) (now (text .exit)) r ⌝ }
+{
+    let mut page = [0u8; 137260];
+    list_by(file, &mut page, text)
 }

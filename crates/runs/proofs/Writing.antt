@@ -1,11 +1,10 @@
 -- What `gather` and `write` leave in the lent tables: entry by entry, the inverse list in front of what was there.
-use Prim.Native.Nat.{ℕ, suc, _+_, _-_, _≤_, _<_}
+use Prim.Native.Nat.{ℕ, _+_, _-_, _≤_, _<_}
 use mathlib.Core.Path.{_≡_, refl, sym, ap, _∙_}
-use mathlib.Core.List.{List, [], _∷_, _++_, map, map-append}
-use native.Mathlib.Numerals.{add-one}
+use mathlib.Core.List.{List, _++_, map}
 use native.Mathlib.Omega.{arith}
-use lib.ListN.{length, getD, set, take, drop, length-append, length-map, length-drop}
-use lib.Seq.{length-take-le, take-suc, drop-cons, append-snoc, set-at}
+use lib.ListN.{length, getD, take, drop, length-map}
+use lib.Seq.{length-take-le, getD-take}
 use borrow.Author.Tests.{lt-ltb, le-ltb}
 use Rattle.order.specs.Order.{keyOf, orderOf}
 use Rattle.order.proofs.Laws.{order-length}
@@ -20,44 +19,21 @@ use Rattle.runs.specs.declared.Refusal.the-variants.{ShortTable}
 use Rattle.runs.specs.declared.Checked.{Checked}
 use Rattle.runs.specs.declared.Checked.the-variants.{Accepted, Refused}
 use Rattle.runs.proofs.Judging.{judge-append}
+use Rattle.runs.proofs.Mapped.{getD-map}
 use Rattle.runs.proofs.Sweeping.{ordered-room, entry-below}
 
--- the first t entries are gathered, the others are as they were
-pub record Gathered (from order to₀ to : List ℕ) (t : ℕ) : Type 0 where
-  pub within : t ≤ length from
-  pub is : to ≡ map (keyOf from) (take t order) ++ drop t to₀
+-- what is gathered, entry by entry
+abbrev pub gathered : List ℕ → List ℕ → List ℕ
+gathered from order = map (keyOf from) (take (length from) order)
 
-module _ (from order to₀ : List ℕ) (g : Gathers from order to₀) where
-  pub gathered-none : Gathered from order to₀ to₀ 0
-  gathered-none = record { within = omega arith; is = refl }
+module _ (from order to : List ℕ) (g : Gathers from order to) where
+  pub gathered-size : length (gathered from order) ≡ length from
+  gathered-size = length-map (take (length from) order) (keyOf from) ∙ length-take-le (length from) order (g .indexes)
 
-  module _ (to : List ℕ) (t : ℕ) (s : Gathered from order to₀ to t) where
-    front : length (map (keyOf from) (take t order)) ≡ t
-    front = length-map (take t order) (keyOf from) ∙ length-take-le t order (omega (arith, s .within, g .indexes))
-
-    pub gathered-length : length to ≡ length to₀
-    gathered-length =
-        ap length (s .is) ∙ length-append (map (keyOf from) (take t order)) (drop t to₀)
-        ∙ omega (arith, front, length-drop t to₀, s .within, g .room)
-
-    pub gathered-next : t < length from → Gathered from order to₀ (set to t (getD from (getD order t 0) 0)) (t + 1)
-    gathered-next h =
-        let f = keyOf from in
-        let v = f (getD order t 0) in
-        record {
-          within = omega arith;
-          is =
-              ap (λ (l : List ℕ). set l t v) (s .is ∙ ap (λ (l : List ℕ). map f (take t order) ++ l) (drop-cons to₀ t 0 (omega (arith, g .room))))
-              ∙ set-at (map f (take t order)) (getD to₀ t 0) (drop (suc t) to₀) v t front
-              ∙ sym (append-snoc (map f (take t order)) v (drop (suc t) to₀))
-              ∙ ap (λ (l : List ℕ). l ++ drop (suc t) to₀) (sym (ap (map f) (take-suc order t 0 (omega (arith, g .indexes))) ∙ map-append f (take t order) (getD order t 0 ∷ [])))
-              ∙ ap (λ (n : ℕ). map f (take n order) ++ drop n to₀) (sym (add-one t));
-        }
-
-    pub gathered-all : length from ≤ t → to ≡ map (keyOf from) (take (length from) order) ++ drop (length from) to₀
-    gathered-all h =
-        let e : t ≡ length from = omega (arith, s .within) in
-        s .is ∙ ap (λ (n : ℕ). map (keyOf from) (take n order) ++ drop n to₀) e
+  pub gathered-at : (t : ℕ) → t < length from → keyOf from (getD order t 0) ≡ getD (gathered from order) t 0
+  gathered-at t h =
+      let l : t < length (take (length from) order) = omega (arith, length-take-le (length from) order (g .indexes)) in
+      ap (keyOf from) (sym (getD-take (length from) order t 0 h)) ∙ sym (getD-map (keyOf from) (take (length from) order) t 0 l)
 
 -- the order by image serves to gather as many numbers as there are runs
 pub ordered-gathers : (r : Runs) (order : List ℕ) → Ordered r order → (from to : List ℕ) → length from ≡ countOf r → countOf r ≤ length to
@@ -68,7 +44,7 @@ ordered-gathers r order o from to e h = record {
   below = λ t l. omega (arith, o .paired, entry-below r order o t (omega arith));
 }
 
--- what is gathered by it stands in the order by image
+-- and what is gathered stands in that order
 gathered-front : (r : Runs) (order : List ℕ) → Ordered r order → (f : ℕ → ℕ) (m : ℕ) (to to′ : List ℕ) → m ≡ countOf r
     → to′ ≡ map f (take m order) ++ drop m to → to′ ≡ map f (orderOf (r .images)) ++ drop (length (map f (orderOf (r .images)))) to
 gathered-front r order o f m to to′ e p =

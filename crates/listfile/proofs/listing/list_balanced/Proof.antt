@@ -1,14 +1,14 @@
+-- `list_balanced` meets its contract: balancing the list that was read answers the file's body (`answered`).
+use mathlib.Core.Path.{_∙_}
+use Rattle.listfile.proofs.Answering.{answered}
 use borrow.Author.Needs.{needs}
 use Rattle.listfile.proofs.listing.list_balanced.Statement.{statement}
 use Rattle.listfile.proofs.listing.list_balanced.Tie as tie
 use Rattle.listfile.proofs.listing.list_balanced.Reads as reads
 use Rattle.listfile.proofs.listing.list_balanced.Lts as lts
 use Rattle.balance.proofs.balance.Reads as balance-reads
-use Rattle.listfile.proofs.listing.table.Reads as table-reads
+use Rattle.listfile.proofs.listing.answer_text.Reads as answer-text-reads
 use Rattle.listfile.proofs.read_list.Reads as read-list-reads
-use Rattle.listfile.proofs.text.refusal.Reads as refusal-reads
-use Rattle.runs.proofs.Refusal.number.Reads as number-reads
-use Rattle.runs.proofs.Refusal.place.Reads as place-reads
 
 cast-read-list : tie.Need-cast-read-list
 cast-read-list c = search needs
@@ -19,44 +19,15 @@ read-list-requires c κs = search needs
 balance-requires : tie.Need-balance-requires
 balance-requires c κs = search needs
 
-enum-known-r : tie.Need-enum-known-r
-enum-known-r c = search needs
-
-number-requires : tie.Need-number-requires
-number-requires c κs = search needs
-
-place-requires : tie.Need-place-requires
-place-requires c κs = search needs
-
-refusal-requires : tie.Need-refusal-requires
-refusal-requires c κs = ?
-
-enum-known-size : tie.Need-enum-known-size
-enum-known-size c = search needs
-
-cast-k : tie.Need-cast-k
-cast-k c = search needs
-
-slice-reshare-prefix-table : tie.Need-slice-reshare-prefix-table
-slice-reshare-prefix-table c = ?
-
-slice-aggregate-table : tie.Need-slice-aggregate-table
-slice-aggregate-table c = ?
-
-slice-reshare-prefix-table-2 : tie.Need-slice-reshare-prefix-table-2
-slice-reshare-prefix-table-2 c = ?
-
-slice-aggregate-table-2 : tie.Need-slice-aggregate-table-2
-slice-aggregate-table-2 c = ?
-
-slice-reshare-prefix-table-3 : tie.Need-slice-reshare-prefix-table-3
-slice-reshare-prefix-table-3 c = ?
-
-slice-aggregate-table-3 : tie.Need-slice-aggregate-table-3
-slice-aggregate-table-3 c = ?
-
-table-requires : tie.Need-table-requires
-table-requires c κs = ?
+answer-text-requires : tie.Need-answer-text-requires
+answer-text-requires c κs =
+    let b = c .before .before .before .before .before .before .before .before .before .before .before .before in
+    let l = b .before .before .before .before .before .before .before .before .before .before .before in
+    let a = l .before .before .before .before .before .before .before .before .before .before .before .before in (
+      answered _ _ (a .pre .0) _ (l .read-list .ensures) (l .read-list .kept .1 .1 .0 ∙ a .pre .1 .starts-room)
+          (l .read-list .kept .1 .1 .1 .0 ∙ a .pre .1 .images-room) _ (a .pre .3) _ _ (b .balance .ensures),
+      a .pre .2,
+    )
 
 same-length : tie.Need-same-length
 same-length c = search needs
@@ -80,31 +51,7 @@ same-length-7 : tie.Need-same-length-7
 same-length-7 c = search needs
 
 returns : tie.Need-returns
-returns c = ?
-
-same-length-8 : tie.Need-same-length-8
-same-length-8 c = search needs
-
-same-length-9 : tie.Need-same-length-9
-same-length-9 c = search needs
-
-same-length-10 : tie.Need-same-length-10
-same-length-10 c = search needs
-
-same-length-11 : tie.Need-same-length-11
-same-length-11 c = search needs
-
-same-length-12 : tie.Need-same-length-12
-same-length-12 c = search needs
-
-same-length-13 : tie.Need-same-length-13
-same-length-13 c = search needs
-
-same-length-14 : tie.Need-same-length-14
-same-length-14 c = search needs
-
-returns-2 : tie.Need-returns-2
-returns-2 c = ?
+returns c = search needs
 
 pub list-balanced-spec : {M : Type 1} → statement M
 list-balanced-spec =
@@ -113,19 +60,7 @@ list-balanced-spec =
     cast-read-list
     read-list-requires
     balance-requires
-    enum-known-r
-    number-requires
-    place-requires
-    refusal-requires
-    enum-known-size
-    cast-k
-    slice-reshare-prefix-table
-    slice-aggregate-table
-    slice-reshare-prefix-table-2
-    slice-aggregate-table-2
-    slice-reshare-prefix-table-3
-    slice-aggregate-table-3
-    table-requires
+    answer-text-requires
     same-length
     same-length-2
     same-length-3
@@ -133,12 +68,4 @@ list-balanced-spec =
     same-length-5
     same-length-6
     same-length-7
-    returns
-    same-length-8
-    same-length-9
-    same-length-10
-    same-length-11
-    same-length-12
-    same-length-13
-    same-length-14
-    returns-2)
+    returns)
