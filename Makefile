@@ -1,9 +1,16 @@
-# make test    the gate: layout, every proof from nothing, every must-fail edit, every program, then the host's tests
-# make bench   each export beside a peer in safe Rust
+# make list FILE=..   the listing of a file of a run list
+# make test           the gate: layout, every proof from nothing, every must-fail edit, every program, the host's tests
+# make bench          each export beside a peer in safe Rust
+
+FILE ?= examples/document.bin
 
 SHELL := bash
 .SHELLFLAGS := -euo pipefail -c
-.PHONY: test bench
+.PHONY: list test bench
+
+list:
+	@rt check listing >/dev/null
+	@target/bin/listing <$(FILE)
 
 # rt ci's last line is the verdict. It is held back, and printed when the host's tests have passed too.
 verdict := host/target/verdict

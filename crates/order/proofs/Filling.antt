@@ -21,14 +21,17 @@ module _ (m s₀ s : List ℕ) (i : ℕ) (f : Filling m s₀ s i) where
   front = length-take-le i m (f .within)
 
   pub filling-length : length s ≡ length s₀
-  filling-length = ap length (f .is) ∙ length-append (take i m) (drop i s₀) ∙ omega (arith, front, length-drop i s₀, f .within, f .room)
+  filling-length =
+      ap length (f .is) ∙ length-append (take i m) (drop i s₀)
+      ∙ omega (arith, front, length-drop i s₀, f .within, f .room)
 
   pub filling-next : i < length m → (v : ℕ) → v ≡ getD m i 0 → Filling m s₀ (set s i v) (i + 1)
   filling-next h v e = record {
     within = omega arith;
     room = f .room;
     is =
-        ap (λ (l : List ℕ). set l i v) (f .is ∙ ap (λ (l : List ℕ). take i m ++ l) (drop-cons s₀ i 0 (omega (arith, f .room))))
+        ap (λ (l : List ℕ). set l i v)
+        (f .is ∙ ap (λ (l : List ℕ). take i m ++ l) (drop-cons s₀ i 0 (omega (arith, f .room))))
         ∙ set-at (take i m) (getD s₀ i 0) (drop (suc i) s₀) v i front
         ∙ sym (append-snoc (take i m) v (drop (suc i) s₀))
         ∙ ap (λ (l : List ℕ). l ++ drop (suc i) s₀) (ap (λ (u : ℕ). take i m ++ (u ∷ [])) e ∙ sym (take-suc m i 0 h))

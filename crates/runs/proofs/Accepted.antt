@@ -4,6 +4,7 @@ use Prim.Native.Nat.{ℕ, zero, suc, _-_, _≤_, _<_}
 use mathlib.Core.Path.{_≡_, sym, _∙_}
 use mathlib.Core.Bool.{Bool, false, false≢true}
 use mathlib.Core.Logic.{_⊎_, inl, inr, _≢_}
+use native.Mathlib.Decide.{ℕ-discrete}
 use native.Mathlib.Omega.{arith}
 use lib.ListN.{length}
 use borrow.Author.Tests.{ltb-false, lt-ltb, lt-leb, eq-eqb, ne-eqb, eqb-true, not-false}
@@ -17,16 +18,15 @@ use Rattle.runs.proofs.Judging.{judge-first}
 use Rattle.runs.proofs.Searches.{any-none, any-false}
 use Rattle.runs.proofs.Legality.{homes}
 use Rattle.runs.proofs.Checking.{Within, matched, in-order-all, rises, none-true, overruns-false, overruns-within, check-accepts}
-use Rattle.runs.proofs.Sweeping.{Shared, overlaps-true, overlaps-false}
+use Rattle.runs.proofs.Sharing.{Shared, overlaps-true, overlaps-false}
 
 -- two numbers are the same if they cannot differ
 pub same : (x y : ℕ) → (x ≢ y → ⊥) → x ≡ y
-same x y h = go (lt-or-le x y) (lt-or-le y x)
+same x y h = go (ℕ-discrete x y)
   where
-    go : (x < y) ⊎ (y ≤ x) → (y < x) ⊎ (x ≤ y) → x ≡ y
-    go (inl a) b = absurd (h (λ e. omega arith))
-    go (inr a) (inl b) = absurd (h (λ e. omega arith))
-    go (inr a) (inr b) = omega arith
+    go : Dec (x ≡ y) → x ≡ y
+    go (yes e) = e
+    go (no n) = absurd (h n)
 
 -- a search that finds nothing
 true-none : (p : ℕ → Bool) (k : ℕ) → ((x : ℕ) → x < k → p x ≡ false) → k ≤ firstBelow p k
@@ -76,14 +76,23 @@ module _ (n : ℕ) (r : Runs) (c : Legal n r) where
   unfolding unmatched
   unmatched-false =
       let z : n ≢ 0 = omega (arith, c .below 0 (c .some)) in
-      simp (ne-eqb n 0 z, ne-eqb (countOf r) 0 (omega (arith, c .some)), eq-eqb (countOf r) (length (r .images)) (sym (c .paired)))
+      simp (
+        ne-eqb n 0 z,
+        ne-eqb (countOf r) 0 (omega (arith, c .some)),
+        eq-eqb (countOf r) (length (r .images)) (sym (c .paired)),
+      )
 
   disordered-false : (x : ℕ) → x < countOf r → disordered n r x ≡ false
   unfolding disordered
   disordered-false zero l = simp (lt-leb n (startOf r 0) (c .below 0 l))
   disordered-false (suc x) l =
       let e : suc x - 1 ≡ x = omega arith in
-      simp (lt-leb n (startOf r (suc x)) (c .below (suc x) l), lt-ltb 0 (suc x) (omega arith), e, lt-leb (startOf r (suc x)) (startOf r x) (c .rising x l))
+      simp (
+        lt-leb n (startOf r (suc x)) (c .below (suc x) l),
+        lt-ltb 0 (suc x) (omega arith),
+        e,
+        lt-leb (startOf r (suc x)) (startOf r x) (c .rising x l),
+      )
 
   overruns-none : (x : ℕ) → x < countOf r → overruns n r x ≡ false
   overruns-none x l = overruns-false n r x (c .within x l)
@@ -93,8 +102,11 @@ module _ (n : ℕ) (r : Runs) (c : Legal n r) where
   legal-unshared x y h l s = go (lt-or-le (imageOf r x) (imageOf r y))
     where
       go : (imageOf r x < imageOf r y) ⊎ (imageOf r y ≤ imageOf r x) → ⊥
-      go (inl a) = s .other (c .apart x y (imageOf r y) h l (omega arith) (s .right) (omega arith) (omega (arith, homes n r c .lasting y l)))
-      go (inr a) = s .other (c .apart x y (imageOf r x) h l (omega arith) (omega (arith, homes n r c .lasting x h)) a (s .left))
+      go (inl a) =
+          s .other
+          (c .apart x y (imageOf r y) h l (omega arith) (s .right) (omega arith) (omega (arith, homes n r c .lasting y l)))
+      go (inr a) =
+          s .other (c .apart x y (imageOf r x) h l (omega arith) (omega (arith, homes n r c .lasting x h)) a (s .left))
 
   pub legal-accepted : countOf r ≤ maxRuns → checkOf n r ≡ done tt
   legal-accepted f = sym (check-accepts n r record {

@@ -31,7 +31,8 @@ module _ (n : ℕ) (r : Runs) (c : Legal n r) where
       (p, omega (arith, homes n r c .ending (x .0) (x .1)), omega (arith, map-at n r (homes n r c) (x .0) p (x .1) (omega arith) e, x .2))
 
   -- every place below n is the image of exactly one place below n
-  pub map-bijective : (q : ℕ) → q < n → (p : ℕ) × (p < n) × (mapOf n r p ≡ q) × ((p′ : ℕ) → p′ < n → mapOf n r p′ ≡ q → p′ ≡ p)
+  pub map-bijective : (q : ℕ) → q < n
+      → (p : ℕ) × (p < n) × (mapOf n r p ≡ q) × ((p′ : ℕ) → p′ < n → mapOf n r p′ ≡ q → p′ ≡ p)
   map-bijective q h =
       let p = map-onto q h in
       (p .0, p .1, p .2, λ p′ l e. map-injective p′ (p .0) l (p .1) (omega (arith, p .2)))

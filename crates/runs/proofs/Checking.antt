@@ -58,7 +58,8 @@ matched n r e =
     }
 
 -- what test 4 shows of run x
-pub in-order : (n : ℕ) (r : Runs) (x : ℕ) → disordered n r x ≡ false → (startOf r x < n) × (0 < x → startOf r (x - 1) < startOf r x)
+pub in-order : (n : ℕ) (r : Runs) (x : ℕ) → disordered n r x ≡ false
+    → (startOf r x < n) × (0 < x → startOf r (x - 1) < startOf r x)
 unfolding disordered
 in-order n r x e =
     let a = or-false (leb n (startOf r x)) _ e in
@@ -83,7 +84,8 @@ pub none-true : (p : ℕ → Bool) (k : ℕ) → k ≤ firstBelow p k → (x : �
 none-true p k h x l = any-false p k x (le-ltb (firstBelow p k) k h) l
 
 module _ (n : ℕ) (r : Runs) where
-  pub in-order-all : Rising n r → (x : ℕ) → x < countOf r → (startOf r x < n) × (0 < x → startOf r (x - 1) < startOf r x)
+  pub in-order-all : Rising n r → (x : ℕ) → x < countOf r
+      → (startOf r x < n) × (0 < x → startOf r (x - 1) < startOf r x)
   in-order-all c x l = in-order n r x (none-true (disordered n r) (countOf r) (c .in-order) x l)
 
   pub rises : Rising n r → (x : ℕ) → suc x < countOf r → startOf r x < startOf r (suc x)
@@ -121,20 +123,43 @@ module _ (n : ℕ) (r : Runs) where
     pub check-overrun : Rising n r → x ≡ firstBelow (overruns n r) (countOf r) → refused 5 x ≡ checkOf n r
     unfolding checkOf checkTests listTests judge
     check-overrun c e =
-        simp (c .begun .matched, le-ltb _ _ (c .begun .few), eq-eqb _ _ (c .begun .first), le-ltb _ _ (c .in-order), ← e, lt-ltb _ _ h)
+        simp (
+          c .begun .matched,
+          le-ltb _ _ (c .begun .few),
+          eq-eqb _ _ (c .begun .first),
+          le-ltb _ _ (c .in-order),
+          ← e,
+          lt-ltb _ _ h,
+        )
 
     pub check-overlap : Within n r → x ≡ firstBelow (overlaps n r) (countOf r) → refused 6 x ≡ checkOf n r
     unfolding checkOf checkTests listTests judge
     check-overlap w e =
         let c = w .rising in
-        simp (c .begun .matched, le-ltb _ _ (c .begun .few), eq-eqb _ _ (c .begun .first), le-ltb _ _ (c .in-order), le-ltb _ _ (w .within), ← e, lt-ltb _ _ h)
+        simp (
+          c .begun .matched,
+          le-ltb _ _ (c .begun .few),
+          eq-eqb _ _ (c .begun .first),
+          le-ltb _ _ (c .in-order),
+          le-ltb _ _ (w .within),
+          ← e,
+          lt-ltb _ _ h,
+        )
 
   pub check-accepts : Within n r → countOf r ≤ firstBelow (overlaps n r) (countOf r) → done tt ≡ checkOf n r
   unfolding checkOf checkTests listTests judge
   check-accepts w h =
       let c = w .rising in
-      simp (c .begun .matched, le-ltb _ _ (c .begun .few), eq-eqb _ _ (c .begun .first), le-ltb _ _ (c .in-order), le-ltb _ _ (w .within), le-ltb _ _ h)
+      simp (
+        c .begun .matched,
+        le-ltb _ _ (c .begun .few),
+        eq-eqb _ _ (c .begun .first),
+        le-ltb _ _ (c .in-order),
+        le-ltb _ _ (w .within),
+        le-ltb _ _ h,
+      )
 
 -- a refusal leaves no order to speak of
-pub refused-into : (n : ℕ) (r : Runs) (order : List ℕ) (x : Refusal) → refusalSays x ≡ checkOf n r → CheckedInto n r order (Refused x)
+pub refused-into : (n : ℕ) (r : Runs) (order : List ℕ) (x : Refusal) → refusalSays x ≡ checkOf n r
+    → CheckedInto n r order (Refused x)
 refused-into n r order x e = record { says = e; ordered = λ d. absurd (done-refused tt _ _ (sym (e ∙ d))) }

@@ -28,10 +28,12 @@ module _ (n : ℕ) (r : Runs) (c : Legal n r) where
       getD-map (lengthOf n r) (upTo (countOf r)) x 0 l ∙ ap (lengthOf n r) e
 
   -- two images of a legal list stand one before the other
-  pub legal-disjoint : (x y : ℕ) → x < countOf r → y < countOf r → x ≢ y → (imageEnd n r x ≤ imageOf r y) ⊎ (imageEnd n r y ≤ imageOf r x)
+  pub legal-disjoint : (x y : ℕ) → x < countOf r → y < countOf r → x ≢ y
+      → (imageEnd n r x ≤ imageOf r y) ⊎ (imageEnd n r y ≤ imageOf r x)
   legal-disjoint x y h l d = go (lt-or-le (imageOf r y) (imageEnd n r x)) (lt-or-le (imageOf r x) (imageEnd n r y))
     where
-      go : (imageOf r y < imageEnd n r x) ⊎ (imageEnd n r x ≤ imageOf r y) → (imageOf r x < imageEnd n r y) ⊎ (imageEnd n r y ≤ imageOf r x)
+      go : (imageOf r y < imageEnd n r x) ⊎ (imageEnd n r x ≤ imageOf r y)
+          → (imageOf r x < imageEnd n r y) ⊎ (imageEnd n r y ≤ imageOf r x)
           → (imageEnd n r x ≤ imageOf r y) ⊎ (imageEnd n r y ≤ imageOf r x)
       go (inl a) (inl b) = absurd (legal-unshared n r c x y h l record { other = d; left = b; right = a })
       go (inl a) (inr b) = inr b
@@ -53,7 +55,8 @@ module _ (n : ℕ) (r : Runs) (c : Legal n r) where
       p : Parted n r
       p = homes n r c
 
-      side : (x y : ℕ) → getD lengths x 0 ≡ lengthOf n r x → getD lengths y 0 ≡ lengthOf n r y → (imageEnd n r x ≤ imageOf r y) ⊎ (imageEnd n r y ≤ imageOf r x)
+      side : (x y : ℕ) → getD lengths x 0 ≡ lengthOf n r x → getD lengths y 0 ≡ lengthOf n r y
+          → (imageEnd n r x ≤ imageOf r y) ⊎ (imageEnd n r y ≤ imageOf r x)
           → (imageOf r x + getD lengths x 0 ≤ imageOf r y) ⊎ (imageOf r y + getD lengths y 0 ≤ imageOf r x)
       side x y e f (inl a) = inl (omega arith)
       side x y e f (inr a) = inr (omega arith)
@@ -85,7 +88,8 @@ module _ (n : ℕ) (r : Runs) (c : DisjointIntervals n r) where
     where
       go : (x y p : ℕ) → imageOf r x ≤ p → p < imageEnd n r x → imageOf r y ≤ p → p < imageEnd n r y
           → endOf n r x ≡ startOf r x + getD (c .lengths) x 0 → endOf n r y ≡ startOf r y + getD (c .lengths) y 0
-          → (imageOf r x + getD (c .lengths) x 0 ≤ imageOf r y) ⊎ (imageOf r y + getD (c .lengths) y 0 ≤ imageOf r x) → ⊥
+          → (imageOf r x + getD (c .lengths) x 0 ≤ imageOf r y) ⊎ (imageOf r y + getD (c .lengths) y 0 ≤ imageOf r x)
+          → ⊥
       go x y p a b d e f g (inl h) = omega arith
       go x y p a b d e f g (inr h) = omega arith
 

@@ -14,7 +14,7 @@ use Rattle.runs.specs.Legal.{Legal, ranked}
 use Rattle.runs.specs.Check.{checkOf}
 use Rattle.runs.specs.Inverse.{inverseRuns}
 use Rattle.runs.proofs.Legality.{homes, home, home-one, map-at, end-next, end-last}
-use Rattle.runs.proofs.Sweeping.{ranked-below, ranked-rises, ranked-occurs, ranked-one}
+use Rattle.runs.proofs.Ranking.{ranked-below, ranked-rises, ranked-occurs, ranked-one}
 use Rattle.runs.proofs.Accepted.{accepted-legal, legal-accepted}
 use Rattle.runs.proofs.Mapped.{getD-map}
 use Rattle.runs.proofs.Bijection.{map-onto}
@@ -32,11 +32,15 @@ module _ (r : Runs) (p : length (r .images) ≡ countOf r) where
 
   pub inverse-start : (t : ℕ) → t < countOf r → startOf (inverseRuns r) t ≡ imageOf r (ranked r t)
   unfolding inverseRuns
-  inverse-start t h = getD-map (imageOf r) (orderOf (r .images)) t 0 (omega (arith, order-length (keyOf (r .images)) (length (r .images))))
+  inverse-start t h =
+      getD-map (imageOf r) (orderOf (r .images)) t 0
+      (omega (arith, order-length (keyOf (r .images)) (length (r .images))))
 
   pub inverse-image : (t : ℕ) → t < countOf r → imageOf (inverseRuns r) t ≡ startOf r (ranked r t)
   unfolding inverseRuns
-  inverse-image t h = getD-map (startOf r) (orderOf (r .images)) t 0 (omega (arith, order-length (keyOf (r .images)) (length (r .images))))
+  inverse-image t h =
+      getD-map (startOf r) (orderOf (r .images)) t 0
+      (omega (arith, order-length (keyOf (r .images)) (length (r .images))))
 
 module _ (n : ℕ) (r : Runs) (c : Legal n r) where
   count : countOf (inverseRuns r) ≡ countOf r
@@ -47,13 +51,21 @@ module _ (n : ℕ) (r : Runs) (c : Legal n r) where
   inverse-end t h = go (lt-or-le (suc t) (countOf r))
     where
       go : (suc t < countOf r) ⊎ (countOf r ≤ suc t) → endOf n (inverseRuns r) t ≡ imageEnd n r (ranked r t)
-      go (inl l) = end-next n (inverseRuns r) t (omega (arith, count)) ∙ inverse-start r (c .paired) (suc t) l ∙ legal-tiled n r c .next t l
+      go (inl l) =
+          end-next n (inverseRuns r) t (omega (arith, count)) ∙ inverse-start r (c .paired) (suc t) l
+          ∙ legal-tiled n r c .next t l
       go (inr l) = end-last n (inverseRuns r) t (omega (arith, count)) ∙ sym (legal-tiled n r c .last t (omega arith))
 
   -- and its image where the run does
   inverse-image-end : (t : ℕ) → t < countOf r → imageEnd n (inverseRuns r) t ≡ endOf n r (ranked r t)
   inverse-image-end t h =
-      omega (arith, inverse-image r (c .paired) t h, inverse-start r (c .paired) t h, inverse-end t h, homes n r c .lasting (ranked r t) (ranked-below r (c .paired) t h))
+      omega (
+        arith,
+        inverse-image r (c .paired) t h,
+        inverse-start r (c .paired) t h,
+        inverse-end t h,
+        homes n r c .lasting (ranked r t) (ranked-below r (c .paired) t h),
+      )
 
   pub inverse-legal : Legal n (inverseRuns r)
   inverse-legal = record {
@@ -73,12 +85,20 @@ module _ (n : ℕ) (r : Runs) (c : Legal n r) where
 
       rising : (t : ℕ) → suc t < countOf r → startOf (inverseRuns r) t < startOf (inverseRuns r) (suc t)
       rising t h =
-          omega (arith, inverse-start r (c .paired) t (omega arith), inverse-start r (c .paired) (suc t) h, legal-tiled n r c .next t h, image-some n r c (ranked r t) (ranked-below r (c .paired) t (omega arith)))
+          omega (
+            arith,
+            inverse-start r (c .paired) t (omega arith),
+            inverse-start r (c .paired) (suc t) h,
+            legal-tiled n r c .next t h,
+            image-some n r c (ranked r t) (ranked-below r (c .paired) t (omega arith)),
+          )
 
       within : (t : ℕ) → t < countOf r → imageEnd n (inverseRuns r) t ≤ n
-      within t h = omega (arith, inverse-image-end t h, homes n r c .ending (ranked r t) (ranked-below r (c .paired) t h))
+      within t h =
+          omega (arith, inverse-image-end t h, homes n r c .ending (ranked r t) (ranked-below r (c .paired) t h))
 
-      apart : (s t p : ℕ) → s < countOf r → t < countOf r → imageOf (inverseRuns r) s ≤ p → p < imageEnd n (inverseRuns r) s
+      apart : (s t p : ℕ) → s < countOf r → t < countOf r → imageOf (inverseRuns r) s ≤ p
+          → p < imageEnd n (inverseRuns r) s
           → imageOf (inverseRuns r) t ≤ p → p < imageEnd n (inverseRuns r) t → s ≡ t
       apart s t p h l a b d e =
           ranked-one r (c .paired) s t h l
@@ -101,13 +121,15 @@ module _ (n : ℕ) (r : Runs) (c : Legal n r) where
         x .2,
         ap (startOf r) (t .2),
         inverse-image r (c .paired) (t .0) (t .1),
-        map-at n (inverseRuns r) (homes n (inverseRuns r) inverse-legal) (t .0) q (omega (arith, t .1, count)) (omega arith) (omega (arith, inverse-end (t .0) (t .1), x .2, x .3)),
+        map-at n (inverseRuns r) (homes n (inverseRuns r) inverse-legal) (t .0) q (omega (arith, t .1, count))
+            (omega arith) (omega (arith, inverse-end (t .0) (t .1), x .2, x .3)),
       )
 
   pub inverse-before : (q : ℕ) → q < n → mapOf n r (mapOf n (inverseRuns r) q) ≡ q
   inverse-before q h =
       let p = map-onto n r c q h in
-      ap (λ (u : ℕ). mapOf n r (mapOf n (inverseRuns r) u)) (sym (p .2)) ∙ ap (mapOf n r) (inverse-after (p .0) (p .1)) ∙ p .2
+      ap (λ (u : ℕ). mapOf n r (mapOf n (inverseRuns r) u)) (sym (p .2)) ∙ ap (mapOf n r) (inverse-after (p .0) (p .1))
+      ∙ p .2
 
 -- a function that rises from index to index and stays below k is the identity below k
 module _ (f : ℕ → ℕ) (k : ℕ) (up : (t : ℕ) → suc t < k → f t < f (suc t)) (below : (t : ℕ) → t < k → f t < k) where
@@ -117,7 +139,12 @@ module _ (f : ℕ → ℕ) (k : ℕ) (up : (t : ℕ) → suc t < k → f t < f (
 
   rising-identity : (t : ℕ) → t < k → f t ≡ t
   rising-identity t h =
-      omega (arith, climbs t 0 t (omega arith) h, climbs (k - suc t) t (k - 1) (omega arith) (omega arith), below (k - 1) (omega arith))
+      omega (
+        arith,
+        climbs t 0 t (omega arith) h,
+        climbs (k - suc t) t (k - 1) (omega arith) (omega arith),
+        below (k - 1) (omega arith),
+      )
 
 -- the place in the order of the list by image of the run at t in the order of the inverse by image
 abbrev rank-twice : Runs → ℕ → ℕ
@@ -125,14 +152,23 @@ rank-twice r t = ranked r (ranked (inverseRuns r) t)
 
 module _ (n : ℕ) (r : Runs) (c : Legal n r) where
   rank-below : (t : ℕ) → t < countOf r → ranked (inverseRuns r) t < countOf r
-  rank-below t h = omega (arith, inverse-count r (c .paired), ranked-below (inverseRuns r) (inverse-paired r (c .paired)) t (omega (arith, inverse-count r (c .paired))))
+  rank-below t h =
+      omega (
+        arith,
+        inverse-count r (c .paired),
+        ranked-below (inverseRuns r) (inverse-paired r (c .paired)) t (omega (
+          arith,
+          inverse-count r (c .paired),
+        )),
+      )
 
   twice-below : (t : ℕ) → t < countOf r → rank-twice r t < countOf r
   twice-below t h = ranked-below r (c .paired) (ranked (inverseRuns r) t) (rank-below t h)
 
   -- starts rise in the order of the inverse by image, so the runs do
   twice-rises : (t : ℕ) → suc t < countOf r → rank-twice r t < rank-twice r (suc t)
-  twice-rises t h = go (lt-or-le (rank-twice r t) (rank-twice r (suc t))) (lt-or-le (rank-twice r (suc t)) (rank-twice r t))
+  twice-rises t h =
+      go (lt-or-le (rank-twice r t) (rank-twice r (suc t))) (lt-or-le (rank-twice r (suc t)) (rank-twice r t))
     where
       l : suc t < countOf (inverseRuns r)
       l = omega (arith, inverse-count r (c .paired))
@@ -146,13 +182,21 @@ module _ (n : ℕ) (r : Runs) (c : Legal n r) where
             inverse-image r (c .paired) (ranked (inverseRuns r) (suc t)) (rank-below (suc t) h),
           )
 
-      go : (rank-twice r t < rank-twice r (suc t)) ⊎ (rank-twice r (suc t) ≤ rank-twice r t) → (rank-twice r (suc t) < rank-twice r t) ⊎ (rank-twice r t ≤ rank-twice r (suc t))
+      go : (rank-twice r t < rank-twice r (suc t)) ⊎ (rank-twice r (suc t) ≤ rank-twice r t)
+          → (rank-twice r (suc t) < rank-twice r t) ⊎ (rank-twice r t ≤ rank-twice r (suc t))
           → rank-twice r t < rank-twice r (suc t)
       go (inl a) b = a
-      go (inr a) (inl b) = absurd (omega (arith, starts, pairwise-at _<_ (r .starts) (homes n r c .up) (rank-twice r (suc t)) (rank-twice r t) b (twice-below t (omega arith))))
+      go (inr a) (inl b) =
+          absurd
+          (omega (
+            arith,
+            starts,
+            pairwise-at _<_ (r .starts) (homes n r c .up) (rank-twice r (suc t)) (rank-twice r t) b (twice-below t (omega arith)),
+          ))
       go (inr a) (inr b) =
           let e = ranked-one r (c .paired) (ranked (inverseRuns r) t) (ranked (inverseRuns r) (suc t)) (rank-below t (omega arith)) (rank-below (suc t) h) (omega arith) in
-          absurd (omega (arith, ranked-one (inverseRuns r) (inverse-paired r (c .paired)) t (suc t) (omega (arith, l)) l e))
+          absurd
+          (omega (arith, ranked-one (inverseRuns r) (inverse-paired r (c .paired)) t (suc t) (omega (arith, l)) l e))
 
   -- the two orders take each other back
   rank-back : (t : ℕ) → t < countOf r → rank-twice r t ≡ t

@@ -5,15 +5,15 @@ use mathlib.Core.Path.{_≡_, refl, _∙_}
 use mathlib.Core.Bool.{Bool, true}
 use mathlib.Core.Logic.{_⊎_, inl, inr}
 use mathlib.Core.List.{List, [], _∷_}
-use native.Mathlib.Nat.{not-suc-le-zero, le-of-suc-le-suc}
+use native.Mathlib.Nat.{le-of-suc-le-suc}
 use native.Mathlib.Omega.{arith}
 use lib.ListN.{length, getD, List·getD-eq-default}
 use Rattle.order.specs.Order.{Strict, bit, countBelow}
-use Rattle.order.proofs.Laws.{lt-or-le, pairwise-at, at-pairwise, strict-sorted, count-le-length, count-lt, count-gt}
-use Rattle.runs.proofs.Sums.{inside, inside-true, inside-is, sumTo, sum-swap, sum-same, sum-full, tally, tally-one, tally-inside, tally-some}
-use Rattle.runs.proofs.Searches.{getD-default, first-only}
+use Rattle.order.proofs.Laws.{lt-or-le, pairwise-at, pairwise-steps, strict-sorted, count-le-length, count-lt, count-gt}
 use Rattle.runs.specs.Legal.{Legal}
 use Rattle.runs.specs.Runs.{Runs, countOf, startOf, imageOf, endOf, lengthOf, imageEnd, has, runAt, carry, mapOf}
+use Rattle.runs.proofs.Sums.{inside, inside-true, inside-is, sumTo, sum-swap, sum-same, sum-full, tally, tally-one, tally-inside, tally-some}
+use Rattle.runs.proofs.Searches.{getD-default, first-only}
 
 -- the end of a run is the next start, where there is one
 pub end-next : (n : ℕ) (r : Runs) (x : ℕ) → suc x < countOf r → endOf n r x ≡ startOf r (suc x)
@@ -24,15 +24,7 @@ end-last n r x h = List·getD-eq-default (r .starts) n h
 
 -- rising by one step is rising
 pub strict-steps : (l : List ℕ) → ((x : ℕ) → suc x < length l → getD l x 0 < getD l (suc x) 0) → Strict l
-strict-steps l h = at-pairwise _<_ l up
-  where
-    up : (x y : ℕ) → x < y → y < length l → getD l x 0 < getD l y 0
-    up x zero m k = absurd (not-suc-le-zero m)
-    up x (suc y) m k = go (lt-or-le x y) (up x y)
-      where
-        go : (x < y) ⊎ (y ≤ x) → (x < y → y < length l → getD l x 0 < getD l y 0) → getD l x 0 < getD l (suc y) 0
-        go (inl i) r = omega (arith, r i (omega arith), h y k)
-        go (inr i) r = let e : x ≡ y = omega arith in rw e (h y k)
+strict-steps l h = pairwise-steps _<_ (λ a b c p q. omega arith) l h
 
 -- what it takes for each place to have one home
 pub record Parted (n : ℕ) (r : Runs) : Type 0 where

@@ -5,6 +5,8 @@ pub mod Searches
 pub mod Legality
 mod Searching
 mod Checking
+mod Sharing
+mod Ranking
 mod Sweeping
 pub mod Accepted
 pub mod Mapped

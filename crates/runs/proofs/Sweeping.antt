@@ -2,93 +2,21 @@
 -- far, or the next one begins before it ends. `Swept` is what a loop that goes by that knows.
 use Prim.Native.Nat.{ℕ, suc, _+_, _≤_, _<_}
 use mathlib.Core.Path.{_≡_, sym, ap, _∙_, subst}
-use mathlib.Core.Bool.{Bool, true, false, not, false≢true}
+use mathlib.Core.Bool.{Bool, true, false, false≢true}
 use mathlib.Core.Logic.{_⊎_, inl, inr, _≢_}
-use mathlib.Core.List.{List, _++_}
 use native.Mathlib.Nat.{not-suc-le-zero}
-use native.Mathlib.Numerals.{add-one}
 use native.Mathlib.Omega.{arith}
-use lib.ListN.{length, getD, take, length-take}
-use lib.Seq.{take-at, getD-take}
-use lib.Dec.{ltb, eqb}
-use borrow.Author.Tests.{ltb-true, lt-ltb, le-ltb, ne-eqb, eqb-false, not-true}
-use Rattle.order.specs.Order.{keyOf, orderOf}
-use Rattle.order.proofs.Laws.{lt-or-le, order-length, order-below, order-keys, order-occurs, order-injective}
+use lib.Dec.{ltb}
+use borrow.Author.Tests.{lt-ltb, le-ltb}
+use Rattle.order.proofs.Laws.{lt-or-le}
 use Rattle.runs.specs.Runs.{Runs, countOf, imageOf, imageEnd}
 use Rattle.runs.specs.Legal.{ranked}
 use Rattle.runs.specs.Search.{firstBelow}
-use Rattle.runs.specs.Check.{overlap, overlaps}
-use Rattle.runs.specs.Parts.{Lasting, Ordered, meets}
-use Rattle.runs.proofs.Sums.{and-true}
-use Rattle.runs.proofs.Searches.{first-le, first-true, first-least, any-true, any-none}
-
--- two runs whose images share a place
-pub record Shared (n : ℕ) (r : Runs) (x y : ℕ) : Type 0 where
-  pub other : x ≢ y
-  pub left : imageOf r x < imageEnd n r y
-  pub right : imageOf r y < imageEnd n r x
-
-module _ (n : ℕ) (r : Runs) (x : ℕ) where
-  overlap-true : (y : ℕ) → Shared n r x y → overlap n r x y ≡ true
-  unfolding overlap
-  overlap-true y s = simp (ne-eqb _ _ (s .other), lt-ltb _ _ (s .left), lt-ltb _ _ (s .right))
-
-  overlap-is : (y : ℕ) → overlap n r x y ≡ true → Shared n r x y
-  unfolding overlap
-  overlap-is y e =
-      let a = and-true (not (eqb x y)) _ e in
-      let b = and-true (ltb (imageOf r x) (imageEnd n r y)) _ (a .1) in
-      record { other = eqb-false x y (not-true _ (a .0)); left = ltb-true _ _ (b .0); right = ltb-true _ _ (b .1) }
-
-  pub overlaps-true : (y : ℕ) → y < countOf r → Shared n r x y → overlaps n r x ≡ true
-  unfolding overlaps
-  overlaps-true y h s = any-true (overlap n r x) (countOf r) y h (overlap-true y s)
-
-  pub overlaps-false : ((y : ℕ) → y < countOf r → Shared n r x y → ⊥) → overlaps n r x ≡ false
-  unfolding overlaps
-  overlaps-false h = any-none (overlap n r x) (countOf r) (λ y l e. h y l (overlap-is y e))
-
--- the order by image, over all runs
-module _ (r : Runs) (p : length (r .images) ≡ countOf r) where
-  pub ranked-below : (t : ℕ) → t < countOf r → ranked r t < countOf r
-  ranked-below t h = omega (arith, p, order-below (keyOf (r .images)) (length (r .images)) t (omega arith))
-
-  pub ranked-rises : (s t : ℕ) → s ≤ t → t < countOf r → imageOf r (ranked r s) ≤ imageOf r (ranked r t)
-  ranked-rises s t h l = order-keys (keyOf (r .images)) (length (r .images)) s t h (omega arith)
-
-  pub ranked-occurs : (x : ℕ) → x < countOf r → (t : ℕ) × (t < countOf r) × (ranked r t ≡ x)
-  ranked-occurs x h =
-      let o = order-occurs (keyOf (r .images)) (length (r .images)) x (omega arith) in
-      (o .0, omega (arith, o .1), o .2)
-
-  pub ranked-one : (s t : ℕ) → s < countOf r → t < countOf r → ranked r s ≡ ranked r t → s ≡ t
-  ranked-one s t h l e = order-injective (keyOf (r .images)) (length (r .images)) s t (omega arith) (omega arith) e
-
--- what `sort_by_key` leaves
-pub ordered : (r : Runs) (order rest : List ℕ) → length (r .images) ≡ countOf r → order ≡ orderOf (r .images) ++ rest → Ordered r order
-ordered r order rest p e = record {
-  paired = p;
-  sorted = ap (take (countOf r)) e ∙ take-at (orderOf (r .images)) rest (countOf r) (order-length (keyOf (r .images)) (length (r .images)) ∙ p);
-}
-
--- the table of the order: as many entries as runs, and at t the run of that rank
-module _ (r : Runs) (order : List ℕ) (o : Ordered r order) where
-  pub ordered-room : countOf r ≤ length order
-  ordered-room =
-      omega (arith, length-take (countOf r) order, ap length (o .sorted), order-length (keyOf (r .images)) (length (r .images)), o .paired)
-
-  module _ (t : ℕ) (h : t < countOf r) where
-    pub entry-is : getD order t 0 ≡ ranked r t
-    entry-is = sym (getD-take (countOf r) order t 0 h) ∙ ap (λ (l : List ℕ). getD l t 0) (o .sorted)
-
-    pub entry-below : getD order t 0 < length (r .images)
-    entry-below = omega (arith, o .paired, entry-is, ranked-below r (o .paired) t h)
-
-    pub entry-image : imageOf r (getD order t 0) ≡ imageOf r (ranked r t)
-    entry-image = ap (imageOf r) entry-is
-
-  pub entry-next : (t : ℕ) → t + 1 < countOf r → imageOf r (getD order (t + 1) 0) ≡ imageOf r (ranked r (suc t))
-  entry-next t = rw add-one (entry-image (suc t))
+use Rattle.runs.specs.Check.{overlaps}
+use Rattle.runs.specs.Parts.{Lasting, meets}
+use Rattle.runs.proofs.Searches.{first-le, first-true, first-least}
+use Rattle.runs.proofs.Sharing.{Shared, overlaps-true, overlaps-false}
+use Rattle.runs.proofs.Ranking.{ranked-below, ranked-rises, ranked-occurs, ranked-one}
 
 -- the runs before t are swept: their images end at `reached` at the latest, and the lowest of them that shares a place
 -- is `lowest`
@@ -143,7 +71,8 @@ module _ (n : ℕ) (r : Runs) (c : Lasting n r) where
           right = omega (arith, ranked-rises r (c .paired) (a .0) t (omega (arith, a .1)) h, image-some (ranked r t) (ranked-below r (c .paired) t h));
         }
 
-    next : suc t < countOf r → imageOf r (ranked r (suc t)) < imageEnd n r (ranked r t) → overlaps n r (ranked r t) ≡ true
+    next : suc t < countOf r → imageOf r (ranked r (suc t)) < imageEnd n r (ranked r t)
+        → overlaps n r (ranked r t) ≡ true
     next l m =
         overlaps-true n r (ranked r t) (ranked r (suc t)) (ranked-below r (c .paired) (suc t) l) record {
           other = λ e. omega (arith, ranked-one r (c .paired) t (suc t) h l e);
@@ -151,12 +80,16 @@ module _ (n : ℕ) (r : Runs) (c : Lasting n r) where
           right = m;
         }
 
-    none : reached ≤ imageOf r (ranked r t) → (suc t < countOf r → imageEnd n r (ranked r t) ≤ imageOf r (ranked r (suc t))) → overlaps n r (ranked r t) ≡ false
+    none : reached ≤ imageOf r (ranked r t)
+        → (suc t < countOf r → imageEnd n r (ranked r t) ≤ imageOf r (ranked r (suc t)))
+        → overlaps n r (ranked r t) ≡ false
     none l m = overlaps-false n r (ranked r t) (λ y k z. at y z (ranked-occurs r (c .paired) y k))
       where
-        side : (y u : ℕ) → Shared n r (ranked r t) y → u < countOf r → ranked r u ≡ y → (u < t) ⊎ (t ≤ u) → (t < u) ⊎ (u ≤ t) → ⊥
+        side : (y u : ℕ) → Shared n r (ranked r t) y → u < countOf r → ranked r u ≡ y → (u < t) ⊎ (t ≤ u)
+            → (t < u) ⊎ (u ≤ t) → ⊥
         side y u z k e (inl a) b = omega (arith, z .left, ap (imageEnd n r) e, s .ended u a)
-        side y u z k e (inr a) (inl b) = omega (arith, z .right, ap (imageOf r) e, m (omega arith), ranked-rises r (c .paired) (suc t) u b k)
+        side y u z k e (inr a) (inl b) =
+            omega (arith, z .right, ap (imageOf r) e, m (omega arith), ranked-rises r (c .paired) (suc t) u b k)
         side y u z k e (inr a) (inr b) = let f : t ≡ u = omega arith in z .other (ap (ranked r) f ∙ e)
 
         at : (y : ℕ) → Shared n r (ranked r t) y → (u : ℕ) × (u < countOf r) × (ranked r u ≡ y) → ⊥
@@ -166,16 +99,19 @@ module _ (n : ℕ) (r : Runs) (c : Lasting n r) where
     pub meets-overlaps : meets r t reached (imageEnd n r (ranked r t)) ≡ overlaps n r (ranked r t)
     meets-overlaps = by (lt-or-le (imageOf r (ranked r t)) reached) (lt-or-le (suc t) (countOf r))
       where
-        at : suc t < countOf r → reached ≤ imageOf r (ranked r t) → (imageOf r (ranked r (suc t)) < imageEnd n r (ranked r t)) ⊎ (imageEnd n r (ranked r t) ≤ imageOf r (ranked r (suc t)))
+        at : suc t < countOf r → reached ≤ imageOf r (ranked r t)
+            → (imageOf r (ranked r (suc t)) < imageEnd n r (ranked r t)) ⊎ (imageEnd n r (ranked r t) ≤ imageOf r (ranked r (suc t)))
             → ltb (imageOf r (ranked r (suc t))) (imageEnd n r (ranked r t)) ≡ overlaps n r (ranked r t)
         at l m (inl a) = lt-ltb _ _ a ∙ sym (next l a)
         at l m (inr a) = le-ltb _ _ a ∙ sym (none m (λ z. a))
 
-        by : (imageOf r (ranked r t) < reached) ⊎ (reached ≤ imageOf r (ranked r t)) → (suc t < countOf r) ⊎ (countOf r ≤ suc t)
+        by : (imageOf r (ranked r t) < reached) ⊎ (reached ≤ imageOf r (ranked r t))
+            → (suc t < countOf r) ⊎ (countOf r ≤ suc t)
             → meets r t reached (imageEnd n r (ranked r t)) ≡ overlaps n r (ranked r t)
         by (inl a) b = meets-before r t reached (imageEnd n r (ranked r t)) a ∙ sym (before a)
         by (inr a) (inl b) = meets-next r t reached (imageEnd n r (ranked r t)) a b ∙ at b a (lt-or-le _ _)
-        by (inr a) (inr b) = meets-none r t reached (imageEnd n r (ranked r t)) a b ∙ sym (none a (λ l. absurd (omega arith)))
+        by (inr a) (inr b) =
+            meets-none r t reached (imageEnd n r (ranked r t)) a b ∙ sym (none a (λ l. absurd (omega arith)))
 
   pub swept-none : Swept n r (countOf r) 0 0
   swept-none = record {
@@ -189,7 +125,8 @@ module _ (n : ℕ) (r : Runs) (c : Lasting n r) where
 
   -- one run more
   module _ (lowest reached t : ℕ) (s : Swept n r lowest reached t) (h : t < countOf r) (lowest′ reached′ : ℕ) where
-    swept-next : Later reached (imageEnd n r (ranked r t)) reached′ → (b : Bool) → overlaps n r (ranked r t) ≡ b → Lowered b lowest (ranked r t) lowest′
+    swept-next : Later reached (imageEnd n r (ranked r t)) reached′ → (b : Bool) → overlaps n r (ranked r t) ≡ b
+        → Lowered b lowest (ranked r t) lowest′
         → Swept n r lowest′ reached′ (t + 1)
     swept-next (up, over, latest) b q low = record {
       within = omega arith;
@@ -208,19 +145,24 @@ module _ (n : ℕ) (r : Runs) (c : Lasting n r) where
         ended′ u (inl a) l = omega (arith, s .ended u a)
         ended′ u (inr a) l = let e : u ≡ t = omega arith in omega (arith, ap (λ (v : ℕ). imageEnd n r (ranked r v)) e)
 
-        attained′ : (reached′ ≡ reached) ⊎ (reached′ ≡ imageEnd n r (ranked r t)) → 0 < reached′ → (u : ℕ) × (u < t + 1) × (imageEnd n r (ranked r u) ≡ reached′)
+        attained′ : (reached′ ≡ reached) ⊎ (reached′ ≡ imageEnd n r (ranked r t)) → 0 < reached′
+            → (u : ℕ) × (u < t + 1) × (imageEnd n r (ranked r u) ≡ reached′)
         attained′ (inl e) l = let a = s .attained (omega arith) in (a .0, omega (arith, a .1), a .2 ∙ sym e)
         attained′ (inr e) l = (t, omega arith, sym e)
 
-        shares′ : (b : Bool) → overlaps n r (ranked r t) ≡ b → Lowered b lowest (ranked r t) lowest′ → lowest′ < countOf r → overlaps n r lowest′ ≡ true
+        shares′ : (b : Bool) → overlaps n r (ranked r t) ≡ b → Lowered b lowest (ranked r t) lowest′
+            → lowest′ < countOf r → overlaps n r lowest′ ≡ true
         shares′ true q (a, d, inl e) l = ap (overlaps n r) e ∙ s .shares (omega arith)
         shares′ true q (a, d, inr e) l = ap (overlaps n r) e ∙ q
         shares′ false q e l = ap (overlaps n r) e ∙ s .shares (omega arith)
 
-        least′ : (b : Bool) → overlaps n r (ranked r t) ≡ b → Lowered b lowest (ranked r t) lowest′ → (u : ℕ) → (u < t) ⊎ (t ≤ u) → u ≤ t → overlaps n r (ranked r u) ≡ true → lowest′ ≤ ranked r u
+        least′ : (b : Bool) → overlaps n r (ranked r t) ≡ b → Lowered b lowest (ranked r t) lowest′ → (u : ℕ)
+            → (u < t) ⊎ (t ≤ u) → u ≤ t → overlaps n r (ranked r u) ≡ true → lowest′ ≤ ranked r u
         least′ b q k u (inl a) l o = omega (arith, s .least u a o, as-low b k)
         least′ true q k u (inr a) l o = let e : u ≡ t = omega arith in omega (arith, k .1, ap (ranked r) e)
-        least′ false q k u (inr a) l o = let e : u ≡ t = omega arith in absurd (false≢true (sym q ∙ ap (λ (v : ℕ). overlaps n r (ranked r v)) (sym e) ∙ o))
+        least′ false q k u (inr a) l o =
+            let e : u ≡ t = omega arith in
+            absurd (false≢true (sym q ∙ ap (λ (v : ℕ). overlaps n r (ranked r v)) (sym e) ∙ o))
 
     -- the same by what the code has: the run x, its image's end, and whether the two tests find another
     pub swept-turn : (x end : ℕ) (b : Bool) → x ≡ ranked r t → end ≡ imageEnd n r x → b ≡ meets r t reached end
@@ -234,10 +176,13 @@ module _ (n : ℕ) (r : Runs) (c : Lasting n r) where
         (subst (λ (z : ℕ). Lowered b lowest z lowest′) e low)
 
   -- all runs are swept
-  pub swept-end : (lowest reached t : ℕ) → Swept n r lowest reached t → countOf r ≤ t → lowest ≡ firstBelow (overlaps n r) (countOf r)
-  swept-end lowest reached t s h = by (lt-or-le (firstBelow (overlaps n r) (countOf r)) (countOf r)) (lt-or-le lowest (countOf r))
+  pub swept-end : (lowest reached t : ℕ) → Swept n r lowest reached t → countOf r ≤ t
+      → lowest ≡ firstBelow (overlaps n r) (countOf r)
+  swept-end lowest reached t s h =
+      by (lt-or-le (firstBelow (overlaps n r) (countOf r)) (countOf r)) (lt-or-le lowest (countOf r))
     where
-      by : (firstBelow (overlaps n r) (countOf r) < countOf r) ⊎ (countOf r ≤ firstBelow (overlaps n r) (countOf r)) → (lowest < countOf r) ⊎ (countOf r ≤ lowest)
+      by : (firstBelow (overlaps n r) (countOf r) < countOf r) ⊎ (countOf r ≤ firstBelow (overlaps n r) (countOf r))
+          → (lowest < countOf r) ⊎ (countOf r ≤ lowest)
           → lowest ≡ firstBelow (overlaps n r) (countOf r)
       by (inl a) b =
           let o = ranked-occurs r (c .paired) (firstBelow (overlaps n r) (countOf r)) a in

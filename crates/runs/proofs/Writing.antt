@@ -20,7 +20,7 @@ use Rattle.runs.specs.declared.Checked.{Checked}
 use Rattle.runs.specs.declared.Checked.the-variants.{Accepted, Refused}
 use Rattle.runs.proofs.Judging.{judge-append}
 use Rattle.runs.proofs.Mapped.{getD-map}
-use Rattle.runs.proofs.Sweeping.{ordered-room, entry-below}
+use Rattle.runs.proofs.Ranking.{ordered-room, entry-below}
 
 -- what is gathered, entry by entry
 abbrev pub gathered : List ℕ → List ℕ → List ℕ
@@ -33,10 +33,12 @@ module _ (from order to : List ℕ) (g : Gathers from order to) where
   pub gathered-at : (t : ℕ) → t < length from → keyOf from (getD order t 0) ≡ getD (gathered from order) t 0
   gathered-at t h =
       let l : t < length (take (length from) order) = omega (arith, length-take-le (length from) order (g .indexes)) in
-      ap (keyOf from) (sym (getD-take (length from) order t 0 h)) ∙ sym (getD-map (keyOf from) (take (length from) order) t 0 l)
+      ap (keyOf from) (sym (getD-take (length from) order t 0 h)) ∙ sym
+      (getD-map (keyOf from) (take (length from) order) t 0 l)
 
 -- the order by image serves to gather as many numbers as there are runs
-pub ordered-gathers : (r : Runs) (order : List ℕ) → Ordered r order → (from to : List ℕ) → length from ≡ countOf r → countOf r ≤ length to
+pub ordered-gathers : (r : Runs) (order : List ℕ) → Ordered r order → (from to : List ℕ) → length from ≡ countOf r
+    → countOf r ≤ length to
     → Gathers from order to
 ordered-gathers r order o from to e h = record {
   room = omega arith;
@@ -46,11 +48,13 @@ ordered-gathers r order o from to e h = record {
 
 -- and what is gathered stands in that order
 gathered-front : (r : Runs) (order : List ℕ) → Ordered r order → (f : ℕ → ℕ) (m : ℕ) (to to′ : List ℕ) → m ≡ countOf r
-    → to′ ≡ map f (take m order) ++ drop m to → to′ ≡ map f (orderOf (r .images)) ++ drop (length (map f (orderOf (r .images)))) to
+    → to′ ≡ map f (take m order) ++ drop m to
+    → to′ ≡ map f (orderOf (r .images)) ++ drop (length (map f (orderOf (r .images)))) to
 gathered-front r order o f m to to′ e p =
     let size : length (orderOf (r .images)) ≡ length (r .images) = order-length (keyOf (r .images)) (length (r .images)) in
     let d : m ≡ length (map f (orderOf (r .images))) = omega (arith, length-map (orderOf (r .images)) f, o .paired) in
-    p ∙ (λ i. map f (take (e i) order) ++ drop (d i) to) ∙ ap (λ (l : List ℕ). map f l ++ drop (length (map f (orderOf (r .images)))) to) (o .sorted)
+    p ∙ (λ i. map f (take (e i) order) ++ drop (d i) to) ∙ ap
+    (λ (l : List ℕ). map f l ++ drop (length (map f (orderOf (r .images)))) to) (o .sorted)
 
 -- a table too short, and two that are not
 module _ (r : Runs) (a b : List ℕ) where
@@ -93,7 +97,8 @@ module _ (n : ℕ) (r : Runs) (a b : List ℕ) where
       let f : inverseListOf n r a b ≡ refusalSays x = listed-parts ∙ ap (λ c. andThen c (λ _. writtenOf r a b)) (sym e) in
       record { says = rw f; starts-at-exit = rw f; images-at-exit = rw f }
 
-  pub listed-written : (a′ b′ : List ℕ) (o : Checked) → done tt ≡ checkOf n r → Written r a b a′ b′ o → InverseListed n r a b a′ b′ o
+  pub listed-written : (a′ b′ : List ℕ) (o : Checked) → done tt ≡ checkOf n r → Written r a b a′ b′ o
+      → InverseListed n r a b a′ b′ o
   unfolding andThen
   listed-written a′ b′ o e w =
       let f : inverseListOf n r a b ≡ writtenOf r a b = listed-parts ∙ ap (λ c. andThen c (λ _. writtenOf r a b)) (sym e) in

@@ -11,7 +11,8 @@ use Rattle.runs.proofs.inverse_list.Statement.{statement}
 use Rattle.runs.proofs.inverse_list.Tie as tie
 
 -- the list is accepted
-passed : (c : tie.After-enum-told) → let a = c .before .before .before .before .before .before .before .before .before in done tt ≡ checkOf (a .args .n) (runs (a .args .starts .now) (a .args .images .now))
+passed : (c : tie.After-enum-told)
+    → let a = c .before .before .before .before .before .before .before .before .before in done tt ≡ checkOf (a .args .n) (runs (a .args .starts .now) (a .args .images .now))
 passed c = ap checkedSays (sym (c .enum-told .given .1)) ∙ c .before .before .before .check-into .ensures .says
 
 slice-aggregate-check-into : tie.Need-slice-aggregate-check-into
@@ -35,7 +36,9 @@ write-requires c κs =
     (c .before .before .before .before .before .before .check-into .ensures .ordered e, accepted-legal _ _ e .1)
 
 returns : tie.Need-returns
-returns c = listed-refused _ _ _ _ _ (ap checkedSays (sym (c .before .checked .given .1)) ∙ c .before .before .before .before .check-into .ensures .says)
+returns c =
+    listed-refused _ _ _ _ _
+    (ap checkedSays (sym (c .before .checked .given .1)) ∙ c .before .before .before .before .check-into .ensures .says)
 
 same-length : tie.Need-same-length
 same-length c = search needs
@@ -44,7 +47,9 @@ same-length-2 : tie.Need-same-length-2
 same-length-2 c = search needs
 
 returns-2 : tie.Need-returns-2
-returns-2 c = listed-written _ _ _ _ _ _ _ (passed (c .before .before .before .before .before .before .before .before)) (c .before .before .before .before .write .ensures)
+returns-2 c =
+    listed-written _ _ _ _ _ _ _ (passed (c .before .before .before .before .before .before .before .before))
+    (c .before .before .before .before .write .ensures)
 
 pub inverse-list-spec : {M : Type 1} → statement M
 inverse-list-spec =

@@ -23,7 +23,8 @@ is-disordered-requires : tie.Need-is-disordered-requires Inv-loop μ-loop
 is-disordered-requires c κs = omega arith
 
 returns : tie.Need-returns Inv-loop μ-loop
-returns c = λ images. searched-hit _ _ _ (c .before .before .before .loop .inv images) (omega arith) (sym (c .before .is-disordered .ensures images) ∙ c .if1 .taken)
+returns c =
+    λ images. searched-hit _ _ _ (c .before .before .before .loop .inv images) (omega arith) (sym (c .before .is-disordered .ensures images) ∙ c .if1 .taken)
 
 add-x : tie.Need-add-x Inv-loop μ-loop
 add-x c = omega arith
@@ -32,7 +33,8 @@ loop-less : tie.Need-loop-less Inv-loop μ-loop
 loop-less c = omega arith
 
 loop-again : tie.Need-loop-again Inv-loop μ-loop
-loop-again c = λ images. searched-next _ _ _ (c .before .before .before .loop .inv images) (omega arith) (sym (c .before .is-disordered .ensures images) ∙ c .if1 .left)
+loop-again c =
+    λ images. searched-next _ _ _ (c .before .before .before .loop .inv images) (omega arith) (sym (c .before .is-disordered .ensures images) ∙ c .if1 .left)
 
 returns-2 : tie.Need-returns-2 Inv-loop μ-loop
 returns-2 c = λ images. searched-end _ _ _ (c .before .loop .inv images) (omega arith)

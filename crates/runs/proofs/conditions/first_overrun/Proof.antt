@@ -26,7 +26,8 @@ image-end-requires : tie.Need-image-end-requires Inv-loop μ-loop
 image-end-requires c κs = (omega arith, c .before .before .before .before .before .pre)
 
 returns : tie.Need-returns Inv-loop μ-loop
-returns c = searched-hit _ _ _ (c .before .before .before .before .loop .inv) (omega arith) (overruns-true _ _ _ (omega arith))
+returns c =
+    searched-hit _ _ _ (c .before .before .before .before .loop .inv) (omega arith) (overruns-true _ _ _ (omega arith))
 
 add-x : tie.Need-add-x Inv-loop μ-loop
 add-x c = omega arith
@@ -35,7 +36,9 @@ loop-less : tie.Need-loop-less Inv-loop μ-loop
 loop-less c = omega arith
 
 loop-again : tie.Need-loop-again Inv-loop μ-loop
-loop-again c = searched-next _ _ _ (c .before .before .before .before .loop .inv) (omega arith) (overruns-false _ _ _ (omega arith))
+loop-again c =
+    searched-next _ _ _ (c .before .before .before .before .loop .inv) (omega arith)
+    (overruns-false _ _ _ (omega arith))
 
 returns-2 : tie.Need-returns-2 Inv-loop μ-loop
 returns-2 c = searched-end _ _ _ (c .before .loop .inv) (omega arith)

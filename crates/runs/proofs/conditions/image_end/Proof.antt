@@ -23,7 +23,9 @@ shared-slice-read-wide-2 : tie.Need-shared-slice-read-wide-2
 shared-slice-read-wide-2 c = search needs
 
 sub-wide : tie.Need-sub-wide
-sub-wide c = let a = c .before .before .before .before .before .before in omega (arith, a .pre .1 .lasting (a .args .x) (a .pre .0))
+sub-wide c =
+    let a = c .before .before .before .before .before .before in
+    omega (arith, a .pre .1 .lasting (a .args .x) (a .pre .0))
 
 wide-requires-2 : tie.Need-wide-requires-2
 wide-requires-2 c κs = search needs

@@ -18,7 +18,8 @@ returns c = λ images. simp (le-leb _ _ (c .if1 .taken))
 
 returns-2 : tie.Need-returns-2
 unfolding disordered
-returns-2 c = λ images. let a = c .before .before .before .args in simp (lt-leb _ _ (c .before .if1 .left), le-ltb 0 (a .x) (omega arith))
+returns-2 c =
+    λ images. let a = c .before .before .before .args in simp (lt-leb _ _ (c .before .if1 .left), le-ltb 0 (a .x) (omega arith))
 
 sub-result : tie.Need-sub-result
 sub-result c = search needs
@@ -31,7 +32,8 @@ shared-slice-read-result c = search needs
 
 returns-3 : tie.Need-returns-3
 unfolding disordered
-returns-3 c = λ images. let a = c .before .before .before .before .args in simp (lt-leb _ _ (c .before .before .if1 .left), lt-ltb 0 (a .x) (omega arith))
+returns-3 c =
+    λ images. let a = c .before .before .before .before .args in simp (lt-leb _ _ (c .before .before .if1 .left), lt-ltb 0 (a .x) (omega arith))
 
 pub is-disordered-spec : {M : Type 1} → statement M
 is-disordered-spec =

@@ -18,10 +18,14 @@ returns-2 : tie.Need-returns-2
 returns-2 c = images-short _ _ _ (omega arith) (omega arith)
 
 gather-requires : tie.Need-gather-requires
-gather-requires c κs = let o = c .before .before .before .before .before .before .before .before .pre .0 in ordered-gathers _ _ o _ _ (omega (arith, o .paired)) (omega arith)
+gather-requires c κs =
+    let o = c .before .before .before .before .before .before .before .before .pre .0 in
+    ordered-gathers _ _ o _ _ (omega (arith, o .paired)) (omega arith)
 
 gather-requires-2 : tie.Need-gather-requires-2
-gather-requires-2 c κs = let o = c .before .before .before .before .before .before .before .before .before .before .before .before .pre .0 in ordered-gathers _ _ o _ _ (omega (arith, o .paired)) (omega arith)
+gather-requires-2 c κs =
+    let o = c .before .before .before .before .before .before .before .before .before .before .before .before .pre .0 in
+    ordered-gathers _ _ o _ _ (omega (arith, o .paired)) (omega arith)
 
 same-length : tie.Need-same-length
 same-length c = search needs
@@ -30,7 +34,10 @@ same-length-2 : tie.Need-same-length-2
 same-length-2 c = search needs
 
 returns-3 : tie.Need-returns-3
-returns-3 c = written _ _ _ (omega arith) (omega arith) _ _ _ (c .before .before .before .before .before .before .before .before .before .before .before .before .before .before .before .pre .0) (c .before .before .before .before .before .before .gather .ensures) (c .before .before .gather2 .ensures)
+returns-3 c =
+    written _ _ _ (omega arith) (omega arith) _ _ _
+    (c .before .before .before .before .before .before .before .before .before .before .before .before .before .before .before .pre .0)
+    (c .before .before .before .before .before .before .gather .ensures) (c .before .before .gather2 .ensures)
 
 pub write-spec : {M : Type 1} → statement M
 write-spec =

@@ -2,12 +2,13 @@
 use borrow.Author.Needs.{needs}
 use Rattle.runs.specs.Runs.{runs}
 use Rattle.runs.specs.Parts.{Ordered}
-use Rattle.runs.proofs.Sweeping.{ordered}
+use Rattle.runs.proofs.Ranking.{ordered}
 use Rattle.runs.proofs.sweep.first_overlap.Statement.{statement}
 use Rattle.runs.proofs.sweep.first_overlap.Tie as tie
 
 -- the order that is left
-left : (c : tie.After-sort-by-key) → let a = c .before .before .before .before .before .before in Ordered (runs (a .args .starts .now) (a .args .images .now)) (c .sort-by-key .last .0)
+left : (c : tie.After-sort-by-key)
+    → let a = c .before .before .before .before .before .before in Ordered (runs (a .args .starts .now) (a .args .images .now)) (c .sort-by-key .last .0)
 left c = ordered _ _ _ (c .before .before .before .before .before .before .pre .0 .paired) (c .sort-by-key .ensures)
 
 slice-aggregate-sort-by-key : tie.Need-slice-aggregate-sort-by-key
@@ -17,7 +18,8 @@ sort-by-key-requires : tie.Need-sort-by-key-requires
 sort-by-key-requires c κs = search needs
 
 lowest-overlap-requires : tie.Need-lowest-overlap-requires
-lowest-overlap-requires c κs = (c .before .before .before .before .before .before .before .before .before .before .pre .0, left (c .before .before .before .before))
+lowest-overlap-requires c κs =
+    (c .before .before .before .before .before .before .before .before .before .before .pre .0, left (c .before .before .before .before))
 
 same-length : tie.Need-same-length
 same-length c = search needs

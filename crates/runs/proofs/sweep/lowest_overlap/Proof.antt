@@ -4,7 +4,8 @@ use mathlib.Core.Logic.{⊎-elim}
 use native.Mathlib.Omega.{arith}
 use lib.ListN.{length}
 use Rattle.runs.specs.Runs.{runs}
-use Rattle.runs.proofs.Sweeping.{Swept, swept-none, swept-turn, swept-end, ordered-room, entry-is, entry-below, lowered, kept}
+use Rattle.runs.proofs.Ranking.{ordered-room, entry-is, entry-below}
+use Rattle.runs.proofs.Sweeping.{Swept, swept-none, swept-turn, swept-end, lowered, kept}
 use Rattle.runs.proofs.sweep.lowest_overlap.Statement.{statement}
 use Rattle.runs.proofs.sweep.lowest_overlap.Tie as tie
 
@@ -21,13 +22,17 @@ mul-x : tie.Need-mul-x Inv-loop μ-loop
 mul-x c = omega arith
 
 shared-slice-read-x : tie.Need-shared-slice-read-x Inv-loop μ-loop
-shared-slice-read-x c = let o = ordered-room _ _ (c .before .before .before .before .before .before .pre .1) in omega arith
+shared-slice-read-x c =
+    let o = ordered-room _ _ (c .before .before .before .before .before .before .pre .1) in omega arith
 
 cast-x : tie.Need-cast-x Inv-loop μ-loop
 cast-x c = omega (arith, c .shared-slice-known4 .given (c .before .before .loop .t))
 
 image-end-requires : tie.Need-image-end-requires Inv-loop μ-loop
-image-end-requires c κs = let a = c .before .before .before .before .before .before in let b = entry-below _ _ (a .pre .1) (c .before .before .loop .t) (omega arith) in (omega (arith, a .pre .0 .paired), a .pre .0)
+image-end-requires c κs =
+    let a = c .before .before .before .before .before .before in
+    let b = entry-below _ _ (a .pre .1) (c .before .before .loop .t) (omega arith) in
+    (omega (arith, a .pre .0 .paired), a .pre .0)
 
 meets-another-requires : tie.Need-meets-another-requires Inv-loop μ-loop
 meets-another-requires c κs = (omega arith, c .before .before .before .before .before .before .before .pre .1)
@@ -50,7 +55,8 @@ loop-again c =
     let l = c .before .before .before .before .before .before .loop in
     let b = c .before .before .meets-another in
     swept-turn _ _ (a .pre .0) _ _ _ (l .inv) (omega arith) _ _ _ _ (b .result)
-    (entry-is _ _ (a .pre .1) (l .t) (omega arith)) (c .before .before .before .image-end .ensures) (b .ensures) (c .higher .ensures)
+    (entry-is _ _ (a .pre .1) (l .t) (omega arith)) (c .before .before .before .image-end .ensures) (b .ensures)
+    (c .higher .ensures)
     (⊎-elim (λ w. lowered _ _ _ _ _ (w .0 .taken) (w .1 .ensures) (w .2)) (λ w. kept _ _ _ _ (w .0 .left) (w .1)) (c .before .if1 .came))
 
 returns : tie.Need-returns Inv-loop μ-loop

@@ -1,0 +1,25 @@
+// Runs the keys of the paper that are run and not proved, and each operation once with each number that it can refuse
+// with. A line has the operation's name, then 0 and its values, or the number and the place of a refusal.
+mod files;
+mod lists;
+mod out;
+mod walks;
+
+fn main() {
+    lists::checks();
+    lists::crowded();
+    lists::inverses();
+    lists::balances();
+    lists::nine();
+    lists::six();
+    lists::roomy();
+    lists::psi();
+    walks::finds();
+    walks::moves();
+    walks::repeated();
+    walks::inverses();
+    walks::weights();
+    walks::bookmarks();
+    files::checks();
+    files::listings();
+}
