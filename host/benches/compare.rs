@@ -1,7 +1,7 @@
 //! Each export beside a peer in safe Rust: the same lists, in one run. Prints a table of times and ratios.
 
 mod peer;
-#[path = "../tests/random/mod.rs"]
+#[path = "../tests/second/random.rs"]
 #[allow(dead_code)] // the tests use more of it
 mod random;
 
@@ -9,23 +9,24 @@ use random::{list_of, List, Random};
 use std::hint::black_box;
 use std::time::{Duration, Instant};
 
-/// Takes an answer, so that it is made.
-fn done<T>(_: T) {}
-
-/// Seconds of a call, by the fastest of several rounds.
-fn seconds(mut call: impl FnMut()) -> f64 {
+/// Seconds of a call of the library and of its peer, each by the fastest of many rounds, turn by turn.
+fn seconds<A, B>(mut library: impl FnMut() -> A, mut peer: impl FnMut() -> B) -> [f64; 2] {
     let mut calls = 1;
-    while time(calls, &mut call) < Duration::from_millis(2) {
+    while time(calls, &mut library) < Duration::from_millis(1) {
         calls *= 2;
     }
-    let fastest = (0..7).map(|_| time(calls, &mut call)).min().expect("seven rounds");
-    fastest.as_secs_f64() / f64::from(calls)
+    let mut fastest = [Duration::MAX; 2];
+    for _ in 0..20 {
+        fastest[0] = fastest[0].min(time(calls, &mut library));
+        fastest[1] = fastest[1].min(time(calls, &mut peer));
+    }
+    fastest.map(|whole| whole.as_secs_f64() / f64::from(calls))
 }
 
-fn time(calls: u32, call: &mut impl FnMut()) -> Duration {
+fn time<T>(calls: u32, call: &mut impl FnMut() -> T) -> Duration {
     let begun = Instant::now();
     for _ in 0..calls {
-        call();
+        black_box(call());
     }
     begun.elapsed()
 }
@@ -51,64 +52,58 @@ fn list(r: &mut Random, shape: &str, k: usize) -> List {
 fn line(r: &mut Random, shape: &str, k: usize, d: u32) -> String {
     let List { n, starts, images } = list(r, shape, k);
     let b = d as usize * k / (d as usize - 1);
-    let [mut s, mut i, mut h, mut w] = [0; 4].map(|_| vec![0; b]);
     let mut cells = Vec::new();
     let mut cell =
-        |unit: f64, library: f64, peer: f64| cells.push(format!("{:.1} | {:.2}", library * unit, library / peer));
+        |unit: f64, [library, peer]: [f64; 2]| cells.push(format!("{:.1} | {:.2}", library * unit, library / peer));
 
-    cell(
-        1e6,
-        seconds(|| done(black_box(zibewoka::check(n, black_box(&starts), &images)))),
-        seconds(|| done(black_box(peer::check(n, black_box(&starts), &images)))),
+    cell(1e6, seconds(|| zibewoka::check(n, &starts, &images), || peer::check(n, &starts, &images)));
+
+    let [mut s, mut i, mut h, mut w] = [0; 4].map(|_| vec![0; b]);
+    let [mut peer_s, mut peer_i, mut peer_h, mut peer_w] = [0; 4].map(|_| vec![0; b]);
+    let times = seconds(
+        || zibewoka::balance(n, &starts, &images, d, &mut s, &mut i, &mut h, &mut w),
+        || peer::balance(n, &starts, &images, d, &mut peer_s, &mut peer_i, &mut peer_h, &mut peer_w),
     );
-    let size = peer::balance(n, &starts, &images, d, &mut s, &mut i, &mut h, &mut w).expect("legal") as usize;
-    let wanted = [s[..size].to_vec(), i[..size].to_vec(), h[..size].to_vec()];
-    let library =
-        seconds(|| done(black_box(zibewoka::balance(n, &starts, &images, d, &mut s, &mut i, &mut h, &mut w))));
-    assert_eq!([&s[..size], &i[..size], &h[..size]], [&wanted[0], &wanted[1], &wanted[2]], "the peer's tables");
-    let peer = seconds(|| done(black_box(peer::balance(n, &starts, &images, d, &mut s, &mut i, &mut h, &mut w))));
-    cell(1e6, library, peer);
+    assert!(s == peer_s && i == peer_i && h == peer_h && w == peer_w, "the peer balances alike");
+    cell(1e6, times);
 
+    let size = zibewoka::balance(n, &starts, &images, d, &mut s, &mut i, &mut h, &mut w).expect("legal") as usize;
     let (s, i, h) = (&s[..size], &i[..size], &h[..size]);
     let places: Vec<u32> = (0..64).map(|_| r.below(u64::from(n)) as u32).collect();
-    let per_place = 1e9 / places.len() as f64;
-    cell(
-        per_place,
-        seconds(|| places.iter().for_each(|&p| done(black_box(zibewoka::find(n, s, i, h, p))))),
-        seconds(|| places.iter().for_each(|&p| done(black_box(peer::find(n, s, i, h, p))))),
+    let times = seconds(
+        || places.iter().map(|&p| zibewoka::find(n, s, i, h, p).expect("a place")).sum::<u32>(),
+        || places.iter().map(|&p| peer::find(n, s, i, h, p).expect("a place")).sum::<u32>(),
     );
+    cell(1e9 / places.len() as f64, times);
 
     let m = 10_000;
-    let (first, interval) = (places[0], peer::find(n, s, i, h, places[0]).expect("a place"));
-    let library = seconds(|| {
-        let mut at = (first, interval);
-        for _ in 0..m {
-            let step = zibewoka::move_once(n, s, i, h, at.1, at.0).expect("a move");
-            at = (step.place, step.interval);
-        }
-        black_box(at);
-    });
-    let peer = seconds(|| {
-        let mut at = (first, interval);
-        for _ in 0..m {
-            let step = peer::move_once(n, s, i, h, at.1, at.0).expect("a move");
-            at = (step.0, step.1);
-        }
-        black_box(at);
-    });
-    cell(1e9 / f64::from(m), library, peer);
-    cell(
-        1e9 / f64::from(m),
-        seconds(|| done(black_box(zibewoka::moves(n, s, i, h, interval, first, m)))),
-        seconds(|| done(black_box(peer::moves(n, s, i, h, interval, first, m)))),
+    let first = places[0];
+    let interval = zibewoka::find(n, s, i, h, first).expect("a place");
+    let times = seconds(
+        || {
+            (0..m).fold((first, interval), |(place, interval), _| {
+                let step = zibewoka::move_once(n, s, i, h, interval, place).expect("a move");
+                (step.place, step.interval)
+            })
+        },
+        || {
+            (0..m).fold((first, interval), |(place, interval), _| {
+                let (place, interval, _) = peer::move_once(n, s, i, h, interval, place).expect("a move");
+                (place, interval)
+            })
+        },
     );
+    cell(1e9 / f64::from(m), times);
+    let times =
+        seconds(|| zibewoka::moves(n, s, i, h, interval, first, m), || peer::moves(n, s, i, h, interval, first, m));
+    cell(1e9 / f64::from(m), times);
     format!("| {shape} | {k} | {d} | {size} | {} |", cells.join(" | "))
 }
 
 fn main() {
     println!("Times of the library, and each as a ratio to the peer in safe Rust (below 1: the library is faster).");
     println!(
-        "Release builds, the fastest of seven rounds. No lent buffer is cleared between calls; the library clears"
+        "Release builds, the fastest of twenty rounds. No lent buffer is cleared between calls; the library clears"
     );
     println!("its own arrays in each check and balance, where the peer takes vectors from the heap.");
     println!();

@@ -1,7 +1,7 @@
 -- Laws of answers: a list's answer has no values, and a single move's count fits 32 bits, since the walk ends at an
 -- interval of the tables.
 use Prim.Native.Nat.{ℕ, _≤_}
-use mathlib.Core.Path.{_≡_, refl, sym, _∙_}
+use mathlib.Core.Path.{_≡_, refl, _∙_}
 use native.Mathlib.Omega.{arith}
 use Rattle.runs.specs.Outcome.{Outcome, done, refused, mapDone, andThen}
 use Rattle.runs.proofs.Judging.{done-refused}
@@ -24,7 +24,8 @@ list-answer-map f (refused k p) = refl
 abbrev narrow : MovesAnswer → MoveAnswer
 narrow w = record { number = w .number; place = w .place; interval = w .interval; count = w .count }
 
-pub move-answer-narrow : (w : MovesAnswer) (a o : Outcome Step) → w ≡ movesAnswer a → a ≡ o → narrow w ≡ moveAnswer o
+pub move-answer-narrow : (w : MovesAnswer) (a o : Outcome Step)
+    → w ≡ movesAnswer a → a ≡ o → narrow w ≡ moveAnswer o
 move-answer-narrow w (done s) o e f = rw (e, ← f)
 move-answer-narrow w (refused k p) o e f = rw (e, ← f)
 
@@ -33,7 +34,8 @@ module _ (n : ℕ) (t : Tables) (x i : ℕ) where
   unfolding andThen
   move-count s e = go (movesOf n t 0 x i) refl (e ∙ move-is n t x i)
     where
-      go : (o : Outcome Step) → o ≡ movesOf n t 0 x i → done s ≡ andThen o (λ _. advanceOf n t x i) → s .count ≤ maxIntervals
+      go : (o : Outcome Step) → o ≡ movesOf n t 0 x i → done s ≡ andThen o (λ _. advanceOf n t x i)
+          → s .count ≤ maxIntervals
       go (done a) f g = step-count n t x i s g (located n t x i a f .shape)
       go (refused k p) f g = absurd (done-refused s k p g)
 

@@ -19,7 +19,8 @@ pub record BalanceAnswered (n : ℕ) (r : Runs) (d : ℕ) (entry exit : Lent) (a
   pub library : Balanced
   pub at-exit : Balances n r d entry exit library
 
-pub record InverseListAnswered (n : ℕ) (r : Runs) (starts images starts′ images′ : List ℕ) (answer : ListAnswer) : Type 0 where
+pub record InverseListAnswered (n : ℕ) (r : Runs) (starts images starts′ images′ : List ℕ) (answer : ListAnswer)
+    : Type 0 where
   pub says : answer ≡ listAnswer (inverseListOf n r starts images)
   pub library : Checked
   pub at-exit : InverseListed n r starts images starts′ images′ library

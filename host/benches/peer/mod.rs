@@ -177,31 +177,30 @@ fn located(n: u32, starts: &[u32], images: &[u32], holders: &[u32], x: u32, i: u
     Ok(())
 }
 
-/// A move from a place that its interval has: the place, the interval and the starts passed.
-#[inline]
-fn step(n: u32, starts: &[u32], images: &[u32], holders: &[u32], x: u32, i: u32) -> Outcome<(u32, u32, u32)> {
-    let at = x as usize;
-    let image = images[at];
-    let h = holders[at] as usize;
-    if starts.len() <= h || image < starts[h] {
-        return Err((12, x));
+/// A move from a place that its interval has: the place and the interval reached, and the holder; or nothing where the
+/// interval is broken.
+#[inline(always)]
+fn step(n: u32, starts: &[u32], images: &[u32], holders: &[u32], x: usize, i: u32) -> Option<(u32, usize, usize)> {
+    let image = images[x];
+    let h = holders[x] as usize;
+    let j = image.checked_add(i - starts[x]).filter(|&j| j < n)?;
+    if image < *starts.get(h)? {
+        return None;
     }
-    let j = u64::from(image) + u64::from(i - starts[at]);
-    if u64::from(n) <= j {
-        return Err((12, x));
-    }
-    let j = j as u32;
     let mut reached = h;
-    while reached + 1 < starts.len() && starts[reached + 1] <= j {
+    while starts.get(reached + 1).is_some_and(|&start| start <= j) {
         reached += 1;
     }
-    Ok((j, reached as u32, (reached - h) as u32))
+    Some((j, reached, h))
 }
 
 #[inline(never)]
 pub fn move_once(n: u32, starts: &[u32], images: &[u32], holders: &[u32], x: u32, i: u32) -> Outcome<(u32, u32, u32)> {
     located(n, starts, images, holders, x, i)?;
-    step(n, starts, images, holders, x, i)
+    match step(n, starts, images, holders, x as usize, i) {
+        None => Err((12, x)),
+        Some((j, y, h)) => Ok((j, y as u32, (y - h) as u32)),
+    }
 }
 
 #[inline(never)]
@@ -215,10 +214,14 @@ pub fn moves(
     m: u32,
 ) -> Outcome<(u32, u32, u64)> {
     located(n, starts, images, holders, x, i)?;
-    let (mut place, mut interval, mut count) = (i, x, 0);
+    // Of one length, as was tested: the indexes into two of them need no test of their own.
+    let (images, holders) = (&images[..starts.len()], &holders[..starts.len()]);
+    let (mut place, mut interval, mut count) = (i, x as usize, 0);
     for _ in 0..m {
-        let (j, y, passed) = step(n, starts, images, holders, interval, place)?;
-        (place, interval, count) = (j, y, count + u64::from(passed));
+        let Some((j, y, h)) = step(n, starts, images, holders, interval, place) else {
+            return Err((12, interval as u32));
+        };
+        (place, interval, count) = (j, y, count + (y - h) as u64);
     }
-    Ok((place, interval, count))
+    Ok((place, interval as u32, count))
 }

@@ -24,7 +24,9 @@ returns c =
 
 returns-2 : tie.Need-returns-2
 returns-2 c =
-    rw (c .before .number .ensures, c .place .ensures) (ap (λ a. findAnswer (c .before .before .before .before .before .args .place) (foundSays a)) (sym (c .before .before .before .found2 .given .1)))
+    let arm = sym (c .before .before .before .found2 .given .1) in
+    let place = c .before .before .before .before .before .args .place in
+    rw (c .before .number .ensures, c .place .ensures) (ap (λ a. findAnswer place (foundSays a)) arm)
 
 pub of-find-spec : {M : Type 1} → statement M
 of-find-spec =

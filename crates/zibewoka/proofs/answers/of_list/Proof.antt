@@ -24,7 +24,8 @@ returns c =
 
 returns-2 : tie.Need-returns-2
 returns-2 c =
-    rw (c .before .number .ensures, c .place .ensures) (ap (λ a. listAnswer (checkedSays a)) (sym (c .before .before .before .checked .given .1)))
+    let arm = sym (c .before .before .before .checked .given .1) in
+    rw (c .before .number .ensures, c .place .ensures) (ap (λ a. listAnswer (checkedSays a)) arm)
 
 pub of-list-spec : {M : Type 1} → statement M
 of-list-spec =

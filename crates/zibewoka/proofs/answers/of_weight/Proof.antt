@@ -24,7 +24,8 @@ returns c =
 
 returns-2 : tie.Need-returns-2
 returns-2 c =
-    rw (c .before .number .ensures, c .place .ensures) (ap (λ a. weightAnswer (weighedSays a)) (sym (c .before .before .before .weighed2 .given .1)))
+    let arm = sym (c .before .before .before .weighed2 .given .1) in
+    rw (c .before .number .ensures, c .place .ensures) (ap (λ a. weightAnswer (weighedSays a)) arm)
 
 pub of-weight-spec : {M : Type 1} → statement M
 of-weight-spec =

@@ -1,13 +1,9 @@
-//! The exports against the second program, on every kind of list and tables: each answer whole, and every entry of every
-//! lent table before and after.
+//! Every export on every kind of list and tables: each answer whole, and every entry of every lent table before and after.
 //!
-//! Bookmarks are not exported, so neither they nor their number, 13, come up here.
+//! Bookmarks are not exported, so neither they nor their number, 13, come up here; nor does 15, which is a file's.
 
-mod random;
-mod second;
-
-use random::{damage, damaged, legal, list_of, List, Random};
-use second::{Outcome, Tables};
+use crate::definition::{self as second, Outcome, Tables};
+use crate::random::{damage, damaged, legal, list_of, List, Random};
 use std::collections::BTreeSet;
 use zibewoka::exports::{self, BalanceAnswer, IntervalAnswer, ListAnswer, MoveAnswer, MovesAnswer};
 use zibewoka::Refusal;

@@ -284,3 +284,49 @@ pub fn weight(n: u32, t: &Tables, x: u32) -> Outcome<u32> {
     }
     Ok(size as u32)
 }
+
+/// The tables of a file's list and its degree, or the refusal. The listing program "takes at most 1,024 runs and gives 2
+/// above that".
+fn file(bytes: &[u8]) -> Outcome<(u32, u32, usize, Tables)> {
+    let words: Vec<u32> =
+        bytes.chunks_exact(4).map(|word| u32::from_le_bytes(word.try_into().expect("four bytes"))).collect();
+    if bytes.len() < 20 {
+        return Err((15, 0));
+    }
+    let (n, k, d) = (words[0], words[1], words[2]);
+    if n == 0 || k == 0 {
+        return Err((1, 0));
+    }
+    if k > 1024 {
+        return Err((2, 0));
+    }
+    if words[3] != 20 {
+        return Err((15, 12));
+    }
+    if words[4] != 20 + 4 * k {
+        return Err((15, 16));
+    }
+    let k = k as usize;
+    if bytes.len() != 20 + 8 * k {
+        return Err((15, 20));
+    }
+    let (starts, images) = (&words[5..5 + k], &words[5 + k..]);
+    let tables = balance(n, starts, images, d, [usize::MAX; 4])?;
+    Ok((n, d, k, tables))
+}
+
+/// What the listing program prints.
+pub fn listing(bytes: &[u8]) -> String {
+    match file(bytes) {
+        Err((number, place)) => format!("refused {number} {place}\n"),
+        Ok((n, d, k, t)) => {
+            let mut text = format!("{n} {k} {d} {}\n", t.starts.len());
+            for x in 0..t.starts.len() {
+                let shift = i64::from(t.images[x]) - i64::from(t.starts[x]);
+                let weight = weight(n, &t, x as u32).expect("the tables of a legal list");
+                text += &format!("{x} {} {} {shift} {} {weight}\n", t.starts[x], t.images[x], t.holders[x]);
+            }
+            text
+        }
+    }
+}
