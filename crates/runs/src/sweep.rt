@@ -73,7 +73,8 @@ pub(crate) fn first_overlap(
     order: &mut [u32],
     spare: &mut [u32],
 ) -> usize
-    requires { ⌜ Lasting n (runs (now starts) (now images)) × (length (now starts) ≤ maxRuns) × Roomy (now starts) (now order) × Roomy (now starts) (now spare) ⌝ }
+    requires { ⌜ Lasting n (runs (now starts) (now images)) × (length (now starts) ≤ maxRuns)
+        × Roomy (now starts) (now order) × Roomy (now starts) (now spare) ⌝ }
     ensures { λ r. ⌜ OverlapFound n (runs (now (starts .entry)) (now (images .entry))) (now (order .exit)) r ⌝ }
 {
     order::sort_by_key(order, spare, images);
