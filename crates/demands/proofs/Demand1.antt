@@ -1,31 +1,25 @@
 -- Demand 1. The order of conditions of each operation is read off its definition; what `judge` gives is proved once for
 -- all of them; and a refusal leaves what was lent, since `filled` and `markAfter` do.
-use Prim.Native.Nat.{ℕ, zero, suc, _+_, _≤_, _<_, suc-le-suc}
-use mathlib.Core.Path.{_≡_, refl, sym, ap, _∙_}
+use Prim.Native.Nat.{ℕ, zero, suc, suc-le-suc}
+use mathlib.Core.Path.{_≡_, refl, sym, _∙_}
 use mathlib.Core.Bool.{Bool, true, false}
-use mathlib.Core.Logic.{_⊎_, inl, inr}
 use mathlib.Core.List.{List, [], _∷_}
 use native.Mathlib.Nat.{not-suc-le-zero, le-of-suc-le-suc}
 use native.Mathlib.Omega.{arith}
-use lib.ListN.{length, getD}
+use lib.ListN.{length}
 use Rattle.runs.specs.Outcome.{Outcome, done, refused, Test, test, judge, mapDone, filled, _then_else_}
 use Rattle.runs.specs.Refusal.{checkedSays}
 use Rattle.runs.specs.Runs.{Runs}
 use Rattle.runs.specs.Check.{listTests, checkTests}
-use Rattle.runs.specs.Inverse.{inverseListOf, inverseListTests, InverseListed}
+use Rattle.runs.specs.Inverse.{inverseListOf, InverseListed}
 use Rattle.runs.specs.declared.Checked.{Checked}
 use Rattle.runs.proofs.Judging.{done-refused}
-use Rattle.tables.specs.Tables.{Tables, sizeOf}
-use Rattle.tables.specs.Move.{movedSays, movesOf}
-use Rattle.tables.specs.Bookmark.{markAfter, bookmarkOf, Advances}
-use Rattle.tables.specs.declared.Step.{Step}
-use Rattle.tables.specs.declared.Bookmark.{Bookmark}
-use Rattle.tables.specs.declared.Marked.{Marked}
-use Rattle.tables.proofs.Steps.{located}
-use Rattle.tables.proofs.Moves.{moves-refused, moves-stopped}
-use Rattle.balance.specs.Lent.{Lent, balancedSays, balanceOf, balanceTests, Balances}
+use Rattle.tables.specs.Tables.{sizeOf}
+use Rattle.tables.proofs.Moves.{moves-order}
+use Rattle.tables.proofs.Marks.{bookmark-kept}
+use Rattle.balance.specs.Lent.{Lent, balancedSays, balanceOf, Balances}
 use Rattle.balance.specs.declared.Balanced.{Balanced}
-use Rattle.demands.specs.Demands.{NoneOf, RefusedBy, Judged, Demand1, numbers}
+use Rattle.demands.specs.Demands.{NoneOf, RefusedBy, Demand1}
 
 -- the first test decides, or the others do
 none-first : (t : Test) (ts : List Test) (i : ℕ) → t .applies ≡ false → NoneOf i ts → NoneOf (suc i) (t ∷ ts)
@@ -93,19 +87,6 @@ balance-kept n r d entry exit o c k p e =
     let h = c .holders ∙ filled-refused _ _ k p (entry .holders) q in
     let w = c .working ∙ filled-refused _ _ k p (entry .working) q in
     λ j. record { starts = s j; images = i j; holders = h j; working = w j }
-
-bookmark-kept : (n : ℕ) (t : Tables) (b : Bookmark) (m : Marked) → Advances n t b m
-    → (k p : ℕ) → movedSays (m .moved) ≡ refused k p → m .bookmark ≡ b
-unfolding markAfter
-bookmark-kept n t b m c k p e = let q : bookmarkOf n t b ≡ refused k p = sym (c .says) ∙ e in c .mark ∙ rw q
-
--- the first tests refuse, or else only 12 can
-moves-order : (n : ℕ) (t : Tables) (m x i k p : ℕ) → movesOf n t m x i ≡ refused k p → (movesOf n t 0 x i ≡ refused k p) ⊎ (k ≡ 12)
-moves-order n t m x i k p e = go (movesOf n t 0 x i) refl
-  where
-    go : (o : Outcome Step) → movesOf n t 0 x i ≡ o → (movesOf n t 0 x i ≡ refused k p) ⊎ (k ≡ 12)
-    go (done s) f = inr (moves-stopped n t x i (located n t x i s (sym f)) m k p e .twelve)
-    go (refused k′ p′) f = inl (f ∙ moves-refused n t 0 m x i k′ p′ (omega arith) (sym f) ∙ e)
 
 pub demand1 : Demand1
 unfolding listTests checkTests

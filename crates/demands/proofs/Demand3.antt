@@ -1,39 +1,35 @@
 -- Demand 3. What `balance` promises puts the tables of the balanced list at the head of the lent ones; through these the
 -- single calls are the plain walk's, so whole lists of calls are (Serving, Marking); and since no interval is heavy, no
 -- move passes more than 2d − 1 starts (Counting).
-use Prim.Native.Nat.{ℕ, suc, _+_, _-_, _*_, _^_, _≤_, _<_}
-use mathlib.Core.Path.{_≡_, refl, sym, ap, _∙_}
-use mathlib.Core.List.{List, [], _∷_, _++_}
+use Prim.Native.Nat.{ℕ, _-_, _*_, _≤_, _<_}
+use mathlib.Core.Path.{_≡_, ap, _∙_}
 use native.Mathlib.Omega.{arith}
-use native.Mathlib.Nat.{mul-le-mul-left}
-use lib.ListN.{length, take, drop, length-map}
-use lib.Seq.{take-append-seam}
+use lib.ListN.{length}
 use borrow.Author.Tests.{le-ltb}
-use Rattle.order.specs.Order.{All, sumOf}
-use Rattle.runs.specs.Outcome.{Outcome, done, refused, judge, mapDone, andThen, filled}
+use Rattle.runs.specs.Outcome.{done, refused, judge, andThen}
 use Rattle.runs.specs.Runs.{Runs, countOf, startOf, imageOf, endOf, runAt, carry, mapOf}
 use Rattle.runs.specs.Legal.{Legal}
 use Rattle.runs.specs.Check.{maxRuns, checkTests, checkOf}
 use Rattle.runs.proofs.Judging.{judge-append}
 use Rattle.runs.proofs.Accepted.{accepted-legal}
 use Rattle.runs.proofs.Legality.{homes, home, run-at}
-use Rattle.tables.specs.Tables.{Tables, tables, tablesOf, sizeOf}
+use Rattle.tables.specs.Tables.{Tables, tablesOf}
 use Rattle.tables.specs.Under.{weight}
+use Rattle.tables.specs.Bookmark.{fresh}
 use Rattle.tables.proofs.Walks.{above-to, walk-bound}
 use Rattle.tables.proofs.LegalTables.{legal-find-beyond}
 use Rattle.tables.specs.Move.{findOf}
 use Rattle.balance.specs.Balance.{balanced, boundOf}
-use Rattle.balance.specs.Lent.{Lent, balancedSays, balanceOf, balanceTests, tooShort, Balances}
-use Rattle.balance.specs.declared.Balanced.{Balanced}
+use Rattle.balance.specs.Lent.{Lent, firstOf, balanceOf, tooShort}
 use Rattle.balance.proofs.Heads.{answer-is, head-is}
 use Rattle.balance.proofs.Balancing.{balanced-legal, balanced-map, balanced-light, balanced-count}
-use Rattle.demands.specs.Calls.{Call, allMoves, allCounts}
-use Rattle.demands.specs.PlainWalk.{plainMove, plainWalk, walkCounts}
-use Rattle.demands.specs.Demands.{Through, Roomy, firstOf, Serves, Demand3}
+use Rattle.demands.specs.PlainWalk.{plainMove, walkCounts, plainTrail}
+use Rattle.demands.specs.Served.{servedTrail}
+use Rattle.demands.specs.Demands.{Through, Roomy, Serves, Demand3}
 use Rattle.demands.proofs.Demand2.{balanced-few, through-balanced}
 use Rattle.demands.proofs.Serving.{same-replies}
 use Rattle.demands.proofs.Counting.{counts-length, counts-sum, counts-most, sum-most}
-use Rattle.demands.proofs.Marking.{same-trail}
+use Rattle.demands.proofs.Marking.{same-trail, advancing-served}
 
 -- balancing an accepted list into roomy tables is not refused
 balance-done : (n : ℕ) (r : Runs) (d : ℕ) (l : Lent) → checkOf n r ≡ done tt → 2 ≤ d → d ≤ 64 → Roomy (boundOf d (countOf r)) l
@@ -75,6 +71,10 @@ module _ (n : ℕ) (r : Runs) (d : ℕ) (c : Legal n r) (k : countOf r ≤ maxRu
   most : (p : ℕ) → p < n → plainMove n r t p .count ≤ 2 * d - 1
   most = move-most n d r t (balanced-legal d n many r c) (balanced-map d n many r c) (balanced-light d n many r c)
 
+  fresh-trail : (m p : ℕ) → p < n → servedTrail n (tablesOf n t) m (fresh p (runAt n t p)) ≡ plainTrail n r t m p 0 0
+  fresh-trail m p h =
+      same-trail n (2 * d - 1) r t (tablesOf n t) (walks .move) (walks .inside) most (omega arith) m p 0 0 h (omega arith) (omega arith)
+
   -- the tables of the balanced list serve the plain walk
   tables-serve : (l : Lent) → firstOf (countOf t) l ≡ tablesOf n t → Serves n r d (countOf t) l
   tables-serve l e = record {
@@ -89,8 +89,8 @@ module _ (n : ℕ) (r : Runs) (d : ℕ) (c : Legal n r) (k : countOf r ≤ maxRu
       rw (counts-sum n r t cs p, ← counts-length n r t cs p)
           (sum-most (2 * d - 1) (walkCounts n r t p cs) (counts-most n (2 * d - 1) r t (walks .inside) most cs p h)),
     );
-    same-trail = λ p h m. rw e
-        (same-trail n (2 * d - 1) r t (tablesOf n t) (walks .move) (walks .inside) most (omega arith) m p 0 0 h (omega arith) (omega arith));
+    same-trail = λ p h m. rw e (fresh-trail m p h);
+    same-advances = λ p h ms a. advancing-served n (firstOf (countOf t) l) ms _ a ∙ rw e (fresh-trail (length ms) p h);
   }
 
 pub demand3 : Demand3

@@ -1,10 +1,11 @@
 -- The moves of one bookmark are served as the plain walk answers them, and leave its four numbers. The counter of starts
 -- passed never gets near its width: at most b starts for each of fewer than 2^32 moves.
-use Prim.Native.Nat.{ℕ, zero, suc, _+_, _-_, _*_, _^_, _≤_, _<_}
+use Prim.Native.Nat.{ℕ, zero, suc, _+_, _*_, _^_, _≤_, _<_}
 use mathlib.Core.Path.{_≡_, refl, sym, ap, _∙_}
 use mathlib.Core.Logic.{_⊎_, inl, inr}
-use mathlib.Core.List.{List, [], _∷_}
+use mathlib.Core.List.{List, [], _∷_, map}
 use native.Mathlib.Omega.{arith}
+use lib.ListN.{length}
 use native.Mathlib.Nat.{mul-le-mul-left}
 use borrow.Author.Tests.{le-leb, lt-leb}
 use Rattle.order.proofs.Laws.{lt-or-le}
@@ -13,12 +14,13 @@ use Rattle.runs.specs.Runs.{Runs, runAt, mapOf}
 use Rattle.runs.proofs.Judging.{judge-done, judge-on}
 use Rattle.tables.specs.Tables.{Tables}
 use Rattle.tables.specs.Move.{moveTests, stepOf, moveOf}
-use Rattle.tables.specs.Bookmark.{spent, bookmarkOf, markAfter}
+use Rattle.tables.specs.Bookmark.{spent, bookmarkOf, markAfter, Marking, marking, markedSays, markingOf}
 use Rattle.tables.specs.declared.Bookmark.{Bookmark}
+use Rattle.tables.specs.declared.Marked.{Marked}
+use Rattle.tables.proofs.Markings.{advances-marking}
 use Rattle.tables.specs.declared.Step.{Step}
-use Rattle.demands.specs.Calls.{Marking, marking}
 use Rattle.demands.specs.PlainWalk.{plainMove, plainTrail, standing}
-use Rattle.demands.specs.Served.{servedTrail}
+use Rattle.demands.specs.Served.{servedTrail, Advancing}
 use Rattle.demands.proofs.Serving.{move-below}
 
 -- where the move is made, only 13 is left to test
@@ -56,7 +58,7 @@ module _ (n : ℕ) (r t : Runs) (k p m c : ℕ) where
 module _ (n : ℕ) (τ : Tables) (k : ℕ) (b : Bookmark) where
   served-turn : (a : Outcome Step) (b′ : Bookmark) → bookmarkOf n τ b ≡ a → markAfter b a ≡ b′
       → servedTrail n τ (suc k) b ≡ marking a b′ ∷ servedTrail n τ k b′
-  unfolding servedTrail
+  unfolding servedTrail markingOf
   served-turn a b′ e f = rw (e, f)
 
 module _ (n b : ℕ) (r t : Runs) (τ : Tables)
@@ -100,3 +102,13 @@ module _ (n b : ℕ) (r t : Runs) (τ : Tables)
           (after-refusal p m c)
           ∙ ap (λ (l : List Marking). marking (refused 13 0) (standing n r t p m c) ∷ l) (rest p m c h l w)
           ∙ sym (plain-spent n r t k p m c e)
+
+-- calls of `advance` that meet its contract are served moves
+pub advancing-served : (n : ℕ) (τ : Tables) (ms : List Marked) (b : Bookmark) → Advancing n τ b ms
+    → map markedSays ms ≡ servedTrail n τ (length ms) b
+unfolding servedTrail
+advancing-served n τ [] b a = refl
+advancing-served n τ (m ∷ ms) b a =
+    let e = advances-marking n τ b (m .moved) (m .bookmark) (a .0) in
+    let f = advancing-served n τ ms (m .bookmark) (a .1) ∙ ap (λ (w : Marking). servedTrail n τ (length ms) (w .bookmark)) e in
+    λ i. e i ∷ f i

@@ -3,7 +3,6 @@ use Prim.Native.Nat.{ℕ, _+_}
 use mathlib.Core.List.{List, [], _∷_}
 use Rattle.runs.specs.Outcome.{Outcome, done, refused}
 use Rattle.tables.specs.declared.Step.{Step}
-use Rattle.tables.specs.declared.Bookmark.{Bookmark}
 
 pub data Call : Type 0 where
   find : ℕ → Call
@@ -13,14 +12,6 @@ pub data Call : Type 0 where
 pub data Reply : Type 0 where
   found : Outcome ℕ → Reply
   moved : Outcome Step → Reply
-
--- an answer to a bookmark's move, and the bookmark after it
-pub record Marking : Type 0 where
-  pub answer : Outcome Step
-  pub bookmark : Bookmark
-
-abbrev pub marking : Outcome Step → Bookmark → Marking
-marking a b = record { answer = a; bookmark = b }
 
 -- the moves that a call asks for, and the moves of the whole list
 abbrev pub movesIn : Call → ℕ

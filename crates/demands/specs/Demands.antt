@@ -1,11 +1,11 @@
 -- The three demands. Their proofs are in proofs/, apart from what they say. That every call stays in bounds and ends is
 -- what the checker proves of each function; here stands what its contract's definitions come to.
-use Prim.Native.Nat.{ℕ, suc, _+_, _-_, _*_, _^_, _≤_, _<_}
+use Prim.Native.Nat.{ℕ, _+_, _-_, _*_, _^_, _≤_, _<_}
 use mathlib.Core.Path.{_≡_}
-use mathlib.Core.Bool.{Bool, true, false}
+use mathlib.Core.Bool.{true, false}
 use mathlib.Core.Logic.{_↔_, _⊎_}
 use mathlib.Core.List.{List, [], _∷_, map}
-use lib.ListN.{length, getD, take}
+use lib.ListN.{length, getD}
 use Rattle.order.specs.Order.{All, sumOf}
 use Rattle.runs.specs.Outcome.{Outcome, done, refused, Test, test, judge}
 use Rattle.runs.specs.Refusal.{checkedSays}
@@ -14,20 +14,20 @@ use Rattle.runs.specs.Legal.{DisjointIntervals}
 use Rattle.runs.specs.Check.{checkTests, checkOf}
 use Rattle.runs.specs.Inverse.{inverseListTests, InverseListed}
 use Rattle.runs.specs.declared.Checked.{Checked}
-use Rattle.tables.specs.Tables.{Tables, tables, tablesOf}
+use Rattle.tables.specs.Tables.{Tables, tablesOf}
 use Rattle.tables.specs.Move.{movedSays, findTests, locateTests, moveTests, findOf, moveOf, movesOf}
 use Rattle.tables.specs.Inverse.{inverseTests, inverseOf}
 use Rattle.tables.specs.Under.{underTests}
-use Rattle.tables.specs.Bookmark.{bookmarkTests, bookmarkOf, fresh, Advances}
-use Rattle.tables.specs.declared.Step.{Step}
+use Rattle.tables.specs.Bookmark.{bookmarkTests, bookmarkOf, fresh, Advances, markedSays}
 use Rattle.tables.specs.declared.Bookmark.{Bookmark}
+use Rattle.tables.specs.declared.Moved.{Moved}
 use Rattle.tables.specs.declared.Marked.{Marked}
 use Rattle.balance.specs.Balance.{balanced, boundOf}
 use Rattle.balance.specs.Lent.{Lent, firstOf, balancedSays, balanceTests, Balances}
 use Rattle.balance.specs.declared.Balanced.{Balanced}
 use Rattle.demands.specs.Calls.{Call, allMoves, allCounts}
 use Rattle.demands.specs.PlainWalk.{plainMove, plainMoves, plainWalk, walkCounts, plainTrail}
-use Rattle.demands.specs.Served.{served, servedTrail}
+use Rattle.demands.specs.Served.{served, servedTrail, Advancing}
 
 -- DEMAND 1. "Every call is worked on or refused with one of the paper's numbers, in a fixed order of conditions; a refused
 -- call changes nothing lent."
@@ -73,8 +73,8 @@ pub record Demand1 : Type 1 where
       → (k p : ℕ) → checkedSays o ≡ refused k p → (a′ ≡ a) × (b′ ≡ b)
   pub balance-kept : (n : ℕ) (r : Runs) (d : ℕ) (entry exit : Lent) (o : Balanced) → Balances n r d entry exit o
       → (k p : ℕ) → balancedSays o ≡ refused k p → exit ≡ entry
-  pub bookmark-kept : (n : ℕ) (t : Tables) (b : Bookmark) (m : Marked) → Advances n t b m
-      → (k p : ℕ) → movedSays (m .moved) ≡ refused k p → m .bookmark ≡ b
+  pub bookmark-kept : (n : ℕ) (t : Tables) (b : Bookmark) (m : Moved) (left : Bookmark) → Advances n t b m left
+      → (k p : ℕ) → movedSays m ≡ refused k p → left ≡ b
 
 -- DEMAND 2. "A list is accepted if and only if it has at most 16,384 runs and is a disjoint interval sequence; through
 -- its tables find, move, repeated move, bookmark and inverse give that sequence's function."
@@ -125,6 +125,9 @@ pub record Serves (n : ℕ) (r : Runs) (d k : ℕ) (l : Lent) : Type 0 where
   -- a bookmark that is fresh at such a place: each answer, and its four numbers after it
   pub same-trail : (p : ℕ) → p < n → (m : ℕ)
       → servedTrail n (firstOf k l) m (fresh p (runAt n (balanced d n r) p)) ≡ plainTrail n r (balanced d n r) m p 0 0
+  -- the same of the contract of `advance`: what any number of calls say, and leave of that one bookmark
+  pub same-advances : (p : ℕ) → p < n → (ms : List Marked) → Advancing n (firstOf k l) (fresh p (runAt n (balanced d n r) p)) ms
+      → map markedSays ms ≡ plainTrail n r (balanced d n r) (length ms) p 0 0
 
 abbrev pub Demand3 : Type 0
 Demand3 =

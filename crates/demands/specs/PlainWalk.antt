@@ -1,30 +1,23 @@
 -- The plain walk (document 01): by the run list's function and the starts of the balanced list, with no holders.
 use Prim.Native.Nat.{ℕ, zero, suc, _+_}
-use mathlib.Core.Bool.{true, false, _&&_}
+use mathlib.Core.Bool.{true, false}
 use mathlib.Core.List.{List, [], _∷_, _++_}
-use lib.ListN.{length}
 use lib.Dec.{ltb, leb}
 use Rattle.runs.specs.Outcome.{Outcome, done, refused, test, judge, _then_else_}
-use Rattle.runs.specs.Search.{keep}
-use Rattle.runs.specs.Runs.{Runs, imageOf, runAt, mapOf}
+use Rattle.runs.specs.Runs.{Runs, runAt, mapOf}
+use Rattle.tables.specs.Bookmark.{Marking, marking}
+use Rattle.tables.specs.Function.{passedFrom}
 use Rattle.tables.specs.declared.Step.{Step}
 use Rattle.tables.specs.declared.Bookmark.{Bookmark}
-use Rattle.demands.specs.Calls.{Call, find, move, moves, Reply, found, moved, Marking, marking}
+use Rattle.demands.specs.Calls.{Call, find, move, moves, Reply, found, moved}
 
 -- r is the accepted run list, t the balanced list T. The walk stands at p; "x is always T's interval that has p".
 module _ (n : ℕ) (r t : Runs) where
-  -- T's starts "above x's image and not above q"
-  abbrev pub startsBetween : ℕ → ℕ → List ℕ
-  startsBetween x q = keep (λ s. ltb (imageOf t x) s && leb s q) (t .starts)
-
-  -- A move takes p to q; "it answers q, T's interval that has q, and as count the number" of those starts.
+  -- A move takes p to q; "it answers q, T's interval that has q, and as count the number of T's starts above x's image
+  -- and not above q" (passedFrom).
   unfoldable pub plainMove : ℕ → Step
   plainMove p =
-      record {
-        place = mapOf n r p;
-        interval = runAt n t (mapOf n r p);
-        count = length (startsBetween (runAt n t p) (mapOf n r p));
-      }
+      record { place = mapOf n r p; interval = runAt n t (mapOf n r p); count = passedFrom n t p (mapOf n r p) }
 
   -- "A repeated move makes m such moves. It answers the last place, its interval and the sum of the counts."
   unfoldable pub plainMoves : ℕ → ℕ → Step

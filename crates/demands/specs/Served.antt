@@ -4,10 +4,11 @@ use mathlib.Core.List.{List, [], _∷_}
 use Rattle.runs.specs.Outcome.{Outcome, done, refused}
 use Rattle.tables.specs.Tables.{Tables}
 use Rattle.tables.specs.Move.{findOf, moveOf, movesOf}
-use Rattle.tables.specs.Bookmark.{bookmarkOf, markAfter}
+use Rattle.tables.specs.Bookmark.{Advances, Marking, markingOf}
 use Rattle.tables.specs.declared.Step.{Step}
 use Rattle.tables.specs.declared.Bookmark.{Bookmark}
-use Rattle.demands.specs.Calls.{Call, find, move, moves, Reply, found, moved, Marking, marking}
+use Rattle.tables.specs.declared.Marked.{Marked}
+use Rattle.demands.specs.Calls.{Call, find, move, moves, Reply, found, moved}
 
 -- What a call leaves to the next: the place and the interval that it gave, "a find's place with the interval found, or
 -- after a refusal the ones before".
@@ -40,5 +41,10 @@ module _ (n : ℕ) (t : Tables) where
   -- "A bookmark's moves stand in a list of their own": k of them
   unfoldable pub servedTrail : ℕ → Bookmark → List Marking
   servedTrail zero b = []
-  servedTrail (suc k) b =
-      let a = bookmarkOf n t b in marking a (markAfter b a) ∷ servedTrail k (markAfter b a)
+  servedTrail (suc k) b = markingOf n t b ∷ servedTrail k (markingOf n t b .bookmark)
+
+  -- Calls of `advance` on one lent bookmark: each meets its contract from the bookmark that the one before left, since
+  -- "only they write the bookmark". Of each call, the answer and the bookmark at its exit.
+  abbrev pub Advancing : Bookmark → List Marked → Type 0
+  Advancing b [] = Unit {0}
+  Advancing b (m ∷ ms) = Advances n t b (m .moved) (m .bookmark) × Advancing (m .bookmark) ms

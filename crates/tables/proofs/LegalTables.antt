@@ -78,14 +78,14 @@ module _ (n : ℕ) (r : Runs) (c : Legal n r) (few : countOf r ≤ maxIntervals)
   -- a move gives the function's value, the run that has it, and the starts above the image and not above it
   module _ (p : ℕ) (h : p < n) where
     legal-passed : leading (λ s. leb s (mapOf n r p)) (drop (suc (runAt n r (imageOf r (runAt n r p)))) (r .starts))
-        ≡ passedFrom n r p
+        ≡ passedFrom n r p (mapOf n r p)
     legal-passed =
         let i = imageOf r (runAt n r p) in
         let j = map-in n r c p h in
         let w = walk-passed n r (homes n r c) i (mapOf n r p) (j .0) (j .2) in
         omega (arith, walk-count n r (homes n r c) i (mapOf n r p) (j .0) (j .2), above-to i (mapOf n r p) (r .starts))
 
-    legal-interval : runAt n r (imageOf r (runAt n r p)) + passedFrom n r p ≡ runAt n r (mapOf n r p)
+    legal-interval : runAt n r (imageOf r (runAt n r p)) + passedFrom n r p (mapOf n r p) ≡ runAt n r (mapOf n r p)
     legal-interval =
         let i = imageOf r (runAt n r p) in
         let j = map-in n r c p h in
@@ -96,8 +96,8 @@ module _ (n : ℕ) (r : Runs) (c : Legal n r) (few : countOf r ≤ maxIntervals)
         let x = own p h .0 in
         let b = whole n (tablesOf n r) (runAt n r p) p (legal-held (runAt n r p) x) (map-in n r c p h .2) in
         let h = sym (holder-is (runAt n r p) x) in
-        sym (advance-to n (tablesOf n r) (runAt n r p) p b _ (mapOf n r p) (passedFrom n r p) h refl (rw add-one (sym legal-passed)))
-        ∙ ap (λ (y : ℕ). done (record { place = mapOf n r p; interval = y; count = passedFrom n r p })) legal-interval
+        sym (advance-to n (tablesOf n r) (runAt n r p) p b _ (mapOf n r p) (stepFrom n r p .count) h refl (rw add-one (sym legal-passed)))
+        ∙ ap (λ (y : ℕ). done (record { place = mapOf n r p; interval = y; count = stepFrom n r p .count })) legal-interval
 
     pub legal-move : moveOf n (tablesOf n r) (runAt n r p) p ≡ done (stepFrom n r p)
     legal-move = move-located n (tablesOf n r) (runAt n r p) p (legal-located p h) ∙ legal-advance
@@ -122,7 +122,7 @@ module _ (n : ℕ) (r : Runs) (c : Legal n r) (few : countOf r ≤ maxIntervals)
       sym (bookmark-on n (tablesOf n r) b s (sym m))
 
   pub legal-bookmark-on : (b : Bookmark) → b .place < n → b .interval ≡ runAt n r (b .place)
-      → b .moves + 1 < 2 ^ 32 → b .passed + passedFrom n r (b .place) < 2 ^ 64
+      → b .moves + 1 < 2 ^ 32 → b .passed + stepFrom n r (b .place) .count < 2 ^ 64
       → bookmarkOf n (tablesOf n r) b ≡ done (stepFrom n r (b .place))
   legal-bookmark-on b h e l m =
       let s = stepFrom n r (b .place) in

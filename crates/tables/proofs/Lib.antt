@@ -1,10 +1,11 @@
 -- The laws that callers cite, and what the proofs of this crate's functions do.
 mod Leading
 mod Passing
-pub mod Steps
+mod Steps
 pub mod Moves
 mod Sources
 mod Stretches
 pub mod Marks
+pub mod Markings
 pub mod Walks
 pub mod LegalTables

@@ -15,7 +15,7 @@ use Rattle.tables.specs.Bookmark.{spent, bookmarkOf, markAfter, Advances
 use Rattle.tables.specs.Passed.{markOf}
 use Rattle.tables.specs.declared.Step.{Step}
 use Rattle.tables.specs.declared.Bookmark.{Bookmark}
-use Rattle.tables.specs.declared.Marked.{Marked}
+use Rattle.tables.specs.declared.Moved.{Moved}
 use Rattle.tables.proofs.Passing.{or-left, or-right}
 
 -- 13
@@ -63,9 +63,9 @@ unfolding markAfter
 after-refused b o k p e = rw (← e)
 
 -- what is promised of a bookmark's move says so
-pub bookmark-kept : (n : ℕ) (t : Tables) (b : Bookmark) (m : Marked) → Advances n t b m
-    → (k p : ℕ) → movedSays (m .moved) ≡ refused k p → m .bookmark ≡ b
-bookmark-kept n t b m a k p e = a .mark ∙ sym (after-refused b (bookmarkOf n t b) k p (sym e ∙ a .says))
+pub bookmark-kept : (n : ℕ) (t : Tables) (b : Bookmark) (m : Moved) (left : Bookmark) → Advances n t b m left
+    → (k p : ℕ) → movedSays m ≡ refused k p → left ≡ b
+bookmark-kept n t b m left a k p e = a .mark ∙ sym (after-refused b (bookmarkOf n t b) k p (sym e ∙ a .says))
 
 pub after-done : (b : Bookmark) (o : Outcome Step) (s : Step) → done s ≡ o
     → record { place = s .place; interval = s .interval; moves = b .moves + 1; passed = b .passed + s .count }

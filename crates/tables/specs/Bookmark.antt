@@ -1,14 +1,15 @@
 -- A bookmark's move (document 01, "Walking").
-use Prim.Native.Nat.{ℕ, _+_, _^_}
+use Prim.Native.Nat.{ℕ, zero, suc, _+_, _^_}
 use mathlib.Core.Path.{_≡_}
 use mathlib.Core.Bool.{Bool, _||_}
 use mathlib.Core.List.{List, [], _∷_, _++_}
 use lib.Dec.{leb}
 use Rattle.runs.specs.Outcome.{Outcome, done, refused, Test, test, judge}
 use Rattle.tables.specs.Tables.{Tables}
-use Rattle.tables.specs.Move.{movedSays, stepOf, moveTests}
+use Rattle.tables.specs.Move.{movedSays, stepOf, moveTests, movesOf}
 use Rattle.tables.specs.declared.Step.{Step}
 use Rattle.tables.specs.declared.Bookmark.{Bookmark}
+use Rattle.tables.specs.declared.Moved.{Moved}
 use Rattle.tables.specs.declared.Marked.{Marked}
 
 -- "A fresh one has both counters 0."
@@ -33,7 +34,26 @@ markAfter b (done s) =
     record { place = s .place; interval = s .interval; moves = b .moves + 1; passed = b .passed + s .count }
 markAfter b (refused k p) = b
 
--- what a bookmark's move promises: the answer, and the bookmark that comes back
-pub record Advances (n : ℕ) (t : Tables) (b : Bookmark) (m : Marked) : Type 0 where
-  pub says : movedSays (m .moved) ≡ bookmarkOf n t b
-  pub mark : m .bookmark ≡ markAfter b (bookmarkOf n t b)
+-- what a bookmark's move promises: the answer, and the bookmark that it leaves of b
+pub record Advances (n : ℕ) (t : Tables) (b : Bookmark) (m : Moved) (left : Bookmark) : Type 0 where
+  pub says : movedSays m ≡ bookmarkOf n t b
+  pub mark : left ≡ markAfter b (bookmarkOf n t b)
+
+-- an answer to a bookmark's move, and the bookmark after it
+pub record Marking : Type 0 where
+  pub answer : Outcome Step
+  pub bookmark : Bookmark
+
+abbrev pub marking : Outcome Step → Bookmark → Marking
+marking a b = record { answer = a; bookmark = b }
+
+abbrev pub markedSays : Marked → Marking
+markedSays m = marking (movedSays (m .moved)) (m .bookmark)
+
+unfoldable pub markingOf : ℕ → Tables → Bookmark → Marking
+markingOf n t b = marking (bookmarkOf n t b) (markAfter b (bookmarkOf n t b))
+
+-- m moves of one bookmark: the last answer, and the bookmark then. None answer as a repeated move of none does.
+unfoldable pub markingsOf : ℕ → Tables → ℕ → Bookmark → Marking
+markingsOf n t zero b = marking (movesOf n t 0 (b .interval) (b .place)) b
+markingsOf n t (suc m) b = markingOf n t (markingsOf n t m b .bookmark)

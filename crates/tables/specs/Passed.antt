@@ -1,10 +1,10 @@
 -- What is known once tests have passed, and what is left of a call then: the private functions' contracts cite these.
 use Prim.Native.Nat.{ℕ, _≤_, _<_}
 use mathlib.Core.Path.{_≡_}
-use mathlib.Core.Bool.{false}
+use mathlib.Core.Bool.{Bool, true, false}
 use mathlib.Core.List.{[], _∷_}
 use lib.ListN.{length}
-use Rattle.runs.specs.Outcome.{Outcome, test, judge}
+use Rattle.runs.specs.Outcome.{Outcome, done, refused, test, judge}
 use Rattle.runs.specs.Runs.{startOf, endOf}
 use Rattle.tables.specs.Tables.{Tables, sizeOf, maxIntervals, misshapen, brokenTest}
 use Rattle.tables.specs.Move.{movedSays, stepOf}
@@ -57,3 +57,8 @@ markOf b s = judge (test 13 (spent b s) 0 ∷ []) s
 pub record Marks (b : Bookmark) (s : Step) (m : Marked) : Type 0 where
   pub says : movedSays (m .moved) ≡ markOf b s
   pub mark : m .bookmark ≡ markAfter b (markOf b s)
+
+-- whether a call is refused
+abbrev pub isRefused : {A : Type 0} → Outcome A → Bool
+isRefused (done a) = false
+isRefused (refused k p) = true

@@ -5,8 +5,10 @@ use super::Moved;
 use super::Step;
 use runs::Refusal;
 ghost use mathlib.Core.Path.{_≡_};
-ghost use Rattle.tables.specs.Bookmark.{spent};
-ghost use Rattle.tables.specs.Passed.{Marks};
+ghost use Rattle.tables.specs.Tables.{tables};
+ghost use Rattle.tables.specs.Bookmark.{spent, Advances};
+ghost use Rattle.tables.specs.Move.{movedSays};
+ghost use Rattle.tables.specs.Passed.{Marks, isRefused};
 
 // Test 13: whether a counter would pass its width.
 fn is_spent(b: Bookmark, s: Step) -> bool
@@ -36,5 +38,32 @@ pub(crate) fn mark(b: Bookmark, s: Step) -> Marked
             passed: b.passed + s.count,
         },
         moved: Moved::To(s),
+    }
+}
+
+// A bookmark's move by one who owns the bookmark: it is lent to `advance`, and comes back with the answer.
+pub(crate) fn advance_once(
+    n: u32,
+    starts: &[u32],
+    images: &[u32],
+    holders: &[u32],
+    b: Bookmark,
+) -> Marked
+    ensures { λ r. ⌜ Advances n (tables (now (starts .entry)) (now (images .entry)) (now (holders .entry))) b (r .moved) (r .bookmark) ⌝ }
+{
+    let mut lent = b;
+    let moved = super::advance(n, starts, images, holders, &mut lent);
+    Marked {
+        bookmark: lent,
+        moved,
+    }
+}
+
+pub(crate) fn is_refused(m: Moved) -> bool
+    ensures { λ r. ⌜ r ≡ isRefused (movedSays m) ⌝ }
+{
+    match m {
+        Moved::To(_) => false,
+        Moved::Refused(_) => true,
     }
 }

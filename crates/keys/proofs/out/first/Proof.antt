@@ -4,8 +4,6 @@ use lib.Seq.{length-take-le}
 use borrow.Author.Needs.{needs}
 use Rattle.keys.proofs.out.first.Statement.{statement}
 use Rattle.keys.proofs.out.first.Tie as tie
-use Rattle.keys.proofs.out.first.Reads as reads
-use Rattle.keys.proofs.out.first.Lts as lts
 
 returns : tie.Need-returns
 returns c = search needs

@@ -4,8 +4,6 @@ use lib.Seq.{length-take-le}
 use borrow.Author.Needs.{needs}
 use Rattle.keys.proofs.out.first_bytes.Statement.{statement}
 use Rattle.keys.proofs.out.first_bytes.Tie as tie
-use Rattle.keys.proofs.out.first_bytes.Reads as reads
-use Rattle.keys.proofs.out.first_bytes.Lts as lts
 
 returns : tie.Need-returns
 returns c = search needs
