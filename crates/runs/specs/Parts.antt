@@ -11,7 +11,7 @@ use Rattle.runs.specs.Refusal.{checkedSays}
 use Rattle.runs.specs.Search.{firstBelow}
 use Rattle.runs.specs.Runs.{Runs, countOf, startOf, imageOf, endOf}
 use Rattle.runs.specs.Legal.{ranked}
-use Rattle.runs.specs.Check.{overlaps, checkOf}
+use Rattle.runs.specs.Check.{maxRuns, overlaps, checkOf}
 use Rattle.runs.specs.Inverse.{inverseRuns}
 use Rattle.runs.specs.declared.Checked.{Checked}
 
@@ -23,6 +23,10 @@ lowestOf p r = firstBelow (p r) (countOf r)
 pub record Lasting (n : ℕ) (r : Runs) : Type 0 where
   pub paired : length (r .images) ≡ countOf r
   pub lasting : (x : ℕ) → x < countOf r → startOf r x < endOf n r x
+
+-- a table has an entry for each run, where there are not too many
+abbrev pub Roomy : List ℕ → List ℕ → Type 0
+Roomy starts table = length starts ≤ maxRuns → length starts ≤ length table
 
 -- the first entries of `order` are the runs in rising order of image
 pub record Ordered (r : Runs) (order : List ℕ) : Type 0 where
