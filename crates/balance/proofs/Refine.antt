@@ -5,9 +5,9 @@ use native.Mathlib.Omega.{arith}
 use mathlib.Core.List.{map}
 use lib.ListN.{length, getD, length-map}
 use lib.Seq.{ext-getD}
+use Rattle.order.proofs.Laws.{getD-map}
 use Rattle.runs.specs.Legal.{Legal}
 use Rattle.runs.specs.Runs.{Runs, countOf, startOf, imageOf, endOf, imageEnd, mapOf}
-use Rattle.runs.proofs.Mapped.{getD-map}
 use Rattle.runs.proofs.Legality.{Parted, homes, strict-steps, end-next, home, home-one, map-at}
 
 -- interval y of q is a piece of interval o of r

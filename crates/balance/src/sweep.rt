@@ -2,16 +2,13 @@
 use super::Mark;
 use super::marks;
 use super::pieces;
-ghost use mathlib.Core.Path.{_≡_};
-ghost use mathlib.Core.List.{map};
-ghost use Prim.Native.Nat.{_≤_, _<_};
+ghost use Prim.Native.Nat.{_≤_};
 ghost use lib.ListN.{length};
-ghost use Rattle.order.specs.Order.{All, keyOf};
 ghost use Rattle.runs.specs.Legal.{Legal};
 ghost use Rattle.runs.specs.Runs.{runs};
 ghost use Rattle.runs.specs.Check.{maxRuns};
 ghost use Rattle.balance.specs.Balance.{boundOf};
-ghost use Rattle.balance.specs.Cuts.{Ranked, BalancingCuts, over};
+ghost use Rattle.balance.specs.Cuts.{Ranked, BalancingCuts};
 
 // Cuts pieces until none is heavy, each time the heavy one with the lowest image: the cuts come to stand in
 // `working`, in rising order. Answers how many there are. Before `q` only the piece at `p` may be heavy, and a cut
@@ -61,18 +58,6 @@ fn sweep(
     cuts
 }
 
-// Writes the key of each index in `order` to `to`.
-fn gather(key: &[u32], order: &[u32], to: &mut [u32])
-    requires { ⌜ All (λ i. i < length (now key)) (now order) × (length (now order) ≤ length (now to)) ⌝ }
-    ensures { λ _. ⌜ now (to .exit) ≡ over (map (keyOf (now (key .entry))) (now (order .entry))) (now (to .entry)) ⌝ }
-{
-    let mut j = 0;
-    while j < order.len() {
-        to[j] = key[order[j] as usize];
-        j += 1;
-    }
-}
-
 // The cuts that balance the list, in rising order in `working`. Answers how many there are.
 pub(crate) fn balancing_cuts(
     n: u32,
@@ -89,8 +74,8 @@ pub(crate) fn balancing_cuts(
     let mut order: [u32; runs::MAX_RUNS] = [0; runs::MAX_RUNS];
     let mut ranked: [u32; runs::MAX_RUNS] = [0; runs::MAX_RUNS];
     order::sort_by_key(&mut order, &mut ranked, images);
+    order::gather(images, &order, &mut ranked);
     let k = images.len();
-    gather(images, &order[..k], &mut ranked);
     sweep(
         n,
         starts,

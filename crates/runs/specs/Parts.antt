@@ -1,9 +1,9 @@
 -- What the private parts of `check` and `inverse_list` ask and promise.
-use Prim.Native.Nat.{ℕ, suc, _≤_, _<_}
+use Prim.Native.Nat.{ℕ, suc, _<_}
 use mathlib.Core.Path.{_≡_}
 use mathlib.Core.Bool.{Bool, _&&_, _||_}
 use mathlib.Core.List.{List, [], _∷_}
-use lib.ListN.{length, getD, take}
+use lib.ListN.{length, take}
 use lib.Dec.{ltb}
 use Rattle.order.specs.Order.{orderOf}
 use Rattle.runs.specs.Outcome.{Outcome, Test, done, test, judge, mapDone, filled}
@@ -48,12 +48,6 @@ pub record OverlapFound (n : ℕ) (r : Runs) (order : List ℕ) (x : ℕ) : Type
 pub record CheckedInto (n : ℕ) (r : Runs) (order : List ℕ) (answer : Checked) : Type 0 where
   pub says : checkedSays answer ≡ checkOf n r
   pub ordered : checkOf n r ≡ done tt → Ordered r order
-
--- what `gather` asks: room, and indexes
-pub record Gathers (from order to : List ℕ) : Type 0 where
-  pub room : length from ≤ length to
-  pub indexes : length from ≤ length order
-  pub below : (t : ℕ) → t < length from → getD order t 0 < length from
 
 -- test 8 by itself, and what is written where it passes
 abbrev pub roomTest : Runs → List ℕ → List ℕ → List Test

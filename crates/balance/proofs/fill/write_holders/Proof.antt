@@ -1,27 +1,29 @@
 -- `write_holders` meets its contract. The invariant: the holders of the first x images are written.
-use Prim.Native.Nat.{ℕ, suc, _+_, _-_, _≤_}
-use mathlib.Core.Path.{_≡_, refl, sym, ap, _∙_}
-use mathlib.Core.List.{List, map}
+use Prim.Native.Nat.{ℕ, suc, _+_, _-_}
+use mathlib.Core.Path.{_≡_, sym, _∙_}
+use mathlib.Core.List.{map}
 use native.Mathlib.Omega.{arith}
-use lib.ListN.{length, getD, set, length-set, length-map}
-use Rattle.order.proofs.Laws.{strict-sorted, count-le-length}
+use lib.ListN.{length, getD, length-map}
+use Rattle.order.proofs.Laws.{strict-sorted, count-le-length, getD-map}
 use Rattle.runs.specs.Runs.{runs, runAt}
 use Rattle.runs.proofs.Legality.{homes}
-use Rattle.runs.proofs.Mapped.{getD-map}
-use Rattle.balance.proofs.Filling.{written, written-more, written-all}
+use Rattle.order.proofs.Filling.{Filling, filling-none, filling-length, filling-next, filling-all}
 use Rattle.balance.proofs.Writing.{legal-count, image-below, holder-counted}
 use Rattle.balance.proofs.fill.write_holders.Statement.{statement}
 use Rattle.balance.proofs.fill.write_holders.Tie as tie
 
 abbrev Inv-loop : tie.InvT-loop
-Inv-loop n starts images to₀ x₀ to x = (x ≤ length images) × (length to ≡ length to₀)
-    × (to ≡ written (map (runAt n (runs starts images)) images) x to₀)
+Inv-loop n starts images to₀ x₀ to x = Filling (map (runAt n (runs starts images)) images) to₀ to x
 
 abbrev μ-loop : tie.MeasureT-loop
 μ-loop n starts images to₀ x₀ to x = length images - x
 
+abbrev holderOf : tie.Start Inv-loop μ-loop → ℕ → ℕ
+holderOf a = runAt (a .args .n) (runs (a .args .starts .now) (a .args .images .now))
+
 loop-holds : tie.Need-loop-holds Inv-loop μ-loop
-loop-holds c = (omega arith, refl, refl)
+loop-holds c = let a = c .before .before .before in
+    filling-none _ _ (omega (arith, length-map (a .args .images .now) (holderOf a), a .pre .0 .paired, a .pre .1))
 
 mul-count-below : tie.Need-mul-count-below Inv-loop μ-loop
 mul-count-below c = omega arith
@@ -75,11 +77,13 @@ mul-to c = omega (
 )
 
 slice-write-to : tie.Need-slice-write-to Inv-loop μ-loop
-slice-write-to c = omega (
-  arith,
-  c .before .before .before .before .before .before .before .pre .1,
-  c .before .before .before .before .before .before .before .pre .0 .paired,
-)
+slice-write-to c = let l = c .before .before .before .loop in
+    omega (
+      arith,
+      c .before .before .before .before .before .before .before .pre .1,
+      c .before .before .before .before .before .before .before .pre .0 .paired,
+      filling-length _ _ (l .to) (l .x) (l .inv),
+    )
 
 add-x : tie.Need-add-x Inv-loop μ-loop
 add-x c = omega arith
@@ -89,34 +93,19 @@ loop-less c = omega arith
 
 loop-again : tie.Need-loop-again Inv-loop μ-loop
 loop-again c =
-    let a = c .before .before .before .before .before .before .before .args in
+    let a = c .before .before .before .before .before .before .before in
     let l = c .before .before .before .loop in
-    let r = runs (a .starts .now) (a .images .now) in
-    let v = c .count-below .result - 1 in
-    let m = map (runAt (a .n) r) (a .images .now) in (
-      omega arith,
-      length-set (l .to) (l .x) v ∙ l .inv .1,
-      ap (λ (t : List ℕ). set t (l .x) v) (l .inv .2)
-          ∙ written-more m (a .to .now) (l .x) v (omega (arith, length-map (a .images .now) (runAt (a .n) r)))
-          (omega (
-            arith,
-            c .before .before .before .before .before .before .before .pre .1,
-            c .before .before .before .before .before .before .before .pre .0 .paired,
-          ))
-          (omega (arith, counted c)
-          ∙ sym (getD-map (runAt (a .n) r) (a .images .now) (l .x) 0 (c .before .before .loop-test .taken))),
-    )
+    filling-next _ _ _ _ (l .inv) (omega (arith, length-map (a .args .images .now) (holderOf a)))
+    (c .count-below .result - 1)
+    (omega (arith, counted c)
+    ∙ sym (getD-map (holderOf a) (a .args .images .now) (l .x) 0 (c .before .before .loop-test .taken)))
 
 same-length : tie.Need-same-length Inv-loop μ-loop
-same-length c = c .before .loop .inv .1
+same-length c = filling-length _ _ _ _ (c .before .loop .inv)
 
 returns : tie.Need-returns Inv-loop μ-loop
-returns c =
-    let a = c .before .before .before .before .before .args in
-    let l = c .before .loop in
-    let r = runs (a .starts .now) (a .images .now) in
-    l .inv .2 ∙ written-all (map (runAt (a .n) r) (a .images .now)) (a .to .now) (l .x)
-    (omega (arith, length-map (a .images .now) (runAt (a .n) r)))
+returns c = let a = c .before .before .before .before .before in
+    filling-all _ _ _ _ (c .before .loop .inv) (omega (arith, length-map (a .args .images .now) (holderOf a)))
 
 pub write-holders-spec : {M : Type 1} → statement M
 write-holders-spec =

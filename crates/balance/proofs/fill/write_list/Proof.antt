@@ -8,7 +8,7 @@ use Rattle.runs.specs.Runs.{Runs, runs}
 use Rattle.runs.proofs.Searches.{getD-default}
 use Rattle.balance.specs.Cuts.{merged, At, Has}
 use Rattle.balance.proofs.Merged.{merged-length, at-sum, at-own}
-use Rattle.balance.proofs.Writing.{Writing, has-passed, writing-start, writing-next, writing-end}
+use Rattle.balance.proofs.Writing.{Writing, has-passed, writing-start, writing-next, writing-kept, writing-end}
 use Rattle.balance.proofs.fill.write_list.Statement.{statement}
 use Rattle.balance.proofs.fill.write_list.Tie as tie
 
@@ -28,8 +28,12 @@ abbrev mergedOf : tie.Start Inv-loop μ-loop → List ℕ
 mergedOf a = merged (a .args .starts .now) (a .args .cuts .now)
 
 loop-holds : tie.Need-loop-holds Inv-loop μ-loop
-loop-holds c = writing-start _ (listOf (c .before .before .before .before .before)) _ _ _
+loop-holds c = let e = merged-length (c .before .before .before .before .before .args .starts .now)
+    (c .before .before .before .before .before .args .cuts .now) in
+    writing-start _ (listOf (c .before .before .before .before .before)) _ _ _
     (c .before .before .before .before .before .pre .1)
+    (omega (arith, c .before .before .before .before .before .pre .2))
+    (omega (arith, c .before .before .before .before .before .pre .3))
 
 add-loop : tie.Need-add-loop Inv-loop μ-loop
 add-loop c = omega (
@@ -37,6 +41,13 @@ add-loop c = omega (
   c .before .before .before .before .before .before .pre .2,
   c .before .before .before .before .before .before .good,
 )
+
+-- the tables are as long as they were
+kept : (c : tie.At-loop Inv-loop μ-loop) → let a = c .before .before .before .before .before .before .args in
+    (length (c .loop .to-starts) ≡ length (a .to-starts .now))
+    × (length (c .loop .to-images) ≡ length (a .to-images .now))
+kept c = writing-kept _ (listOf (c .before .before .before .before .before .before)) _ _ _
+    (c .before .before .before .before .before .before .pre .1) _ _ _ _ (c .loop .inv)
 
 -- an entry is left
 some : (c : tie.In-loop Inv-loop μ-loop)
@@ -113,7 +124,7 @@ slice-write-to-starts c =
       arith,
       some (c .before .before),
       c .before .before .before .before .before .before .before .before .before .pre .2,
-      c .before .before .before .loop .inv .starts-kept,
+      kept (c .before .before .before) .0,
     )
 
 sub-image-of : tie.Need-sub-image-of Inv-loop μ-loop
@@ -138,7 +149,7 @@ slice-write-to-images c = omega (
   arith,
   some (c .before .before .before .before),
   c .before .before .before .before .before .before .before .before .before .before .before .pre .3,
-  c .before .before .before .before .before .loop .inv .images-kept,
+  kept (c .before .before .before .before .before) .1,
 )
 
 add-m : tie.Need-add-m Inv-loop μ-loop
@@ -153,29 +164,17 @@ loop-less : tie.Need-loop-less Inv-loop μ-loop
 loop-less c = omega arith
 
 loop-again : tie.Need-loop-again Inv-loop μ-loop
-loop-again c =
-    let e = merged-length (c .before .before .before .before .before .before .before .before .before .before .before
-    .args .starts .now) (c .before .before .before .before .before .before .before .before .before .before .before
-    .args .cuts .now) in
-    writing-next _ (listOf (c .before .before .before .before .before .before .before .before .before .before
-    .before)) _ _ _ (c .before .before .before .before .before .before .before .before .before .before .before
-    .pre .1) _ _ _ _ (c .before .before .before .before .before .loop .inv) _ _ _
-    (some (c .before .before .before .before))
-    (omega (
-      arith,
-      c .before .before .before .before .before .before .before .before .before .before .before .pre
-          .2,
-    )) (omega (
-      arith,
-      c .before .before .before .before .before .before .before .before .before .before .before
-          .pre .3,
-    )) (passed (c .before .before)) (entry (c .before .before .before)) (c .image-of .ensures)
+loop-again c = writing-next _
+    (listOf (c .before .before .before .before .before .before .before .before .before .before .before)) _ _ _
+    (c .before .before .before .before .before .before .before .before .before .before .before .pre .1) _ _ _ _
+    (c .before .before .before .before .before .loop .inv) _ _ _ (some (c .before .before .before .before))
+    (passed (c .before .before)) (entry (c .before .before .before)) (c .image-of .ensures)
 
 same-length : tie.Need-same-length Inv-loop μ-loop
-same-length c = c .before .loop .inv .starts-kept
+same-length c = kept (c .before) .0
 
 same-length-2 : tie.Need-same-length-2 Inv-loop μ-loop
-same-length-2 c = c .before .loop .inv .images-kept
+same-length-2 c = kept (c .before) .1
 
 returns : tie.Need-returns Inv-loop μ-loop
 returns c = writing-end _ (listOf (c .before .before .before .before .before .before .before)) _ _ _

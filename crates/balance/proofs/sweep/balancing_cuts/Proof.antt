@@ -1,13 +1,13 @@
 -- `balancing_cuts` meets its contract: the sweep, with the order by image that it asks for.
 use borrow.Author.Needs.{needs}
-use Prim.Native.Nat.{ℕ, _≤_, _<_}
-use mathlib.Core.Path.{_≡_, sym, ap, _∙_, subst}
+use Prim.Native.Nat.{ℕ, _≤_}
+use mathlib.Core.Path.{_≡_, sym, ap, _∙_}
 use mathlib.Core.List.{List, map}
 use native.Mathlib.Omega.{arith}
-use lib.ListN.{length, take, length-map}
-use lib.Seq.{length-take-le, take-at}
-use Rattle.order.specs.Order.{All, upTo, keyOf, orderOf}
-use Rattle.order.proofs.Laws.{order-length, all-sort, up-below}
+use lib.ListN.{length, getD, take, length-map}
+use lib.Seq.{length-take-le, getD-take, take-at}
+use Rattle.order.specs.Order.{keyOf, orderOf}
+use Rattle.order.proofs.Laws.{order-length, order-below}
 use Rattle.balance.proofs.sweep.balancing_cuts.Statement.{statement}
 use Rattle.balance.proofs.sweep.balancing_cuts.Tie as tie
 
@@ -58,11 +58,8 @@ slice-aggregate-sort-by-key-2 c = search needs
 sort-by-key-requires : tie.Need-sort-by-key-requires
 sort-by-key-requires c κs = search needs
 
-array-share-prefix-order : tie.Need-array-share-prefix-order
-array-share-prefix-order c = search needs
-
 slice-aggregate-gather : tie.Need-slice-aggregate-gather
-slice-aggregate-gather c = sym (ordered (c .before .before .before))
+slice-aggregate-gather c = search needs
 
 slice-aggregate-gather-2 : tie.Need-slice-aggregate-gather-2
 slice-aggregate-gather-2 c = search needs
@@ -70,20 +67,25 @@ slice-aggregate-gather-2 c = search needs
 gather-requires : tie.Need-gather-requires
 gather-requires c κs =
     let i = imagesOf (c .before .before .before .before .before .before .before .before .before .before) in
-    let P : ℕ → Type 0 = λ x. x < length i in (
-      subst (All P) (sym (sorted (c .before .before .before .before) .1))
-          (all-sort P (keyOf i) (upTo (length i)) (up-below (length i))),
-      omega (
+    let s = c .before .before .before .before .sort-by-key in
+    record {
+      room = omega (
         arith,
-        c .before .before .before .before .sort-by-key .kept .1 .0,
+        s .kept .1 .0,
         c .before .before .before .before .before .before .before .before .before .before .pre .0 .paired,
         c .before .before .before .before .before .before .before .before .before .before .pre .1,
-        ordered (c .before .before .before .before),
-      ),
-    )
+      );
+      indexes = sorted (c .before .before .before .before) .0;
+      below = λ t h. omega (
+        arith,
+        getD-take (length i) (s .last .0) t 0 h,
+        ap (λ (l : List ℕ). getD l t 0) (sorted (c .before .before .before .before) .1),
+        order-below (keyOf i) (length i) t h,
+      );
+    }
 
-array-share-prefix-order-2 : tie.Need-array-share-prefix-order-2
-array-share-prefix-order-2 c = search needs
+array-share-prefix-order : tie.Need-array-share-prefix-order
+array-share-prefix-order c = search needs
 
 slice-aggregate-sweep : tie.Need-slice-aggregate-sweep
 slice-aggregate-sweep c = sym (ordered (c .before .before .before .before .before .before .before))
@@ -113,8 +115,10 @@ sweep-requires c κs =
     .before .before .pre in (
       record {
         legal = a .0;
-        order-is = sorted (c .before .before .before .before .before .before .before .before .before) .1;
-        ranked-is = gathered (c .before .before .before .before);
+        order-is =
+            sorted (c .before .before .before .before .before .before .before .before .before) .1;
+        ranked-is =
+            gathered (c .before .before .before .before);
       },
       a .2,
       a .3,
@@ -134,11 +138,10 @@ balancing-cuts-spec =
     slice-aggregate-sort-by-key
     slice-aggregate-sort-by-key-2
     sort-by-key-requires
-    array-share-prefix-order
     slice-aggregate-gather
     slice-aggregate-gather-2
     gather-requires
-    array-share-prefix-order-2
+    array-share-prefix-order
     slice-aggregate-sweep
     array-share-prefix-ranked
     slice-aggregate-sweep-2
