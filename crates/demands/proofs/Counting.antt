@@ -1,19 +1,19 @@
 -- What the moves of a plain walk count: if each passes at most b starts, so does every move of every list of calls, and
 -- all counts together are at most b for each move.
-use Prim.Native.Nat.{ℕ, zero, suc, _+_, _*_, _≤_, _<_}
-use mathlib.Core.Path.{_≡_, refl, sym, ap, _∙_}
+use Prim.Native.Nat.{ℕ, zero, suc, _*_, _≤_, _<_}
+use mathlib.Core.Path.{_≡_, refl, _∙_}
 use mathlib.Core.Bool.{Bool, true, false}
-use mathlib.Core.List.{List, [], _∷_, _++_}
+use mathlib.Core.List.{List, [], _∷_}
 use native.Mathlib.Omega.{arith}
 use lib.ListN.{length, length-append}
 use lib.Dec.{ltb}
 use borrow.Author.Tests.{ltb-true}
 use Rattle.order.specs.Order.{All, sumOf}
 use Rattle.order.proofs.Laws.{all-append, sum-append}
-use Rattle.runs.specs.Outcome.{Outcome, _then_else_}
-use Rattle.runs.specs.Runs.{Runs, runAt, mapOf}
-use Rattle.demands.specs.Calls.{Call, find, move, moves, allMoves, allCounts, countIn, movesIn}
-use Rattle.demands.specs.PlainWalk.{plainMove, plainMoves, plainFind, plainWalk, movesCounts, walkCounts}
+use Rattle.runs.specs.Outcome.{_then_else_}
+use Rattle.runs.specs.Runs.{Runs, mapOf}
+use Rattle.demands.specs.Calls.{Call, find, move, moves, allMoves, allCounts}
+use Rattle.demands.specs.PlainWalk.{plainMove, plainMoves, plainWalk, movesCounts, walkCounts}
 use Rattle.demands.proofs.Serving.{move-below, moves-below}
 
 module _ (n : ℕ) (r t : Runs) where

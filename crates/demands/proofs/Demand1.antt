@@ -1,25 +1,25 @@
 -- Demand 1. The order of conditions of each operation is read off its definition; what `judge` gives is proved once for
 -- all of them; and a refusal leaves what was lent, since `filled` and `markAfter` do.
-use Prim.Native.Nat.{ℕ, zero, suc, _+_, _≤_, _<_, suc-le-suc}
-use mathlib.Core.Path.{_≡_, refl, sym, ap, _∙_}
+use Prim.Native.Nat.{ℕ, zero, suc, suc-le-suc}
+use mathlib.Core.Path.{_≡_, refl, sym, _∙_}
 use mathlib.Core.Bool.{Bool, true, false}
 use mathlib.Core.List.{List, [], _∷_}
 use native.Mathlib.Nat.{not-suc-le-zero, le-of-suc-le-suc}
 use native.Mathlib.Omega.{arith}
-use lib.ListN.{length, getD}
+use lib.ListN.{length}
 use Rattle.runs.specs.Outcome.{Outcome, done, refused, Test, test, judge, mapDone, filled, _then_else_}
 use Rattle.runs.specs.Refusal.{checkedSays}
 use Rattle.runs.specs.Runs.{Runs}
 use Rattle.runs.specs.Check.{listTests, checkTests}
-use Rattle.runs.specs.Inverse.{inverseListOf, inverseListTests, InverseListed}
+use Rattle.runs.specs.Inverse.{inverseListOf, InverseListed}
 use Rattle.runs.specs.declared.Checked.{Checked}
 use Rattle.runs.proofs.Judging.{done-refused}
 use Rattle.tables.specs.Tables.{sizeOf}
 use Rattle.tables.proofs.Moves.{moves-order}
 use Rattle.tables.proofs.Marks.{bookmark-kept}
-use Rattle.balance.specs.Lent.{Lent, balancedSays, balanceOf, balanceTests, Balances}
+use Rattle.balance.specs.Lent.{Lent, balancedSays, balanceOf, Balances}
 use Rattle.balance.specs.declared.Balanced.{Balanced}
-use Rattle.demands.specs.Demands.{NoneOf, RefusedBy, Judged, Demand1, numbers}
+use Rattle.demands.specs.Demands.{NoneOf, RefusedBy, Demand1}
 
 -- the first test decides, or the others do
 none-first : (t : Test) (ts : List Test) (i : ℕ) → t .applies ≡ false → NoneOf i ts → NoneOf (suc i) (t ∷ ts)

@@ -1,12 +1,11 @@
 -- Demand 2: acceptance is `check`'s own theorem (runs/proofs/Intervals), and the walks through a list's own tables and
 -- through those of its balanced list are one theorem (Through), since both lists are legal and have one function.
-use Prim.Native.Nat.{ℕ, _+_, _≤_, _<_}
-use mathlib.Core.Path.{_≡_, refl}
+use Prim.Native.Nat.{ℕ, _≤_}
+use mathlib.Core.Path.{refl}
 use native.Mathlib.Omega.{arith}
-use Rattle.runs.specs.Outcome.{done}
 use Rattle.runs.specs.Runs.{Runs, countOf}
 use Rattle.runs.specs.Legal.{Legal}
-use Rattle.runs.specs.Check.{maxRuns, checkOf}
+use Rattle.runs.specs.Check.{maxRuns}
 use Rattle.runs.proofs.Accepted.{accepted-legal}
 use Rattle.runs.proofs.Intervals.{accepted-intervals, intervals-accepted}
 use Rattle.tables.specs.Tables.{maxIntervals}

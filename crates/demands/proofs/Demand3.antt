@@ -1,35 +1,29 @@
 -- Demand 3. What `balance` promises puts the tables of the balanced list at the head of the lent ones; through these the
 -- single calls are the plain walk's, so whole lists of calls are (Serving, Marking); and since no interval is heavy, no
 -- move passes more than 2d − 1 starts (Counting).
-use Prim.Native.Nat.{ℕ, suc, _+_, _-_, _*_, _^_, _≤_, _<_}
-use mathlib.Core.Path.{_≡_, refl, sym, ap, _∙_}
-use mathlib.Core.List.{List, [], _∷_, _++_}
+use Prim.Native.Nat.{ℕ, _-_, _*_, _≤_, _<_}
+use mathlib.Core.Path.{_≡_, ap, _∙_}
 use native.Mathlib.Omega.{arith}
-use native.Mathlib.Nat.{mul-le-mul-left}
-use lib.ListN.{length, take, drop, length-map}
-use lib.Seq.{take-append-seam}
+use lib.ListN.{length}
 use borrow.Author.Tests.{le-ltb}
-use Rattle.order.specs.Order.{All, sumOf}
-use Rattle.runs.specs.Outcome.{Outcome, done, refused, judge, mapDone, andThen, filled}
+use Rattle.runs.specs.Outcome.{done, refused, judge, andThen}
 use Rattle.runs.specs.Runs.{Runs, countOf, startOf, imageOf, endOf, runAt, carry, mapOf}
 use Rattle.runs.specs.Legal.{Legal}
 use Rattle.runs.specs.Check.{maxRuns, checkTests, checkOf}
 use Rattle.runs.proofs.Judging.{judge-append}
 use Rattle.runs.proofs.Accepted.{accepted-legal}
 use Rattle.runs.proofs.Legality.{homes, home, run-at}
-use Rattle.tables.specs.Tables.{Tables, tables, tablesOf, sizeOf}
+use Rattle.tables.specs.Tables.{Tables, tablesOf}
 use Rattle.tables.specs.Under.{weight}
 use Rattle.tables.specs.Bookmark.{fresh}
 use Rattle.tables.proofs.Walks.{above-to, walk-bound}
 use Rattle.tables.proofs.LegalTables.{legal-find-beyond}
 use Rattle.tables.specs.Move.{findOf}
 use Rattle.balance.specs.Balance.{balanced, boundOf}
-use Rattle.balance.specs.Lent.{Lent, firstOf, balancedSays, balanceOf, balanceTests, tooShort, Balances}
-use Rattle.balance.specs.declared.Balanced.{Balanced}
+use Rattle.balance.specs.Lent.{Lent, firstOf, balanceOf, tooShort}
 use Rattle.balance.proofs.Heads.{answer-is, head-is}
 use Rattle.balance.proofs.Balancing.{balanced-legal, balanced-map, balanced-light, balanced-count}
-use Rattle.demands.specs.Calls.{Call, allMoves, allCounts}
-use Rattle.demands.specs.PlainWalk.{plainMove, plainWalk, walkCounts, plainTrail}
+use Rattle.demands.specs.PlainWalk.{plainMove, walkCounts, plainTrail}
 use Rattle.demands.specs.Served.{servedTrail}
 use Rattle.demands.specs.Demands.{Through, Roomy, Serves, Demand3}
 use Rattle.demands.proofs.Demand2.{balanced-few, through-balanced}

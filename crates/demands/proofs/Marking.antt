@@ -1,6 +1,6 @@
 -- The moves of one bookmark are served as the plain walk answers them, and leave its four numbers. The counter of starts
 -- passed never gets near its width: at most b starts for each of fewer than 2^32 moves.
-use Prim.Native.Nat.{ℕ, zero, suc, _+_, _-_, _*_, _^_, _≤_, _<_}
+use Prim.Native.Nat.{ℕ, zero, suc, _+_, _*_, _^_, _≤_, _<_}
 use mathlib.Core.Path.{_≡_, refl, sym, ap, _∙_}
 use mathlib.Core.Logic.{_⊎_, inl, inr}
 use mathlib.Core.List.{List, [], _∷_, map}

@@ -1,6 +1,6 @@
 -- Through the tables of a legal list t the walks give the function of any list r that has the same one: the walks on t's
 -- own tables (tables/proofs/LegalTables), said as the plain walk says them.
-use Prim.Native.Nat.{ℕ, zero, suc, _+_, _^_, _≤_, _<_}
+use Prim.Native.Nat.{ℕ, zero, suc, _+_, _≤_, _<_}
 use mathlib.Core.Path.{_≡_, refl, sym, ap, _∙_}
 use native.Mathlib.Omega.{arith}
 use Rattle.runs.specs.Outcome.{done}
@@ -8,10 +8,9 @@ use Rattle.runs.specs.Runs.{Runs, countOf, runAt, mapOf, powerOf}
 use Rattle.runs.specs.Legal.{Legal}
 use Rattle.runs.proofs.Bijection.{map-below, map-injective, map-onto}
 use Rattle.tables.specs.Tables.{tablesOf, maxIntervals}
-use Rattle.tables.specs.Move.{moveOf, movesOf}
 use Rattle.tables.specs.Function.{stepFrom, passedIn, stepsFrom}
 use Rattle.tables.specs.declared.Step.{Step}
-use Rattle.tables.proofs.LegalTables.{legal-find, legal-move, legal-moves, legal-bookmark-on, legal-inverse, power-below}
+use Rattle.tables.proofs.LegalTables.{legal-find, legal-move, legal-moves, legal-bookmark-on, legal-inverse}
 use Rattle.demands.specs.PlainWalk.{plainMove, plainMoves}
 use Rattle.demands.specs.Demands.{Through}
 

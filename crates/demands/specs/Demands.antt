@@ -1,11 +1,11 @@
 -- The three demands. Their proofs are in proofs/, apart from what they say. That every call stays in bounds and ends is
 -- what the checker proves of each function; here stands what its contract's definitions come to.
-use Prim.Native.Nat.{ℕ, suc, _+_, _-_, _*_, _^_, _≤_, _<_}
+use Prim.Native.Nat.{ℕ, _+_, _-_, _*_, _^_, _≤_, _<_}
 use mathlib.Core.Path.{_≡_}
-use mathlib.Core.Bool.{Bool, true, false}
+use mathlib.Core.Bool.{true, false}
 use mathlib.Core.Logic.{_↔_, _⊎_}
 use mathlib.Core.List.{List, [], _∷_, map}
-use lib.ListN.{length, getD, take}
+use lib.ListN.{length, getD}
 use Rattle.order.specs.Order.{All, sumOf}
 use Rattle.runs.specs.Outcome.{Outcome, done, refused, Test, test, judge}
 use Rattle.runs.specs.Refusal.{checkedSays}
@@ -14,12 +14,11 @@ use Rattle.runs.specs.Legal.{DisjointIntervals}
 use Rattle.runs.specs.Check.{checkTests, checkOf}
 use Rattle.runs.specs.Inverse.{inverseListTests, InverseListed}
 use Rattle.runs.specs.declared.Checked.{Checked}
-use Rattle.tables.specs.Tables.{Tables, tables, tablesOf}
+use Rattle.tables.specs.Tables.{Tables, tablesOf}
 use Rattle.tables.specs.Move.{movedSays, findTests, locateTests, moveTests, findOf, moveOf, movesOf}
 use Rattle.tables.specs.Inverse.{inverseTests, inverseOf}
 use Rattle.tables.specs.Under.{underTests}
 use Rattle.tables.specs.Bookmark.{bookmarkTests, bookmarkOf, fresh, Advances, markedSays}
-use Rattle.tables.specs.declared.Step.{Step}
 use Rattle.tables.specs.declared.Bookmark.{Bookmark}
 use Rattle.tables.specs.declared.Moved.{Moved}
 use Rattle.tables.specs.declared.Marked.{Marked}
