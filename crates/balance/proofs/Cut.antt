@@ -14,7 +14,8 @@ use Rattle.runs.proofs.Legality.{homes}
 use Rattle.balance.proofs.Refine.{Piece, Refines}
 
 -- an index of the list after a cut of x
-pub cut-cases : (P : ℕ → Type 0) (x : ℕ) → ((y : ℕ) → y < x → P y) → P x → P (suc x) → ((y : ℕ) → x < y → P (suc y)) → (y : ℕ) → P y
+pub cut-cases : (P : ℕ → Type 0) (x : ℕ) → ((y : ℕ) → y < x → P y) → P x → P (suc x) → ((y : ℕ) → x < y → P (suc y))
+    → (y : ℕ) → P y
 cut-cases P x left first second right y = go y (lt-or-le y x)
   where
     two : (z : ℕ) → x ≤ suc z → (x < z) ⊎ (z ≤ x) → (z < x) ⊎ (x ≤ z) → P (suc z)
@@ -44,10 +45,18 @@ module _ (n : ℕ) (r : Runs) (pair : length (r .images) ≡ countOf r) (x s : �
   images-before y l = insert-before (suc x) s (r .images) y 0 (omega arith) l
 
   pub cut-left : (y : ℕ) → y < x → Is n (cut r x s) y (startOf r y) (imageOf r y) (endOf n r y)
-  cut-left y l = record { start-is = starts-before y 0 (omega arith); image-is = images-before y (omega arith); end-is = starts-before (suc y) n (suc-le-suc l) }
+  cut-left y l = record {
+    start-is = starts-before y 0 (omega arith);
+    image-is = images-before y (omega arith);
+    end-is = starts-before (suc y) n (suc-le-suc l);
+  }
 
   pub cut-first : Is n (cut r x s) x (startOf r x) (imageOf r x) (carryBack r x s)
-  cut-first = record { start-is = starts-before x 0 (omega arith); image-is = images-before x (omega arith); end-is = insert-at (suc x) (carryBack r x s) (r .starts) n hx }
+  cut-first = record {
+    start-is = starts-before x 0 (omega arith);
+    image-is = images-before x (omega arith);
+    end-is = insert-at (suc x) (carryBack r x s) (r .starts) n hx;
+  }
 
   pub cut-second : Is n (cut r x s) (suc x) (carryBack r x s) s (endOf n r x)
   cut-second = record {
@@ -63,7 +72,8 @@ module _ (n : ℕ) (r : Runs) (pair : length (r .images) ≡ countOf r) (x s : �
     end-is = insert-after (suc x) (carryBack r x s) (r .starts) (suc y) n hx (omega arith);
   }
 
-module _ (n : ℕ) (r : Runs) (c : Legal n r) (x s : ℕ) (hx : x < countOf r) (lo : imageOf r x < s) (hi : s < imageEnd n r x) where
+module _ (n : ℕ) (r : Runs) (c : Legal n r) (x s : ℕ) (hx : x < countOf r) (lo : imageOf r x < s)
+    (hi : s < imageEnd n r x) where
   cut-piece : (y : ℕ) → y < suc (countOf r) → (o : ℕ) × Piece n r (cut r x s) y o
   cut-piece = cut-cases (λ y. y < suc (countOf r) → (o : ℕ) × Piece n r (cut r x s) y o) x
       (λ y l h. (y, omega (arith, cut-left n r (c .paired) x s hx y l, homes n r c .lasting y (omega arith))))
@@ -74,7 +84,12 @@ module _ (n : ℕ) (r : Runs) (c : Legal n r) (x s : ℕ) (hx : x < countOf r) (
   pub cut-refines : Refines n r (cut r x s)
   cut-refines = record {
     some = omega (arith, cut-count n r (c .paired) x s hx);
-    paired = omega (arith, cut-count n r (c .paired) x s hx, length-insert (suc x) s (r .images) (omega (arith, c .paired)), c .paired);
+    paired = omega (
+      arith,
+      cut-count n r (c .paired) x s hx,
+      length-insert (suc x) s (r .images) (omega (arith, c .paired)),
+      c .paired,
+    );
     first = starts-before n r (c .paired) x s hx 0 0 (omega arith) ∙ c .first;
     piece = λ y h. cut-piece y (omega (arith, cut-count n r (c .paired) x s hx));
   }

@@ -8,7 +8,6 @@ pub mod Sweeping
 pub mod Merged
 pub mod Cutlist
 pub mod Progress
-pub mod Filling
 pub mod Writing
 pub mod Outcomes
 pub mod Heads

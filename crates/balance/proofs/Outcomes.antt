@@ -1,14 +1,14 @@
 -- What `balance` answers, one law for each way to return: the tests of a refused call, or the tables that were filled.
-use Prim.Native.Nat.{ℕ, _+_, _-_, _*_, _/_, _≤_, _<_}
+use Prim.Native.Nat.{ℕ, _+_, _-_, _≤_, _<_}
 use mathlib.Core.Path.{_≡_, refl, sym, ap, _∙_, subst}
 use mathlib.Core.Bool.{Bool, true, false, _||_, false≢true}
 use mathlib.Core.List.{List, [], _∷_, _++_}
 use native.Mathlib.Omega.{arith}
 use lib.ListN.{length, take, drop, replicate, length-replicate}
-use lib.Seq.{drop-drop, length-take-le}
+use lib.Seq.{drop-drop}
 use lib.Dec.{ltb}
 use borrow.Author.Tests.{lt-ltb, le-ltb, ltb-false}
-use Rattle.runs.specs.Outcome.{Outcome, done, refused, Test, test, judge, andThen, mapDone, filled}
+use Rattle.runs.specs.Outcome.{done, refused, Test, test, judge, andThen, mapDone, filled}
 use Rattle.runs.specs.Refusal.{refusalSays}
 use Rattle.runs.specs.Runs.{Runs, countOf}
 use Rattle.runs.specs.Check.{checkTests, checkOf}
@@ -16,7 +16,7 @@ use Rattle.runs.specs.declared.Refusal.{Refusal}
 use Rattle.runs.specs.declared.Refusal.the-variants.{Degree, ShortTable}
 use Rattle.runs.proofs.Judging.{judge-append}
 use Rattle.runs.proofs.Accepted.{accepted-legal}
-use Rattle.tables.specs.Tables.{Tables, tablesOf}
+use Rattle.tables.specs.Tables.{tablesOf}
 use Rattle.balance.specs.Balance.{balanced, boundOf}
 use Rattle.balance.specs.Lent.{Lent, degreeTest, tooShort, balanceOf, Balances}
 use Rattle.balance.specs.Cuts.{withCuts, over, BalancingCuts, TablesWritten, Fillable, Filled}
@@ -43,7 +43,8 @@ module _ (n : ℕ) (r : Runs) (d : ℕ) (l : Lent) where
 
   pub list-refused : (x : Refusal) → refusalSays x ≡ checkOf n r → Balances n r d l l (Refused x)
   unfolding andThen
-  list-refused x e = refuses x (parts ∙ ap (λ c. andThen c (λ _. judge (lentTests r d l) (tablesOf n (balanced d n r)))) (sym e))
+  list-refused x e = refuses x (parts
+      ∙ ap (λ c. andThen c (λ _. judge (lentTests r d l) (tablesOf n (balanced d n r)))) (sym e))
 
   module _ (a : checkOf n r ≡ done tt) where
     accepted : balanceOf n r d l ≡ judge (lentTests r d l) (tablesOf n (balanced d n r))
@@ -85,11 +86,13 @@ module _ (n : ℕ) (r : Runs) (d : ℕ) (l : Lent) where
               working-room = ltb-false (length (l .working)) b (k .1);
             }
 
-        pub tables-filled : (l′ : Lent) (k : ℕ) → Filled (tablesOf n (balanced d n r)) b l l′ k → Balances n r d l l′ (Intervals k)
+        pub tables-filled : (l′ : Lent) (k : ℕ) → Filled (tablesOf n (balanced d n r)) b l l′ k
+            → Balances n r d l l′ (Intervals k)
         unfolding judge mapDone filled
         tables-filled l′ k f =
             let t : tooShort (boundOf d (countOf r)) l ≡ false = ap (λ (k : ℕ). tooShort k l) (sym e) ∙ s in
-            let o : balanceOf n r d l ≡ done (tablesOf n (balanced d n r)) = accepted ∙ simp (le-ltb d 2 low, le-ltb 64 d high, t) in
+            let o : balanceOf n r d l ≡ done (tablesOf n (balanced d n r)) = accepted
+            ∙ simp (le-ltb d 2 low, le-ltb 64 d high, t) in
             record {
               says = rw o (ap done (f .counted));
               starts = rw o (f .written .starts-at-exit);
@@ -99,7 +102,8 @@ module _ (n : ℕ) (r : Runs) (d : ℕ) (l : Lent) where
             }
 
 -- the cuts are few enough for the tables, and are cleared with the rest
-module _ (n : ℕ) (r : Runs) (d b : ℕ) (l : Lent) (f : Fillable n r d b l) (swept : List ℕ) (c : ℕ) (g : BalancingCuts d n r (l .working) swept c) where
+module _ (n : ℕ) (r : Runs) (d b : ℕ) (l : Lent) (f : Fillable n r d b l) (swept : List ℕ) (c : ℕ)
+    (g : BalancingCuts d n r (l .working) swept c) where
   -- and the intervals are no more than the places
   pub cuts-fit : countOf r + c ≤ n
   cuts-fit = omega (arith, g .counted, legal-count n (balanced d n r) (balanced-legal d n (f .low) r (f .legal)))
@@ -112,12 +116,16 @@ module _ (n : ℕ) (r : Runs) (d b : ℕ) (l : Lent) (f : Fillable n r d b l) (s
       let m = length-replicate {A = ℕ} b 0 in
       let e : length {A = ℕ} (replicate b 0) ≡ c + (b - c) = omega (arith, cuts-few) in
       ap (λ (t : List ℕ). replicate b 0 ++ t)
-      (ap (λ (k : ℕ). drop k swept) e ∙ sym (drop-drop (b - c) c swept) ∙ ap (drop (b - c)) (g .rest) ∙ drop-drop (b - c) c (l .working) ∙ ap (λ (k : ℕ). drop k (l .working)) (sym e))
+      (ap (λ (k : ℕ). drop k swept) e ∙ sym (drop-drop (b - c) c swept) ∙ ap (drop (b - c)) (g .rest)
+      ∙ drop-drop (b - c) c (l .working) ∙ ap (λ (k : ℕ). drop k (l .working)) (sym e))
 
-  pub filled-tables : (l′ : Lent) → TablesWritten (tablesOf n (withCuts n r (take c swept))) (l .starts) (l .images) (l .holders) (l′ .starts) (l′ .images) (l′ .holders)
+  pub filled-tables : (l′ : Lent)
+      → TablesWritten (tablesOf n (withCuts n r (take c swept))) (l .starts) (l .images) (l .holders) (l′ .starts)
+      (l′ .images) (l′ .holders)
       → l′ .working ≡ over (replicate b 0) swept → Filled (tablesOf n (balanced d n r)) b l l′ (countOf r + c)
   filled-tables l′ w k = record {
     counted = omega (arith, g .counted);
-    written = subst (λ (q : Runs). TablesWritten (tablesOf n q) (l .starts) (l .images) (l .holders) (l′ .starts) (l′ .images) (l′ .holders)) (g .list-is) w;
+    written = subst (λ (q : Runs). TablesWritten (tablesOf n q) (l .starts) (l .images) (l .holders) (l′ .starts)
+        (l′ .images) (l′ .holders)) (g .list-is) w;
     cleared = k ∙ cleared-rest;
   }

@@ -1,29 +1,29 @@
--- The loop that merges starts and cuts into the tables: what comes before the next merged entry tells where both stand, and
--- which run has the entry.
+-- The loop that writes the merged list into the tables: what comes before the next entry tells the run that has it.
 use Prim.Native.Nat.{ℕ, suc, _+_, _-_, _≤_, _<_}
-use mathlib.Core.Path.{_≡_, refl, sym, ap, _∙_}
+use mathlib.Core.Path.{_≡_, sym, ap, _∙_}
 use mathlib.Core.List.{List, map}
 use native.Mathlib.Omega.{arith}
 use native.Mathlib.Numerals.{add-one}
-use lib.ListN.{length, take, drop, getD, set, length-set, length-map}
+use lib.ListN.{length, take, drop, getD, set, length-map}
 use Rattle.order.specs.Order.{countBelow}
-use Rattle.order.proofs.Laws.{at-all, strict-length}
+use Rattle.order.proofs.Filling.{Filling, filling-none, filling-length, filling-next, filling-all}
+use Rattle.order.proofs.Laws.{all-at, at-all, strict-length, getD-map}
 use Rattle.runs.specs.Legal.{Legal}
 use Rattle.runs.specs.Runs.{Runs, runs, countOf, startOf, imageOf, endOf, runAt, mapOf}
 use Rattle.runs.proofs.Legality.{homes, home, run-at}
 use lib.Seq.{take-at}
 use Rattle.tables.specs.Tables.{tablesOf}
 use Rattle.tables.proofs.Walks.{run-below}
-use Rattle.balance.specs.Cuts.{merged, withCuts, Starts, Has, over, ListWritten, TablesWritten}
-use Rattle.runs.proofs.Mapped.{getD-map}
+use Rattle.balance.specs.Cuts.{merged, withCuts, Starts, At, Has, over, ListWritten, TablesWritten}
+use Rattle.balance.specs.declared.Mark.{Mark}
 use Rattle.balance.proofs.Merged.{merged-length, merged-count, merged-next, place-count}
-use Rattle.balance.proofs.Filling.{written, written-more, written-all}
 
 -- the run that has a place, by counting the starts up to it
-pub has-counted : (n : ℕ) (r : Runs) → Legal n r → (p k : ℕ) → p < n → k ≡ countBelow (suc p) (r .starts) → (0 < k) × Has n r (k - 1) p
+pub has-counted : (n : ℕ) (r : Runs) → Legal n r → (p k : ℕ) → p < n → k ≡ countBelow (suc p) (r .starts)
+    → (0 < k) × Has n (r .starts) (k - 1) p
 has-counted n r c p k h e = go (home n r (homes n r c) p h)
   where
-    go : (x : ℕ) × (x < countOf r) × (startOf r x ≤ p) × (p < endOf n r x) → (0 < k) × Has n r (k - 1) p
+    go : (x : ℕ) × (x < countOf r) × (startOf r x ≤ p) × (p < endOf n r x) → (0 < k) × Has n (r .starts) (k - 1) p
     go (x, hx, a, b) =
         let f : k - 1 ≡ x = omega (arith, run-below n r (homes n r c) p h, run-at n r (homes n r c) x p hx a b) in
         (omega (arith, run-below n r (homes n r c) p h), rw f (record { known = hx; from = a; to = b }))
@@ -36,57 +36,83 @@ legal-count n r c = strict-length n (r .starts) (homes n r c .up) (at-all (λ y.
 pub image-below : (n : ℕ) (r : Runs) → Legal n r → (x : ℕ) → x < countOf r → imageOf r x < n
 image-below n r c x h = omega (arith, homes n r c .lasting x h, c .within x h)
 
-pub holder-counted : (n : ℕ) (r : Runs) → Legal n r → (x : ℕ) → x < countOf r → countBelow (imageOf r x + 1) (r .starts) ≡ suc (runAt n r (imageOf r x))
-holder-counted n r c x h = ap (λ (t : ℕ). countBelow t (r .starts)) (add-one (imageOf r x)) ∙ run-below n r (homes n r c) (imageOf r x) (image-below n r c x h)
+pub holder-counted : (n : ℕ) (r : Runs) → Legal n r → (x : ℕ) → x < countOf r
+    → countBelow (imageOf r x + 1) (r .starts) ≡ suc (runAt n r (imageOf r x))
+holder-counted n r c x h = ap (λ (t : ℕ). countBelow t (r .starts)) (add-one (imageOf r x))
+    ∙ run-below n r (homes n r c) (imageOf r x) (image-below n r c x h)
 
--- i starts and j cuts are written
-pub record Writing (n : ℕ) (r : Runs) (cuts starts₀ images₀ starts images : List ℕ) (i j : ℕ) : Type 0 where
-  pub starts-passed : i ≡ countBelow (getD (merged (r .starts) cuts) (i + j) n) (r .starts)
-  pub cuts-passed : j ≡ countBelow (getD (merged (r .starts) cuts) (i + j) n) cuts
-  pub within : i + j ≤ length (merged (r .starts) cuts)
-  pub starts-kept : length starts ≡ length starts₀
-  pub images-kept : length images ≡ length images₀
-  pub starts-written : starts ≡ written (merged (r .starts) cuts) (i + j) starts₀
-  pub images-written : images ≡ written (map (mapOf n r) (merged (r .starts) cuts)) (i + j) images₀
+-- m entries are written
+pub record Writing (n : ℕ) (r : Runs) (cuts starts₀ images₀ starts images : List ℕ) (mark : Mark) (m : ℕ) : Type 0
+  where
+    pub at : At n (r .starts) cuts mark m
+    pub starts-written : Filling (merged (r .starts) cuts) starts₀ starts m
+    pub images-written : Filling (map (mapOf n r) (merged (r .starts) cuts)) images₀ images m
 
 module _ (n : ℕ) (r : Runs) (cuts starts₀ images₀ : List ℕ) (c : Starts n (r .starts) cuts) where
-  pub writing-start : Writing n r cuts starts₀ images₀ starts₀ images₀ 0 0
-  writing-start =
+  pub writing-start : length (merged (r .starts) cuts) ≤ length starts₀
+      → length (merged (r .starts) cuts) ≤ length images₀
+      → Writing n r cuts starts₀ images₀ starts₀ images₀ (record { starts = 0; cuts = 0 }) 0
+  writing-start hs hi =
+      let l = merged (r .starts) cuts in
       let e = place-count n (r .starts) cuts c 0 (omega arith) in
-      let f = merged-count (r .starts) cuts (getD (merged (r .starts) cuts) 0 n) in
-      record { starts-passed = omega arith; cuts-passed = omega arith; within = omega arith; starts-kept = refl; images-kept = refl; starts-written = refl; images-written = refl }
+      let f = merged-count (r .starts) cuts (getD l 0 n) in
+      record {
+        at = record { within = omega arith; starts-before = omega arith; cuts-before = omega arith };
+        starts-written = filling-none l starts₀ hs;
+        images-written = filling-none (map (mapOf n r) l) images₀ (omega (arith, length-map l (mapOf n r)));
+      }
 
-  module _ (starts images : List ℕ) (i j : ℕ) (w : Writing n r cuts starts₀ images₀ starts images i j) where
-    pub writing-next : (i′ j′ s v : ℕ) → i + j < length (merged (r .starts) cuts) → length (merged (r .starts) cuts) ≤ length starts₀ → length (merged (r .starts) cuts) ≤ length images₀
-        → s ≡ getD (merged (r .starts) cuts) (i + j) 0 → v ≡ mapOf n r s → i′ + j′ ≡ i + j + 1
-        → i′ ≡ countBelow (getD (merged (r .starts) cuts) (i + j + 1) n) (r .starts) → j′ ≡ countBelow (getD (merged (r .starts) cuts) (i + j + 1) n) cuts
-        → Writing n r cuts starts₀ images₀ (set starts (i + j) s) (set images (i + j) v) i′ j′
-    writing-next i′ j′ s v h hs hi e f g a b = record {
-      starts-passed = rw g a;
-      cuts-passed = rw g b;
-      within = omega arith;
-      starts-kept = length-set starts (i + j) s ∙ w .starts-kept;
-      images-kept = length-set images (i + j) v ∙ w .images-kept;
-      starts-written = ap (λ (t : List ℕ). set t (i + j) s) (w .starts-written) ∙ written-more (merged (r .starts) cuts) starts₀ (i + j) s h (omega arith) e ∙ ap (λ (x : ℕ). written (merged (r .starts) cuts) x starts₀) (sym g);
-      images-written = ap (λ (t : List ℕ). set t (i + j) v) (w .images-written) ∙ written-more (map (mapOf n r) (merged (r .starts) cuts)) images₀ (i + j) v (omega (arith, length-map (merged (r .starts) cuts) (mapOf n r))) (omega arith)
-          (f ∙ ap (mapOf n r) e ∙ sym (getD-map (mapOf n r) (merged (r .starts) cuts) (i + j) 0 h)) ∙ ap (λ (x : ℕ). written (map (mapOf n r) (merged (r .starts) cuts)) x images₀) (sym g);
-    }
+  -- the run that has the entry before a mark
+  pub has-passed : Legal n r → (mark : Mark) (m s : ℕ) → At n (r .starts) cuts mark (m + 1)
+      → m < length (merged (r .starts) cuts) → s ≡ getD (merged (r .starts) cuts) m 0
+      → (0 < mark .starts) × Has n (r .starts) (mark .starts - 1) s
+  has-passed l mark m s a h e =
+      has-counted n r l s (mark .starts)
+      (omega (arith, all-at (λ v. v < n) (merged (r .starts) cuts) (c .below) m h))
+      (a .starts-before ∙ merged-next n (r .starts) cuts c m h
+      ∙ ap (λ (v : ℕ). countBelow (suc v) (r .starts)) (sym e))
 
-    pub writing-end : length (merged (r .starts) cuts) ≤ i + j → ListWritten n r cuts starts₀ images₀ starts images
-    writing-end h =
-        let e : i + j ≡ length (merged (r .starts) cuts) = omega (arith, w .within) in record {
-          starts-at-exit = w .starts-written ∙ written-all (merged (r .starts) cuts) starts₀ (i + j) e;
-          images-at-exit = w .images-written ∙ written-all (map (mapOf n r) (merged (r .starts) cuts)) images₀ (i + j) (e ∙ sym (length-map (merged (r .starts) cuts) (mapOf n r)));
-        }
+  module _ (starts images : List ℕ) (mark : Mark) (m : ℕ) (w : Writing n r cuts starts₀ images₀ starts images mark m)
+    where
+      pub writing-next : (mark′ : Mark) (s v : ℕ) → m < length (merged (r .starts) cuts)
+          → At n (r .starts) cuts mark′ (m + 1) → s ≡ getD (merged (r .starts) cuts) m 0 → v ≡ mapOf n r s
+          → Writing n r cuts starts₀ images₀ (set starts m s) (set images m v) mark′ (m + 1)
+      writing-next mark′ s v h a e f =
+          let l = merged (r .starts) cuts in
+          record {
+            at = a;
+            starts-written = filling-next l starts₀ starts m (w .starts-written) h s e;
+            images-written = filling-next (map (mapOf n r) l) images₀ images m (w .images-written)
+                (omega (arith, length-map l (mapOf n r))) v
+                (f ∙ ap (mapOf n r) e ∙ sym (getD-map (mapOf n r) l m 0 h));
+          }
+
+      pub writing-kept : (length starts ≡ length starts₀) × (length images ≡ length images₀)
+      writing-kept =
+          let l = merged (r .starts) cuts in (
+            filling-length l starts₀ starts m (w .starts-written),
+            filling-length (map (mapOf n r) l) images₀ images m (w .images-written),
+          )
+
+      pub writing-end : length (merged (r .starts) cuts) ≤ m → ListWritten n r cuts starts₀ images₀ starts images
+      writing-end h =
+          let l = merged (r .starts) cuts in
+          record {
+            starts-at-exit = filling-all l starts₀ starts m (w .starts-written) h;
+            images-at-exit = filling-all (map (mapOf n r) l) images₀ images m (w .images-written)
+                (omega (arith, length-map l (mapOf n r)));
+          }
 
 -- the first entries of the two tables are the list after the cuts, and with its holders in the third its tables
-module _ (n : ℕ) (r : Runs) (cuts starts images starts′ images′ : List ℕ) (w : ListWritten n r cuts starts images starts′ images′) where
+module _ (n : ℕ) (r : Runs) (cuts starts images starts′ images′ : List ℕ)
+    (w : ListWritten n r cuts starts images starts′ images′) where
   pub list-taken : (k : ℕ) → k ≡ countOf r + length cuts → runs (take k starts′) (take k images′) ≡ withCuts n r cuts
   list-taken k e =
       let m = merged (r .starts) cuts in
       let h : length m ≡ k = omega (arith, merged-length (r .starts) cuts) in
       let s : take k starts′ ≡ m = ap (take k) (w .starts-at-exit) ∙ take-at m (drop (length m) starts) k h in
-      let i : take k images′ ≡ map (mapOf n r) m = ap (take k) (w .images-at-exit) ∙ take-at (map (mapOf n r) m) _ k (length-map m (mapOf n r) ∙ h) in
+      let i : take k images′ ≡ map (mapOf n r) m = ap (take k) (w .images-at-exit)
+      ∙ take-at (map (mapOf n r) m) _ k (length-map m (mapOf n r) ∙ h) in
       λ j. runs (s j) (i j)
 
   pub tables-written : (k : ℕ) (holders holders′ : List ℕ) → k ≡ countOf r + length cuts

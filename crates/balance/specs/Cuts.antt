@@ -1,16 +1,16 @@
 -- A list after cuts, told by the starts that they added: what the private parts of `balance` ask and promise.
-use Prim.Native.Nat.{ℕ, _+_, _-_, _≤_, _<_}
+use Prim.Native.Nat.{ℕ, suc, _+_, _-_, _≤_, _<_}
 use mathlib.Core.Path.{_≡_}
 use mathlib.Core.List.{List, _++_, map}
 use lib.ListN.{length, take, drop, getD, replicate}
-use Rattle.order.specs.Order.{All, Strict, countBelow, sortBy, orderOf}
+use Rattle.order.specs.Order.{All, Sorted, Strict, countBelow, sortBy, orderOf}
 use Rattle.runs.specs.Check.{maxRuns}
 use Rattle.runs.specs.Legal.{Legal}
-use Rattle.runs.specs.Runs.{Runs, runs, countOf, startOf, imageOf, endOf, imageEnd, mapOf}
+use Rattle.runs.specs.Runs.{Runs, runs, countOf, startOf, imageOf, imageEnd, mapOf}
 use Rattle.tables.specs.Tables.{Tables, sizeOf}
-use Rattle.tables.specs.Under.{weight}
 use Rattle.balance.specs.Balance.{balanced, boundOf}
 use Rattle.balance.specs.Lent.{Lent}
+use Rattle.balance.specs.declared.Mark.{Mark}
 use Rattle.balance.specs.declared.Piece.{Piece}
 
 -- the starts of a list and those that cuts added, in rising order
@@ -21,13 +21,6 @@ merged starts cuts = sortBy (λ s. s) (cuts ++ starts)
 abbrev pub withCuts : ℕ → Runs → List ℕ → Runs
 withCuts n r cuts = runs (merged (r .starts) cuts) (map (mapOf n r) (merged (r .starts) cuts))
 
--- the first of l at or above t, or n; and the last of l that is not above v
-abbrev pub firstFrom : ℕ → List ℕ → ℕ → ℕ
-firstFrom n l t = getD l (countBelow t l) n
-
-abbrev pub lastTo : List ℕ → ℕ → ℕ
-lastTo l v = getD l (countBelow (v + 1) l - 1) 0
-
 -- starts and cuts of one list
 pub record Starts (n : ℕ) (starts cuts : List ℕ) : Type 0 where
   pub some : 0 < length starts
@@ -37,11 +30,38 @@ pub record Starts (n : ℕ) (starts cuts : List ℕ) : Type 0 where
   pub all-rise : Strict (merged starts cuts)
   pub below : All (λ s. s < n) (merged starts cuts)
 
--- run x has place p
-pub record Has (n : ℕ) (r : Runs) (x p : ℕ) : Type 0 where
-  pub known : x < countOf r
-  pub from : startOf r x ≤ p
-  pub to : p < endOf n r x
+-- a mark in the merged list, before its entry m: how many starts and how many cuts come before it
+pub record At (n : ℕ) (starts cuts : List ℕ) (mark : Mark) (m : ℕ) : Type 0 where
+  pub within : m ≤ length (merged starts cuts)
+  pub starts-before : mark .starts ≡ countBelow (getD (merged starts cuts) m n) starts
+  pub cuts-before : mark .cuts ≡ countBelow (getD (merged starts cuts) m n) cuts
+
+-- the mark that is `count` entries on, or before the first one that is not below t
+pub record Skips (n : ℕ) (starts cuts : List ℕ) (mark : Mark) (count t : ℕ) (to : Mark) : Type 0 where
+  pub at : At n starts cuts to (to .starts + to .cuts)
+  pub below : to .starts + to .cuts ≤ countBelow t (merged starts cuts)
+  pub far : to .starts + to .cuts ≤ mark .starts + mark .cuts + count
+  pub stopped : to .starts + to .cuts < mark .starts + mark .cuts + count
+      → to .starts + to .cuts ≡ countBelow t (merged starts cuts)
+
+-- the run at x of a list with these starts has place p
+pub record Has (n : ℕ) (starts : List ℕ) (x p : ℕ) : Type 0 where
+  pub known : x < length starts
+  pub from : getD starts x 0 ≤ p
+  pub to : p < getD starts (suc x) n
+
+-- r is the higher of a start and the last cut that is not above v
+pub record Higher (start : ℕ) (cuts : List ℕ) (v r : ℕ) : Type 0 where
+  pub start-is : (0 < countBelow (v + 1) cuts → getD cuts (countBelow (v + 1) cuts - 1) 0 ≤ start) → r ≡ start
+  pub cut-is : 0 < countBelow (v + 1) cuts → start < getD cuts (countBelow (v + 1) cuts - 1) 0
+      → r ≡ getD cuts (countBelow (v + 1) cuts - 1) 0
+
+-- the rank of q among sorted images is that of an entry of the order
+pub record Ranking (order ranked : List ℕ) (q : ℕ) : Type 0 where
+  pub sorted : Sorted ranked
+  pub some : 0 < countBelow (q + 1) ranked
+  pub known : countBelow (q + 1) ranked - 1 < length order
+  pub fits : q + 1 < 4294967296
 
 -- the runs of a legal list in rising order of image, and their images in that order
 pub record Ranked (n : ℕ) (r : Runs) (order ranked : List ℕ) : Type 0 where
@@ -62,7 +82,6 @@ pub record PieceAt (n : ℕ) (q : Runs) (p : ℕ) (piece : Piece) : Type 0 where
   pub at : imageOf q index ≡ p
   pub start-is : startOf q index ≡ piece .start
   pub to-is : imageEnd n q index ≡ piece .to
-  pub weight-is : weight n q index ≡ piece .weight
 
 -- p is where the image begins in which u lies
 pub record Covers (n : ℕ) (q : Runs) (u p : ℕ) : Type 0 where
@@ -110,5 +129,6 @@ pub record Fillable (n : ℕ) (r : Runs) (d b : ℕ) (l : Lent) : Type 0 where
 -- the tables t stand in the lent ones, and the working table is cleared
 pub record Filled (t : Tables) (b : ℕ) (entry exit : Lent) (k : ℕ) : Type 0 where
   pub counted : k ≡ sizeOf t
-  pub written : TablesWritten t (entry .starts) (entry .images) (entry .holders) (exit .starts) (exit .images) (exit .holders)
+  pub written : TablesWritten t (entry .starts) (entry .images) (entry .holders) (exit .starts) (exit .images)
+      (exit .holders)
   pub cleared : exit .working ≡ over (replicate b 0) (entry .working)

@@ -39,7 +39,8 @@ degreeTest d = test 7 (ltb d 2 || ltb 64 d) d
 -- 8: "a lent table below B entries"
 unfoldable pub tooShort : ℕ → Lent → Bool
 tooShort b l =
-    ltb (length (l .starts)) b || (ltb (length (l .images)) b || (ltb (length (l .holders)) b || ltb (length (l .working)) b))
+    ltb (length (l .starts)) b ||
+    (ltb (length (l .images)) b || (ltb (length (l .holders)) b || ltb (length (l .working)) b))
 
 abbrev pub balanceTests : ℕ → Runs → ℕ → Lent → List Test
 balanceTests n r d l =
@@ -55,4 +56,5 @@ pub record Balances (n : ℕ) (r : Runs) (d : ℕ) (entry exit : Lent) (answer :
   pub starts : exit .starts ≡ filled (λ t. t .list .starts) (balanceOf n r d entry) (entry .starts)
   pub images : exit .images ≡ filled (λ t. t .list .images) (balanceOf n r d entry) (entry .images)
   pub holders : exit .holders ≡ filled (λ t. t .holders) (balanceOf n r d entry) (entry .holders)
-  pub working : exit .working ≡ filled (λ t. replicate (boundOf d (countOf r)) 0) (balanceOf n r d entry) (entry .working)
+  pub working : exit .working ≡ filled (λ t. replicate (boundOf d (countOf r)) 0) (balanceOf n r d entry)
+      (entry .working)

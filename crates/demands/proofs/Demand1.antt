@@ -19,6 +19,7 @@ use Rattle.tables.proofs.Moves.{moves-order}
 use Rattle.tables.proofs.Marks.{bookmark-kept}
 use Rattle.balance.specs.Lent.{Lent, balancedSays, balanceOf, Balances}
 use Rattle.balance.specs.declared.Balanced.{Balanced}
+use Rattle.listfile.specs.File.{countTests, layoutTests, headerTests, bodyTests, fileTests}
 use Rattle.demands.specs.Demands.{NoneOf, RefusedBy, Demand1}
 
 -- the first test decides, or the others do
@@ -89,7 +90,7 @@ balance-kept n r d entry exit o c k p e =
     λ j. record { starts = s j; images = i j; holders = h j; working = w j }
 
 pub demand1 : Demand1
-unfolding listTests checkTests
+unfolding listTests checkTests countTests layoutTests headerTests bodyTests fileTests
 demand1 = record {
   judged = λ A ts a. record { when-done = judge-passes a ts; when-refused = judge-refuses a ts };
   check-order = λ n r. refl;
@@ -101,6 +102,7 @@ demand1 = record {
   inverse-order = λ n t j. refl;
   under-order = λ n t x. refl;
   bookmark-order = λ n t b. refl;
+  file-order = λ most bytes. refl;
   moves-order = moves-order;
   inverse-list-kept = inverse-list-kept;
   balance-kept = balance-kept;

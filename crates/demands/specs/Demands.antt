@@ -25,6 +25,7 @@ use Rattle.tables.specs.declared.Marked.{Marked}
 use Rattle.balance.specs.Balance.{balanced, boundOf}
 use Rattle.balance.specs.Lent.{Lent, firstOf, balancedSays, balanceTests, Balances}
 use Rattle.balance.specs.declared.Balanced.{Balanced}
+use Rattle.listfile.specs.File.{fileTests}
 use Rattle.demands.specs.Calls.{Call, allMoves, allCounts}
 use Rattle.demands.specs.PlainWalk.{plainMove, plainMoves, plainWalk, walkCounts, plainTrail}
 use Rattle.demands.specs.Served.{served, servedTrail, Advancing}
@@ -65,6 +66,9 @@ pub record Demand1 : Type 1 where
   pub inverse-order : (n : ℕ) (t : Tables) (j : ℕ) → numbers (inverseTests n t j) ≡ 9 ∷ 11 ∷ 14 ∷ []
   pub under-order : (n : ℕ) (t : Tables) (x : ℕ) → numbers (underTests n t x) ≡ 9 ∷ 10 ∷ 12 ∷ []
   pub bookmark-order : (n : ℕ) (t : Tables) (b : Bookmark) → numbers (bookmarkTests n t b) ≡ 9 ∷ 10 ∷ 11 ∷ 12 ∷ 13 ∷ []
+  -- "only the file has an order of its own"
+  pub file-order : (most : ℕ) (bytes : List ℕ)
+      → numbers (fileTests most bytes) ≡ 15 ∷ 1 ∷ 2 ∷ 15 ∷ 15 ∷ 15 ∷ 3 ∷ 4 ∷ 5 ∷ 6 ∷ 7 ∷ []
   -- "a repeated move can only meet 12 on the way", once it has begun
   pub moves-order : (n : ℕ) (t : Tables) (m x i k p : ℕ) → movesOf n t m x i ≡ refused k p
       → (movesOf n t 0 x i ≡ refused k p) ⊎ (k ≡ 12)

@@ -20,6 +20,7 @@ fn main() {
     walks::inverses();
     walks::weights();
     walks::bookmarks();
+    walks::marks();
     files::checks();
     files::listings();
 }

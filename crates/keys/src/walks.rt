@@ -163,3 +163,13 @@ pub(crate) fn bookmarks() {
         },
     ));
 }
+
+// Four moves of a bookmark that is fresh at place 0, and of one that meets 12 on the way.
+pub(crate) fn marks() {
+    let s = [0, 2, 4, 6, 8, 12];
+    let i = [14, 12, 10, 8, 0, 4];
+    let h = [5, 5, 4, 4, 0, 2];
+    let broken = [5, 5, 4, 6, 0, 2];
+    out::marked(tables::bookmark_moves(16, &s, &i, &h, 0, 0, 4));
+    out::marked(tables::bookmark_moves(16, &s, &i, &broken, 0, 0, 4));
+}

@@ -1,31 +1,28 @@
 -- Balancing the list of a file whose header was read comes to the file's body: tests 1 and 2 have passed, and 8 does not
 -- apply, since there is room for twice as many intervals as runs.
-use Prim.Native.Nat.{ℕ, zero, suc, _+_, _-_, _*_, _/_, _≤_, _<_}
+use Prim.Native.Nat.{ℕ, zero, suc, _-_, _*_, _≤_, _<_}
 use mathlib.Core.Path.{_≡_, refl, sym, ap, subst, _∙_}
-use mathlib.Core.Bool.{Bool, true, false, _||_}
 use mathlib.Core.Logic.{_⊎_, inl, inr}
-use mathlib.Core.List.{List, [], _∷_, _++_}
+use mathlib.Core.List.{List, [], _∷_}
 use native.Mathlib.Omega.{arith}
 use native.Mathlib.Nat.{div-le-of-le-mul}
-use lib.ListN.{length, take}
-use lib.Dec.{ltb}
-use borrow.Author.Tests.{lt-ltb, le-ltb, ltb-false}
+use lib.ListN.{length}
+use borrow.Author.Tests.{lt-ltb, le-ltb}
 use Rattle.order.proofs.Laws.{lt-or-le}
-use Rattle.runs.specs.Outcome.{Outcome, done, refused, judge, mapDone, andThen, test, _then_else_}
+use Rattle.runs.specs.Outcome.{Outcome, done, refused, judge, mapDone, andThen, test}
 use Rattle.runs.specs.Refusal.{numberOf, placeOf}
 use Rattle.runs.specs.Runs.{Runs, countOf}
-use Rattle.runs.specs.Legal.{Legal}
 use Rattle.runs.specs.Check.{checkTests, checkOf}
 use Rattle.runs.specs.declared.Refusal.{Refusal}
 use Rattle.runs.proofs.Judging.{done-refused, judge-append}
 use Rattle.runs.proofs.Accepted.{accepted-legal}
-use Rattle.tables.specs.Tables.{Tables, tables, tablesOf, sizeOf}
+use Rattle.tables.specs.Tables.{Tables, tablesOf, sizeOf}
 use Rattle.balance.specs.Balance.{balanced, boundOf}
 use Rattle.balance.specs.Lent.{Lent, firstOf, balancedSays, degreeTest, tooShort, balanceOf, Balances}
 use Rattle.balance.specs.declared.Balanced.{Balanced}
 use Rattle.balance.specs.declared.Balanced.the-variants.{Intervals, Refused}
 use Rattle.balance.proofs.Balancing.{balanced-legal, balanced-cuts}
-use Rattle.balance.proofs.Heads.{answer-is, head-is, head-room}
+use Rattle.balance.proofs.Heads.{head-is, head-room}
 use Rattle.listfile.specs.File.{runsAt, runsOf, Laid, degreeOf, bodyOf}
 use Rattle.listfile.specs.Listing.{tableText, refusalText, textOf}
 use Rattle.listfile.specs.Page.{Listed, Spacious, Tabled, Answered}

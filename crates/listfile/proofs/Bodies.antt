@@ -1,15 +1,14 @@
 -- What a file's list and degree come to, by the facts that their tests show.
 use Prim.Native.Nat.{ℕ, _≤_, _<_}
 use mathlib.Core.Path.{_≡_, refl, sym, ap, _∙_}
-use mathlib.Core.Bool.{false}
-use mathlib.Core.List.{List, [], _∷_, _++_}
+use mathlib.Core.List.{List}
 use native.Mathlib.Omega.{arith}
 use lib.ListN.{length}
 use lib.Dec.{ltb}
 use borrow.Author.Tests.{lt-ltb, le-ltb, ne-eqb, eq-eqb, ltb-false}
 use Rattle.runs.specs.Outcome.{Outcome, done, refused, judge, andThen}
-use Rattle.runs.specs.Runs.{Runs, runs, countOf}
-use Rattle.runs.specs.Check.{unmatched, listTests, checkTests, checkOf, maxRuns}
+use Rattle.runs.specs.Runs.{Runs, countOf}
+use Rattle.runs.specs.Check.{unmatched, listTests, checkTests, checkOf}
 use Rattle.runs.proofs.Judging.{done-refused, judge-append, judge-first, judge-done}
 use Rattle.listfile.specs.File.{wordOf, headerOf, headerTests, headingOf, runsAt, runsOf, Laid, degreeOf, bodyTests, bodyOf, fileTests, fileOf}
 use Rattle.listfile.specs.declared.Header.{Header}

@@ -1,13 +1,13 @@
 -- What a file's header comes to, by the facts that its tests show.
 use Prim.Native.Nat.{ℕ, _+_, _*_, _≤_, _<_}
 use mathlib.Core.Path.{_≡_, refl, sym, ap, _∙_}
-use mathlib.Core.Bool.{Bool, true, false, not, _||_, true≢false}
-use mathlib.Core.List.{List, [], _∷_, _++_}
+use mathlib.Core.Bool.{Bool, true, false, _||_, true≢false}
+use mathlib.Core.List.{List, []}
 use native.Mathlib.Omega.{arith}
 use lib.ListN.{length}
-use lib.Dec.{ltb, eqb}
+use lib.Dec.{eqb}
 use borrow.Author.Tests.{lt-ltb, le-ltb, eq-eqb, ne-eqb, ltb-false, eqb-true, eqb-false, not-false}
-use Rattle.runs.specs.Outcome.{Outcome, done, refused, judge, andThen}
+use Rattle.runs.specs.Outcome.{done, refused, judge, andThen}
 use Rattle.runs.proofs.Judging.{judge-append, judge-first, judge-done}
 use Rattle.listfile.specs.File.{wordOf, headerOf, countTests, layoutTests, layoutOf, headerTests, headingOf, Laid}
 use Rattle.listfile.specs.declared.Header.{Header}

@@ -1,5 +1,5 @@
 -- The lines of a listing: what they say, how long they are at most, and one more of them.
-use Prim.Native.Nat.{ℕ, zero, suc, _+_, _-_, _*_, _^_, _≤_, _<_}
+use Prim.Native.Nat.{ℕ, zero, suc, _+_, _*_, _≤_, _<_}
 use mathlib.Core.Path.{_≡_, refl, sym, ap, _∙_}
 use mathlib.Core.Logic.{_⊎_, inl, inr}
 use mathlib.Core.Bool.{Bool, true, false}
@@ -14,15 +14,14 @@ use borrow.Author.Tests.{lt-ltb, le-ltb}
 use Rattle.order.specs.Order.{upTo}
 use Rattle.order.proofs.Laws.{lt-or-le, count-le, up-snoc}
 use Rattle.runs.specs.Outcome.{done, refused, _then_else_}
-use Rattle.runs.specs.Runs.{Runs, countOf, startOf, imageOf, imageEnd, shiftOf, runAt}
-use Rattle.runs.specs.Legal.{Legal}
+use Rattle.runs.specs.Runs.{startOf, imageOf, imageEnd, shiftOf, runAt}
 use Rattle.runs.proofs.Judging.{done-refused}
 use Rattle.runs.proofs.Sums.{inside, length-keep}
 use Rattle.runs.proofs.Legality.{homes, home, run-at}
-use Rattle.tables.specs.Tables.{Tables, tablesOf, sizeOf, holderOf}
+use Rattle.tables.specs.Tables.{Tables, sizeOf, holderOf}
 use Rattle.tables.specs.Under.{weight, weightOf}
 use Rattle.tables.proofs.LegalTables.{holder-is, legal-weight}
-use Rattle.listfile.specs.Text.{decimal, negative, signed, line, texts}
+use Rattle.listfile.specs.Text.{decimal, negative, signed, texts}
 use Rattle.listfile.specs.Listing.{headText, rowText, rowOf, refusalText}
 use Rattle.listfile.specs.Page.{Fits, Wrote, Listed}
 use Rattle.listfile.proofs.Digits.{decimal-length}

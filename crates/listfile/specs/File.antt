@@ -1,14 +1,14 @@
 -- The file (document 01, "The file and the listing"). A file is a list of bytes.
 use Prim.Native.Nat.{ℕ, _+_, _*_, _≤_, _<_}
 use mathlib.Core.Path.{_≡_}
-use mathlib.Core.Bool.{Bool, not, _||_}
+use mathlib.Core.Bool.{not, _||_}
 use mathlib.Core.List.{List, [], _∷_, _++_}
 use lib.ListN.{length, getD, take, drop}
 use lib.Dec.{ltb, eqb}
-use Rattle.runs.specs.Outcome.{Outcome, done, refused, Test, test, judge, mapDone}
+use Rattle.runs.specs.Outcome.{Outcome, done, Test, test, judge}
 use Rattle.runs.specs.Refusal.{refusalSays}
 use Rattle.runs.specs.Runs.{Runs, runs}
-use Rattle.runs.specs.Check.{listTests, maxRuns}
+use Rattle.runs.specs.Check.{listTests}
 use Rattle.balance.specs.Lent.{degreeTest}
 use Rattle.listfile.specs.declared.Header.{Header}
 use Rattle.listfile.specs.declared.FileChecked.{FileChecked}

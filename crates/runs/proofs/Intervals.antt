@@ -7,14 +7,13 @@ use mathlib.Core.List.{List, map}
 use native.Mathlib.Omega.{arith}
 use lib.ListN.{length, getD}
 use Rattle.order.specs.Order.{upTo}
-use Rattle.order.proofs.Laws.{lt-or-le, length-up, getD-up}
+use Rattle.order.proofs.Laws.{lt-or-le, length-up, getD-up, getD-map}
 use Rattle.runs.specs.Outcome.{done}
 use Rattle.runs.specs.Runs.{Runs, countOf, startOf, imageOf, endOf, lengthOf, imageEnd}
 use Rattle.runs.specs.Legal.{Legal, DisjointIntervals}
 use Rattle.runs.specs.Check.{maxRuns, checkOf}
 use Rattle.runs.proofs.Legality.{Parted, homes, end-next, end-last}
 use Rattle.runs.proofs.Accepted.{same, legal-unshared, accepted-legal, legal-accepted}
-use Rattle.runs.proofs.Mapped.{getD-map}
 
 module _ (n : ℕ) (r : Runs) (c : Legal n r) where
   lengths : List ℕ

@@ -7,7 +7,7 @@ use native.Mathlib.Omega.{arith}
 use lib.ListN.{length, length-map}
 use lib.Seq.{ext-getD}
 use Rattle.order.specs.Order.{keyOf, orderOf}
-use Rattle.order.proofs.Laws.{lt-or-le, length-sort, length-up, order-length, pairwise-at}
+use Rattle.order.proofs.Laws.{lt-or-le, length-sort, length-up, order-length, pairwise-at, getD-map}
 use Rattle.runs.specs.Outcome.{done}
 use Rattle.runs.specs.Runs.{Runs, runs, countOf, startOf, imageOf, endOf, imageEnd, carry, mapOf}
 use Rattle.runs.specs.Legal.{Legal, ranked}
@@ -16,7 +16,6 @@ use Rattle.runs.specs.Inverse.{inverseRuns}
 use Rattle.runs.proofs.Legality.{homes, home, home-one, map-at, end-next, end-last}
 use Rattle.runs.proofs.Ranking.{ranked-below, ranked-rises, ranked-occurs, ranked-one}
 use Rattle.runs.proofs.Accepted.{accepted-legal, legal-accepted}
-use Rattle.runs.proofs.Mapped.{getD-map}
 use Rattle.runs.proofs.Bijection.{map-onto}
 use Rattle.runs.proofs.Tiling.{image-some, legal-tiled}
 

@@ -9,7 +9,6 @@ mod Sharing
 mod Ranking
 mod Sweeping
 pub mod Accepted
-pub mod Mapped
 pub mod Intervals
 pub mod Bijection
 pub mod Tiling

@@ -3,38 +3,22 @@ use Prim.Native.Nat.{ℕ, _+_, _-_, _≤_, _<_}
 use mathlib.Core.Path.{_≡_, refl, sym, ap, _∙_}
 use mathlib.Core.List.{List, _++_, map}
 use native.Mathlib.Omega.{arith}
-use lib.ListN.{length, getD, take, drop, length-map}
-use lib.Seq.{length-take-le, getD-take}
+use lib.ListN.{length, take, drop, length-map}
 use borrow.Author.Tests.{lt-ltb, le-ltb}
-use Rattle.order.specs.Order.{keyOf, orderOf}
+use Rattle.order.specs.Order.{keyOf, orderOf, Gathers}
 use Rattle.order.proofs.Laws.{order-length}
 use Rattle.runs.specs.Outcome.{done, refused, judge, andThen, mapDone, filled}
 use Rattle.runs.specs.Refusal.{refusalSays}
 use Rattle.runs.specs.Runs.{Runs, countOf, startOf, imageOf}
 use Rattle.runs.specs.Check.{checkTests, checkOf}
 use Rattle.runs.specs.Inverse.{inverseRuns, inverseListOf, InverseListed}
-use Rattle.runs.specs.Parts.{Ordered, Gathers, Written, roomTest, writtenOf}
+use Rattle.runs.specs.Parts.{Ordered, Written, roomTest, writtenOf}
 use Rattle.runs.specs.declared.Refusal.{Refusal}
 use Rattle.runs.specs.declared.Refusal.the-variants.{ShortTable}
 use Rattle.runs.specs.declared.Checked.{Checked}
 use Rattle.runs.specs.declared.Checked.the-variants.{Accepted, Refused}
 use Rattle.runs.proofs.Judging.{judge-append}
-use Rattle.runs.proofs.Mapped.{getD-map}
 use Rattle.runs.proofs.Ranking.{ordered-room, entry-below}
-
--- what is gathered, entry by entry
-abbrev pub gathered : List ℕ → List ℕ → List ℕ
-gathered from order = map (keyOf from) (take (length from) order)
-
-module _ (from order to : List ℕ) (g : Gathers from order to) where
-  pub gathered-size : length (gathered from order) ≡ length from
-  gathered-size = length-map (take (length from) order) (keyOf from) ∙ length-take-le (length from) order (g .indexes)
-
-  pub gathered-at : (t : ℕ) → t < length from → keyOf from (getD order t 0) ≡ getD (gathered from order) t 0
-  gathered-at t h =
-      let l : t < length (take (length from) order) = omega (arith, length-take-le (length from) order (g .indexes)) in
-      ap (keyOf from) (sym (getD-take (length from) order t 0 h)) ∙ sym
-      (getD-map (keyOf from) (take (length from) order) t 0 l)
 
 -- the order by image serves to gather as many numbers as there are runs
 pub ordered-gathers : (r : Runs) (order : List ℕ) → Ordered r order → (from to : List ℕ) → length from ≡ countOf r

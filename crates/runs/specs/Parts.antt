@@ -3,7 +3,7 @@ use Prim.Native.Nat.{ℕ, suc, _≤_, _<_}
 use mathlib.Core.Path.{_≡_}
 use mathlib.Core.Bool.{Bool, _&&_, _||_}
 use mathlib.Core.List.{List, [], _∷_}
-use lib.ListN.{length, getD, take}
+use lib.ListN.{length, take}
 use lib.Dec.{ltb}
 use Rattle.order.specs.Order.{orderOf}
 use Rattle.runs.specs.Outcome.{Outcome, Test, done, test, judge, mapDone, filled}
@@ -11,7 +11,7 @@ use Rattle.runs.specs.Refusal.{checkedSays}
 use Rattle.runs.specs.Search.{firstBelow}
 use Rattle.runs.specs.Runs.{Runs, countOf, startOf, imageOf, endOf}
 use Rattle.runs.specs.Legal.{ranked}
-use Rattle.runs.specs.Check.{overlaps, checkOf}
+use Rattle.runs.specs.Check.{maxRuns, overlaps, checkOf}
 use Rattle.runs.specs.Inverse.{inverseRuns}
 use Rattle.runs.specs.declared.Checked.{Checked}
 
@@ -23,6 +23,10 @@ lowestOf p r = firstBelow (p r) (countOf r)
 pub record Lasting (n : ℕ) (r : Runs) : Type 0 where
   pub paired : length (r .images) ≡ countOf r
   pub lasting : (x : ℕ) → x < countOf r → startOf r x < endOf n r x
+
+-- a table has an entry for each run, where there are not too many
+abbrev pub Roomy : List ℕ → List ℕ → Type 0
+Roomy starts table = length starts ≤ maxRuns → length starts ≤ length table
 
 -- the first entries of `order` are the runs in rising order of image
 pub record Ordered (r : Runs) (order : List ℕ) : Type 0 where
@@ -44,12 +48,6 @@ pub record OverlapFound (n : ℕ) (r : Runs) (order : List ℕ) (x : ℕ) : Type
 pub record CheckedInto (n : ℕ) (r : Runs) (order : List ℕ) (answer : Checked) : Type 0 where
   pub says : checkedSays answer ≡ checkOf n r
   pub ordered : checkOf n r ≡ done tt → Ordered r order
-
--- what `gather` asks: room, and indexes
-pub record Gathers (from order to : List ℕ) : Type 0 where
-  pub room : length from ≤ length to
-  pub indexes : length from ≤ length order
-  pub below : (t : ℕ) → t < length from → getD order t 0 < length from
 
 -- test 8 by itself, and what is written where it passes
 abbrev pub roomTest : Runs → List ℕ → List ℕ → List Test

@@ -9,14 +9,12 @@ mod inverse;
 mod sweep;
 
 ghost use mathlib.Core.Path.{_≡_};
-ghost use Prim.Native.Nat.{_≤_};
-ghost use lib.ListN.{length};
 ghost use lib.IntN.{subℕ};
 ghost use Rattle.runs.specs.Refusal.{numberOf, placeOf, checkedSays};
 ghost use Rattle.runs.specs.Runs.{runs};
-ghost use Rattle.runs.specs.Check.{maxRuns, checkOf};
+ghost use Rattle.runs.specs.Check.{checkOf};
 ghost use Rattle.runs.specs.Inverse.{InverseListed};
-ghost use Rattle.runs.specs.Parts.{CheckedInto};
+ghost use Rattle.runs.specs.Parts.{Roomy, CheckedInto};
 
 // Why a call is refused. specs/Refusal.antt gives the paper's number and place of each.
 pub enum Refusal {
@@ -94,9 +92,19 @@ pub enum Checked {
 // The most runs that a list may have.
 pub const MAX_RUNS: usize = 16384;
 
-// Tests 1 to 6. `order` is room for the order of the runs by image, and holds it if the list is accepted.
-fn check_into(n: u32, starts: &[u32], images: &[u32], order: &mut [u32]) -> Checked
-    requires { ⌜ maxRuns ≤ length (now order) ⌝ }
+// A list of so few runs gets smaller tables to work in: clearing the others would take longer than its check.
+const FEW_RUNS: usize = 1024;
+
+// Tests 1 to 6. `order` is room for the order of the runs by image, and holds it if the list is accepted; `spare` is
+// room to work in.
+fn check_into(
+    n: u32,
+    starts: &[u32],
+    images: &[u32],
+    order: &mut [u32],
+    spare: &mut [u32],
+) -> Checked
+    requires { ⌜ Roomy (now starts) (now order) × Roomy (now starts) (now spare) ⌝ }
     ensures { λ r. ⌜ CheckedInto n (runs (now (starts .entry)) (now (images .entry))) (now (order .exit)) r ⌝ }
 {
     if conditions::is_unmatched(n, starts, images) {
@@ -117,7 +125,7 @@ fn check_into(n: u32, starts: &[u32], images: &[u32], order: &mut [u32]) -> Chec
     if overrun < k {
         return Checked::Refused(Refusal::ImageRange(overrun as u32));
     }
-    let overlap = sweep::first_overlap(n, starts, images, order);
+    let overlap = sweep::first_overlap(n, starts, images, order, spare);
     if overlap < k {
         return Checked::Refused(Refusal::ImageOverlap(overlap as u32));
     }
@@ -128,8 +136,14 @@ fn check_into(n: u32, starts: &[u32], images: &[u32], order: &mut [u32]) -> Chec
 pub fn check(n: u32, starts: &[u32], images: &[u32]) -> Checked
     ensures { λ r. ⌜ checkedSays r ≡ checkOf n (runs (now (starts .entry)) (now (images .entry))) ⌝ }
 {
+    if starts.len() <= FEW_RUNS {
+        let mut order: [u32; FEW_RUNS] = [0; FEW_RUNS];
+        let mut spare: [u32; FEW_RUNS] = [0; FEW_RUNS];
+        return check_into(n, starts, images, &mut order, &mut spare);
+    }
     let mut order: [u32; MAX_RUNS] = [0; MAX_RUNS];
-    check_into(n, starts, images, &mut order)
+    let mut spare: [u32; MAX_RUNS] = [0; MAX_RUNS];
+    check_into(n, starts, images, &mut order, &mut spare)
 }
 
 // Writes the inverse list to the first k entries of two tables, and leaves the others. Tests 1 to 6 and 8.
@@ -144,7 +158,8 @@ pub fn inverse_list(
         (now («to_starts» .entry)) (now («to_images» .entry)) (now («to_starts» .exit)) (now («to_images» .exit)) r ⌝ }
 {
     let mut order: [u32; MAX_RUNS] = [0; MAX_RUNS];
-    let checked = check_into(n, starts, images, &mut order);
+    let mut spare: [u32; MAX_RUNS] = [0; MAX_RUNS];
+    let checked = check_into(n, starts, images, &mut order, &mut spare);
     match checked {
         Checked::Refused(refusal) => Checked::Refused(refusal),
         Checked::Accepted => inverse::write(starts, images, &order, to_starts, to_images),

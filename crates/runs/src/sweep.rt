@@ -6,7 +6,7 @@ ghost use Prim.Native.Nat.{_<_, _≤_};
 ghost use lib.ListN.{length};
 ghost use Rattle.runs.specs.Runs.{runs};
 ghost use Rattle.runs.specs.Check.{maxRuns, overlaps};
-ghost use Rattle.runs.specs.Parts.{Lasting, Ordered, OverlapFound, lowestOf, meets};
+ghost use Rattle.runs.specs.Parts.{Lasting, Ordered, Roomy, OverlapFound, lowestOf, meets};
 
 fn lower(a: usize, b: usize) -> usize
     ensures { λ r. ⌜ (r ≤ a) × (r ≤ b) × ((r ≡ a) ⊎ (r ≡ b)) ⌝ }
@@ -65,12 +65,18 @@ fn lowest_overlap(n: u32, starts: &[u32], images: &[u32], order: &[u32]) -> usiz
     lowest
 }
 
-// The same, with the order put into the first entries of `order`.
-pub(crate) fn first_overlap(n: u32, starts: &[u32], images: &[u32], order: &mut [u32]) -> usize
-    requires { ⌜ Lasting n (runs (now starts) (now images)) × (length (now starts) ≤ maxRuns) × (maxRuns ≤ length (now order)) ⌝ }
+// The same, with the order put into the first entries of `order`. `spare` is room to work in.
+pub(crate) fn first_overlap(
+    n: u32,
+    starts: &[u32],
+    images: &[u32],
+    order: &mut [u32],
+    spare: &mut [u32],
+) -> usize
+    requires { ⌜ Lasting n (runs (now starts) (now images)) × (length (now starts) ≤ maxRuns)
+        × Roomy (now starts) (now order) × Roomy (now starts) (now spare) ⌝ }
     ensures { λ r. ⌜ OverlapFound n (runs (now (starts .entry)) (now (images .entry))) (now (order .exit)) r ⌝ }
 {
-    let mut spare: [u32; super::MAX_RUNS] = [0; super::MAX_RUNS];
-    order::sort_by_key(order, &mut spare, images);
+    order::sort_by_key(order, spare, images);
     lowest_overlap(n, starts, images, order)
 }

@@ -23,7 +23,7 @@ use Rattle.tables.specs.declared.Step.{Step}
 use Rattle.runs.proofs.Judging.{done-refused, judge-first}
 use Rattle.tables.proofs.Leading.{leading-within, leading-last, leading-next}
 use Rattle.tables.proofs.Passing.{whole-is, held-is}
-use Rattle.tables.proofs.Steps.{locate-in, located, move-located}
+use Rattle.tables.proofs.Steps.{locate-in, located, move-is, move-located}
 
 -- where the walk from interval h to place j ends
 module _ (l : List ℕ) (h j : ℕ) (i : h < length l) where
@@ -84,6 +84,16 @@ module _ (n : ℕ) (t : Tables) (x i : ℕ) (s : Step) (e : done s ≡ advanceOf
       let h = held-is t x (w .0) in
       let l = reached-index (t .list .starts) (holderOf t x) (carry (t .list) x i) (h .0) in
       omega (arith, ap (λ (s : Step). s .count) (w .2))
+
+-- so is a move's count small
+pub move-count : (n : ℕ) (t : Tables) (x i : ℕ) (s : Step) → done s ≡ moveOf n t x i → s .count ≤ maxIntervals
+unfolding andThen
+move-count n t x i s e = go (movesOf n t 0 x i) refl (e ∙ move-is n t x i)
+  where
+    go : (o : Outcome Step) → o ≡ movesOf n t 0 x i → done s ≡ andThen o (λ _. advanceOf n t x i)
+        → s .count ≤ maxIntervals
+    go (done a) f g = step-count n t x i s g (located n t x i a f .shape)
+    go (refused k p) f g = absurd (done-refused s k p g)
 
 -- one move more
 moves-more : (n : ℕ) (t : Tables) (k x i : ℕ) (a : Outcome Step)

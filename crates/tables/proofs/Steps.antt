@@ -1,10 +1,11 @@
 -- What find and a move come to, by the facts that their tests show; and that after a move the place lies in the
 -- interval reached.
-use Prim.Native.Nat.{ℕ, _+_, _≤_, _<_}
+use Prim.Native.Nat.{ℕ, _+_, _-_, _≤_, _<_}
 use mathlib.Core.Path.{_≡_, refl, sym, _∙_}
 use mathlib.Core.Bool.{Bool, true, false}
 use mathlib.Core.List.{[], _∷_}
 use native.Mathlib.Numerals.{add-one}
+use native.Mathlib.Omega.{arith}
 use lib.ListN.{drop}
 use lib.Dec.{leb}
 use borrow.Author.Tests.{lt-ltb, le-ltb, le-leb, lt-leb, leb-false}
@@ -89,3 +90,14 @@ module _ (n : ℕ) (t : Tables) (x i : ℕ) where
       → done (record { place = j; interval = h + c; count = c }) ≡ advanceOf n t x i
   unfolding advanceOf stepOf passed judge
   advance-to b h j c p q r = simp (b, r, add-one, p, q)
+
+  -- the same by the index after the last start passed
+  pub advance-end : broken n t x i ≡ false
+      → (h j e : ℕ) → h ≡ holderOf t x → j ≡ carry (t .list) x i
+      → e ≡ h + 1 + leading (λ s. leb s j) (drop (h + 1) (t .list .starts))
+      → done (record { place = j; interval = e - 1; count = e - (h + 1) }) ≡ advanceOf n t x i
+  advance-end b h j e p q r =
+      let c = leading (λ s. leb s j) (drop (h + 1) (t .list .starts)) in
+      let y : e - 1 ≡ h + c = omega arith in
+      let z : e - (h + 1) ≡ c = omega arith in
+      rw (y, z) (advance-to b h j c p q refl)

@@ -119,9 +119,5 @@ module _ (n : ℕ) (r : Runs) (c : Legal n r) where
       let i : countBelow (imageOf r x) (r .starts) + m < countBelow (imageEnd n r x) (r .starts) = omega (arith, weight-is n r x, count-inside (imageOf r x) (imageEnd n r x) (r .starts) (omega arith)) in
       (omega (arith, count-le-length (imageEnd n r x) (r .starts)), count-lt (imageEnd n r x) (r .starts) (strict-sorted (r .starts) (homes n r c .up)) (countBelow (imageOf r x) (r .starts) + m) i)
 
-  pub weight-more : (x m : ℕ) → countBelow (imageOf r x) (r .starts) + m < countOf r → startOf r (countBelow (imageOf r x) (r .starts) + m) < imageEnd n r x → m < weight n r x
-  weight-more x m h l =
-      omega (arith, weight-is n r x, count-inside (imageOf r x) (imageEnd n r x) (r .starts) (omega arith), count-gt (imageEnd n r x) (r .starts) (strict-sorted (r .starts) (homes n r c .up)) (countBelow (imageOf r x) (r .starts) + m) h l)
-
   pub under-at : (x m : ℕ) → m < weight n r x → getD (under n r x) m 0 ≡ startOf r (countBelow (imageOf r x) (r .starts) + m)
   under-at x m l = keep-at (imageOf r x) (imageEnd n r x) (r .starts) m (omega arith) (homes n r c .up) (omega (arith, weight-is n r x))

@@ -43,5 +43,5 @@ pub(crate) fn size(n: u32, starts: &[u32], images: &[u32], holders: &[u32], x: u
         return Weighed::Refused(Refusal::BrokenInterval(x));
     }
     let from = first(starts, images, holders, x);
-    Weighed::Weight(walk::leading_up_to(starts, from, (past - 1) as u32) as u32)
+    Weighed::Weight((walk::stretch_end(starts, from, (past - 1) as u32) - from) as u32)
 }

@@ -12,19 +12,19 @@ ghost use Rattle.tables.specs.Tables.{tables};
 ghost use Rattle.tables.specs.Move.{movedSays, movesOf};
 ghost use Rattle.tables.specs.Passed.{Located, advanceOf};
 
-// From index `from` on, how many starts at a stretch are at most j.
-pub(crate) fn leading_up_to(starts: &[u32], from: usize, j: u32) -> usize
+// The end of the stretch of starts, from index `from` on, that are at most j.
+pub(crate) fn stretch_end(starts: &[u32], from: usize, j: u32) -> usize
     requires { ⌜ from ≤ length (now starts) ⌝ }
-    ensures { λ r. ⌜ (r ≡ leading (λ s. leb s j) (drop from (now (starts .entry)))) × (from + r ≤ length (now (starts .entry))) ⌝ }
+    ensures { λ r. ⌜ (r ≡ from + leading (λ s. leb s j) (drop from (now (starts .entry)))) × (r ≤ length (now (starts .entry))) ⌝ }
 {
     let mut x = from;
     while x < starts.len() {
         if j < starts[x] {
-            return x - from;
+            return x;
         }
         x += 1;
     }
-    x - from
+    x
 }
 
 // Test 12 and the step, from a place that lies in interval x.
@@ -47,12 +47,12 @@ pub(crate) fn advance(
     if checks::wide(n) <= j {
         return Moved::Refused(Refusal::BrokenInterval(x));
     }
-    let h = holders[at] as usize;
-    let count = leading_up_to(starts, h + 1, j as u32);
+    let from = holders[at] as usize + 1;
+    let end = stretch_end(starts, from, j as u32);
     Moved::To(Step {
         place: j as u32,
-        interval: (h + count) as u32,
-        count: count as u64,
+        interval: (end - 1) as u32,
+        count: (end - from) as u64,
     })
 }
 

@@ -1,6 +1,6 @@
--- `balance::balance` meets its contract: a list that `check` refuses, or the outcome of an accepted one.
+-- `balance` meets its contract: a list that `check` refuses, or the outcome of an accepted one.
 use borrow.Author.Needs.{needs}
-use mathlib.Core.Path.{_≡_, sym, ap, _∙_}
+use mathlib.Core.Path.{sym, ap, _∙_}
 use Rattle.runs.specs.Refusal.{checkedSays}
 use Rattle.runs.specs.Runs.{runs}
 use Rattle.balance.specs.Lent.{lent}
@@ -18,10 +18,19 @@ enum-told : tie.Need-enum-told
 enum-told c = search needs
 
 balance-accepted-requires : tie.Need-balance-accepted-requires
-balance-accepted-requires c κs = sym (ap checkedSays (sym (c .before .before .before .before .enum-told .given .1)) ∙ c .before .before .before .before .before .before .check .ensures)
+balance-accepted-requires c κs = sym (ap checkedSays (sym (c .before .before .before .before .enum-told .given .1))
+    ∙ c .before .before .before .before .before .before .check .ensures)
 
 returns : tie.Need-returns
-returns c = list-refused (c .before .before .before .before .before .before .before .before .before .before .args .n) (runs (c .before .before .before .before .before .before .before .before .before .before .args .starts .now) (c .before .before .before .before .before .before .before .before .before .before .args .images .now)) (c .before .before .before .before .before .before .before .before .before .before .args .d) (lent (c .before .before .before .before .before .before .before .before .before .before .args .to-starts .now) (c .before .before .before .before .before .before .before .before .before .before .args .to-images .now) (c .before .before .before .before .before .before .before .before .before .before .args .to-holders .now) (c .before .before .before .before .before .before .before .before .before .before .args .working .now)) _ (ap checkedSays (sym (c .before .checked .given .1)) ∙ c .before .before .before .check .ensures)
+returns c = list-refused (c .before .before .before .before .before .before .before .before .before .before .args .n)
+    (runs (c .before .before .before .before .before .before .before .before .before .before .args .starts .now)
+    (c .before .before .before .before .before .before .before .before .before .before .args .images .now))
+    (c .before .before .before .before .before .before .before .before .before .before .args .d)
+    (lent (c .before .before .before .before .before .before .before .before .before .before .args .to-starts .now)
+    (c .before .before .before .before .before .before .before .before .before .before .args .to-images .now)
+    (c .before .before .before .before .before .before .before .before .before .before .args .to-holders .now)
+    (c .before .before .before .before .before .before .before .before .before .before .args .working .now)) _
+    (ap checkedSays (sym (c .before .checked .given .1)) ∙ c .before .before .before .check .ensures)
 
 same-length : tie.Need-same-length
 same-length c = search needs

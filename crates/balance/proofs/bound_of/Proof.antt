@@ -1,6 +1,6 @@
--- `balance::bound_of` meets its contract: d and k are small, so the product fits.
+-- `bound_of` meets its contract: d and k are small, so the product fits.
 use borrow.Author.Needs.{needs}
-use Prim.Native.Nat.{_*_, _-_, _/_, _≤_}
+use Prim.Native.Nat.{_*_, _-_, _≤_}
 use mathlib.Core.Path.{refl}
 use native.Mathlib.Nat.{mul-le-mul, div-le-self, le-trans}
 use native.Mathlib.Omega.{arith}

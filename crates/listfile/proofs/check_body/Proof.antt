@@ -4,9 +4,6 @@ use lib.Seq.{length-take-le}
 use borrow.Author.Needs.{needs}
 use Rattle.listfile.proofs.check_body.Statement.{statement}
 use Rattle.listfile.proofs.check_body.Tie as tie
-use Rattle.listfile.proofs.check_body.Reads as reads
-use Rattle.listfile.proofs.check_body.Lts as lts
-use Rattle.listfile.proofs.check_list.Reads as check-list-reads
 
 cast-k : tie.Need-cast-k
 cast-k c = search needs

@@ -3,8 +3,6 @@ use native.Mathlib.Omega.{arith}
 use Rattle.listfile.proofs.Bodies.{degree-low, degree-high, degree-right}
 use Rattle.listfile.proofs.check_degree.Statement.{statement}
 use Rattle.listfile.proofs.check_degree.Tie as tie
-use Rattle.listfile.proofs.check_degree.Reads as reads
-use Rattle.listfile.proofs.check_degree.Lts as lts
 
 returns : tie.Need-returns
 returns c = degree-low _ (c .if1 .taken)

@@ -6,10 +6,6 @@ use Rattle.listfile.proofs.Bodies.{file-refused, file-read}
 use borrow.Author.Needs.{needs}
 use Rattle.listfile.proofs.check_file.Statement.{statement}
 use Rattle.listfile.proofs.check_file.Tie as tie
-use Rattle.listfile.proofs.check_file.Reads as reads
-use Rattle.listfile.proofs.check_file.Lts as lts
-use Rattle.listfile.proofs.check_body.Reads as check-body-reads
-use Rattle.listfile.proofs.layout.read_header.Reads as read-header-reads
 
 read-header-requires : tie.Need-read-header-requires
 read-header-requires c κs = search needs

@@ -6,11 +6,6 @@ use Rattle.listfile.proofs.Bodies.{body-refused, body-checked}
 use borrow.Author.Needs.{needs}
 use Rattle.listfile.proofs.check_list.Statement.{statement}
 use Rattle.listfile.proofs.check_list.Tie as tie
-use Rattle.listfile.proofs.check_list.Reads as reads
-use Rattle.listfile.proofs.check_list.Lts as lts
-use Rattle.listfile.proofs.check_degree.Reads as check-degree-reads
-use Rattle.listfile.proofs.read_list.Reads as read-list-reads
-use Rattle.runs.proofs.check.Reads as check-reads
 
 cast-read-list : tie.Need-cast-read-list
 cast-read-list c = search needs

@@ -2,9 +2,6 @@
 use borrow.Author.Needs.{needs}
 use Rattle.listfile.proofs.read_list.Statement.{statement}
 use Rattle.listfile.proofs.read_list.Tie as tie
-use Rattle.listfile.proofs.read_list.Reads as reads
-use Rattle.listfile.proofs.read_list.Lts as lts
-use Rattle.listfile.proofs.words.read_words.Reads as read-words-reads
 
 read-words-requires : tie.Need-read-words-requires
 read-words-requires c κs = search needs

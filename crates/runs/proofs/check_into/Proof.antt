@@ -11,7 +11,7 @@ use Rattle.runs.proofs.check_into.Tie as tie
 
 -- the call that a test belongs to, and the list that it is about
 abbrev start₁ : tie.Else1 → tie.Start
-start₁ c = c .before .before .before .before .before
+start₁ c = c .before .before .before .before .before .before
 
 abbrev start₃ : tie.Else3 → tie.Start
 start₃ c = start₁ (c .before .before .before)
@@ -64,8 +64,8 @@ returns-3 c =
 first-disordered-requires : tie.Need-first-disordered-requires
 first-disordered-requires c κs = search needs
 
-cast-t16 : tie.Need-cast-t16
-cast-t16 c = search needs
+cast-t17 : tie.Need-cast-t17
+cast-t17 c = search needs
 
 returns-4 : tie.Need-returns-4
 returns-4 c =
@@ -75,8 +75,8 @@ returns-4 c =
 first-overrun-requires : tie.Need-first-overrun-requires
 first-overrun-requires c κs = lasting _ _ (rising c)
 
-cast-t18 : tie.Need-cast-t18
-cast-t18 c = search needs
+cast-t19 : tie.Need-cast-t19
+cast-t19 c = search needs
 
 returns-5 : tie.Need-returns-5
 returns-5 c =
@@ -85,29 +85,35 @@ returns-5 c =
 
 first-overlap-requires : tie.Need-first-overlap-requires
 first-overlap-requires c κs =
-    let e = c .before in
-    (lasting _ _ (rising (e .before .before)), omega arith, start₅ e .pre)
+    let e = c .before .before in
+    (lasting _ _ (rising (e .before .before)), omega arith, start₅ e .pre .0, start₅ e .pre .1)
 
-cast-t22 : tie.Need-cast-t22
-cast-t22 c = search needs
+cast-t25 : tie.Need-cast-t25
+cast-t25 c = search needs
 
 same-length : tie.Need-same-length
 same-length c = search needs
 
-returns-6 : tie.Need-returns-6
-returns-6 c =
-    let o = c .before .before .before in
-    refused-into _ _ _ _
-    (check-overlap _ _ _ (omega arith) (within (o .before .before)) (o .first-overlap .ensures .lowest))
-
 same-length-2 : tie.Need-same-length-2
 same-length-2 c = search needs
 
+returns-6 : tie.Need-returns-6
+returns-6 c =
+    let o = c .before .before .before .before .before in
+    refused-into _ _ _ _
+    (check-overlap _ _ _ (omega arith) (within (o .before .before .before)) (o .first-overlap .ensures .lowest))
+
+same-length-3 : tie.Need-same-length-3
+same-length-3 c = search needs
+
+same-length-4 : tie.Need-same-length-4
+same-length-4 c = search needs
+
 returns-7 : tie.Need-returns-7
 returns-7 c =
-    let o = c .before .before .before in
+    let o = c .before .before .before .before .before in
     record {
-      says = check-accepts _ _ (within (o .before .before)) (rw (o .first-overlap .ensures .lowest) at (c .if6 .left));
+      says = check-accepts _ _ (within (o .before .before .before)) (rw (o .first-overlap .ensures .lowest) at (c .if6 .left));
       ordered = λ e. o .first-overlap .ensures .ordered;
     }
 
@@ -121,14 +127,16 @@ check-into-spec =
     shared-slice-read-if3
     returns-3
     first-disordered-requires
-    cast-t16
+    cast-t17
     returns-4
     first-overrun-requires
-    cast-t18
+    cast-t19
     returns-5
     first-overlap-requires
-    cast-t22
+    cast-t25
     same-length
-    returns-6
     same-length-2
+    returns-6
+    same-length-3
+    same-length-4
     returns-7)

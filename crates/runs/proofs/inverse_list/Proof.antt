@@ -12,11 +12,15 @@ use Rattle.runs.proofs.inverse_list.Tie as tie
 
 -- the list is accepted
 passed : (c : tie.After-enum-told)
-    → let a = c .before .before .before .before .before .before .before .before .before in done tt ≡ checkOf (a .args .n) (runs (a .args .starts .now) (a .args .images .now))
-passed c = ap checkedSays (sym (c .enum-told .given .1)) ∙ c .before .before .before .check-into .ensures .says
+    → let a = c .before .before .before .before .before .before .before .before .before .before .before in
+    done tt ≡ checkOf (a .args .n) (runs (a .args .starts .now) (a .args .images .now))
+passed c = ap checkedSays (sym (c .enum-told .given .1)) ∙ c .before .before .before .before .check-into .ensures .says
 
 slice-aggregate-check-into : tie.Need-slice-aggregate-check-into
 slice-aggregate-check-into c = search needs
+
+slice-aggregate-check-into-2 : tie.Need-slice-aggregate-check-into-2
+slice-aggregate-check-into-2 c = search needs
 
 check-into-requires : tie.Need-check-into-requires
 check-into-requires c κs = search needs
@@ -33,12 +37,12 @@ slice-aggregate-write c = search needs
 write-requires : tie.Need-write-requires
 write-requires c κs =
     let e = sym (passed (c .before .before .before)) in
-    (c .before .before .before .before .before .before .check-into .ensures .ordered e, accepted-legal _ _ e .1)
+    (c .before .before .before .before .before .before .before .check-into .ensures .ordered e, accepted-legal _ _ e .1)
 
 returns : tie.Need-returns
 returns c =
     listed-refused _ _ _ _ _
-    (ap checkedSays (sym (c .before .checked .given .1)) ∙ c .before .before .before .before .check-into .ensures .says)
+    (ap checkedSays (sym (c .before .checked .given .1)) ∙ c .before .before .before .before .before .check-into .ensures .says)
 
 same-length : tie.Need-same-length
 same-length c = search needs
@@ -56,6 +60,7 @@ inverse-list-spec =
     tie.close
     (tie.spec
     slice-aggregate-check-into
+    slice-aggregate-check-into-2
     check-into-requires
     enum-known-checked
     enum-told

@@ -28,11 +28,14 @@ returns-3 c =
     let e = c .before .before .before in
     find-low _ _ _ (shaped _ _ _ (e .before .is-misshapen .ensures) (e .if1 .left)) (omega arith) (omega arith)
 
-leading-up-to-requires : tie.Need-leading-up-to-requires
-leading-up-to-requires c κs =
+stretch-end-requires : tie.Need-stretch-end-requires
+stretch-end-requires c κs =
     let e = c .before .before .before in
     let s = shaped _ _ _ (e .before .is-misshapen .ensures) (e .if1 .left) in
     omega arith
+
+sub-t14 : tie.Need-sub-t14
+sub-t14 c = search needs
 
 cast-t11 : tie.Need-cast-t11
 cast-t11 c =
@@ -44,7 +47,7 @@ returns-4 : tie.Need-returns-4
 returns-4 c =
     let e = c .before .before .before .before in
     let s = shaped _ _ _ (e .before .is-misshapen .ensures) (e .if1 .left) in
-    find-at _ _ _ s (omega arith) (omega arith) _ (c .leading-up-to .ensures .0)
+    find-at _ _ _ s (omega arith) (omega arith) _ (omega (arith, c .stretch-end .ensures .0))
 
 pub find-spec : {M : Type 1} → statement M
 find-spec =
@@ -55,6 +58,7 @@ find-spec =
     returns-2
     shared-slice-read-if3
     returns-3
-    leading-up-to-requires
+    stretch-end-requires
+    sub-t14
     cast-t11
     returns-4)

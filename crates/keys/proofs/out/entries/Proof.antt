@@ -5,11 +5,6 @@ use borrow.Author.Needs.{needs}
 use lib.ListN.{length}
 use Rattle.keys.proofs.out.entries.Statement.{statement}
 use Rattle.keys.proofs.out.entries.Tie as tie
-use Rattle.keys.proofs.out.entries.Reads as reads
-use Rattle.keys.proofs.out.entries.Lts as lts
-use Rattle.keys.proofs.out.end.Reads as end-reads
-use Rattle.keys.proofs.out.name.Reads as name-reads
-use Rattle.keys.proofs.out.number.Reads as number-reads
 
 abbrev Inv-loop : tie.InvT-loop
 Inv-loop s i₀ i = i ≤ length s

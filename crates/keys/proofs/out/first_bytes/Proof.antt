@@ -4,14 +4,12 @@ use lib.Seq.{length-take-le}
 use borrow.Author.Needs.{needs}
 use Rattle.keys.proofs.out.first_bytes.Statement.{statement}
 use Rattle.keys.proofs.out.first_bytes.Tie as tie
-use Rattle.keys.proofs.out.first_bytes.Reads as reads
-use Rattle.keys.proofs.out.first_bytes.Lts as lts
 
 returns : tie.Need-returns
 returns c = search needs
 
 slice-aggregate-result : tie.Need-slice-aggregate-result
-slice-aggregate-result c = sym (length-take-le _ _ (c .if1 .left))
+slice-aggregate-result c = sym (length-take-le _ _ (c .before .if1 .left))
 
 returns-2 : tie.Need-returns-2
 returns-2 c = search needs

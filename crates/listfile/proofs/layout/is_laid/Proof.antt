@@ -3,9 +3,6 @@ use Rattle.listfile.proofs.Heading.{layout-starts, layout-images, layou
 use borrow.Author.Needs.{needs}
 use Rattle.listfile.proofs.layout.is_laid.Statement.{statement}
 use Rattle.listfile.proofs.layout.is_laid.Tie as tie
-use Rattle.listfile.proofs.layout.is_laid.Reads as reads
-use Rattle.listfile.proofs.layout.is_laid.Lts as lts
-use Rattle.listfile.proofs.words.word.Reads as word-reads
 
 word-requires : tie.Need-word-requires
 word-requires c κs = search needs

@@ -6,10 +6,6 @@ use Rattle.listfile.proofs.Heading.{heading-short, heading-no-places, h
 use borrow.Author.Needs.{needs}
 use Rattle.listfile.proofs.layout.read_header.Statement.{statement}
 use Rattle.listfile.proofs.layout.read_header.Tie as tie
-use Rattle.listfile.proofs.layout.read_header.Reads as reads
-use Rattle.listfile.proofs.layout.read_header.Lts as lts
-use Rattle.listfile.proofs.layout.is_laid.Reads as is-laid-reads
-use Rattle.listfile.proofs.words.word.Reads as word-reads
 
 returns : tie.Need-returns
 returns c = heading-short _ _ (c .if1 .taken)

@@ -6,12 +6,6 @@ use Rattle.listfile.proofs.Rows.{refusal-length}
 use borrow.Author.Needs.{needs}
 use Rattle.listfile.proofs.listing.answer_text.Statement.{statement}
 use Rattle.listfile.proofs.listing.answer_text.Tie as tie
-use Rattle.listfile.proofs.listing.answer_text.Reads as reads
-use Rattle.listfile.proofs.listing.answer_text.Lts as lts
-use Rattle.listfile.proofs.listing.table.Reads as table-reads
-use Rattle.listfile.proofs.text.refusal.Reads as refusal-reads
-use Rattle.runs.proofs.Refusal.number.Reads as number-reads
-use Rattle.runs.proofs.Refusal.place.Reads as place-reads
 
 enum-known-answer : tie.Need-enum-known-answer
 enum-known-answer c = search needs

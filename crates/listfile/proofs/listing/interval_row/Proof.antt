@@ -9,11 +9,6 @@ use Rattle.listfile.proofs.Rows.{bits-small, row-bits, holders-long}
 use borrow.Author.Needs.{needs}
 use Rattle.listfile.proofs.listing.interval_row.Statement.{statement}
 use Rattle.listfile.proofs.listing.interval_row.Tie as tie
-use Rattle.listfile.proofs.listing.interval_row.Reads as reads
-use Rattle.listfile.proofs.listing.interval_row.Lts as lts
-use Rattle.listfile.proofs.listing.weight_of.Reads as weight-of-reads
-use Rattle.listfile.proofs.text.row.Reads as row-reads
-use Rattle.runs.proofs.shift.Reads as shift-reads
 
 mul-start : tie.Need-mul-start
 mul-start c = search needs

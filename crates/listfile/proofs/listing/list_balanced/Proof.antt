@@ -4,11 +4,6 @@ use Rattle.listfile.proofs.Answering.{answered}
 use borrow.Author.Needs.{needs}
 use Rattle.listfile.proofs.listing.list_balanced.Statement.{statement}
 use Rattle.listfile.proofs.listing.list_balanced.Tie as tie
-use Rattle.listfile.proofs.listing.list_balanced.Reads as reads
-use Rattle.listfile.proofs.listing.list_balanced.Lts as lts
-use Rattle.balance.proofs.balance.Reads as balance-reads
-use Rattle.listfile.proofs.listing.answer_text.Reads as answer-text-reads
-use Rattle.listfile.proofs.read_list.Reads as read-list-reads
 
 cast-read-list : tie.Need-cast-read-list
 cast-read-list c = search needs

@@ -5,9 +5,6 @@ use lib.Seq.{length-take-le}
 use borrow.Author.Needs.{needs}
 use Rattle.listfile.proofs.listing.list_body.Statement.{statement}
 use Rattle.listfile.proofs.listing.list_body.Tie as tie
-use Rattle.listfile.proofs.listing.list_body.Reads as reads
-use Rattle.listfile.proofs.listing.list_body.Lts as lts
-use Rattle.listfile.proofs.listing.list_balanced.Reads as list-balanced-reads
 
 cast-k : tie.Need-cast-k
 cast-k c = search needs

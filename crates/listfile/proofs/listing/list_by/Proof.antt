@@ -6,10 +6,6 @@ use Rattle.listfile.proofs.Listings.{list-short, list-copied}
 use borrow.Author.Needs.{needs}
 use Rattle.listfile.proofs.listing.list_by.Statement.{statement}
 use Rattle.listfile.proofs.listing.list_by.Tie as tie
-use Rattle.listfile.proofs.listing.list_by.Reads as reads
-use Rattle.listfile.proofs.listing.list_by.Lts as lts
-use Rattle.bytes.proofs.copy.Reads as copy-reads
-use Rattle.listfile.proofs.listing.listing.Reads as listing-reads
 
 listing-requires : tie.Need-listing-requires
 listing-requires c κs = search needs

@@ -8,13 +8,6 @@ use Rattle.listfile.proofs.Listings.{listing-refused, listing-read}
 use borrow.Author.Needs.{needs}
 use Rattle.listfile.proofs.listing.listing.Statement.{statement}
 use Rattle.listfile.proofs.listing.listing.Tie as tie
-use Rattle.listfile.proofs.listing.listing.Reads as reads
-use Rattle.listfile.proofs.listing.listing.Lts as lts
-use Rattle.listfile.proofs.layout.read_header.Reads as read-header-reads
-use Rattle.listfile.proofs.listing.list_body.Reads as list-body-reads
-use Rattle.listfile.proofs.text.refusal.Reads as refusal-reads
-use Rattle.runs.proofs.Refusal.number.Reads as number-reads
-use Rattle.runs.proofs.Refusal.place.Reads as place-reads
 
 read-header-requires : tie.Need-read-header-requires
 read-header-requires c κs = search needs

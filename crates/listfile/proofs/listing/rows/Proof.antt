@@ -8,9 +8,6 @@ use Rattle.tables.specs.Tables.{tables}
 use Rattle.listfile.proofs.Rows.{Rows, rows-start, row-fits, rows-more}
 use Rattle.listfile.proofs.listing.rows.Statement.{statement}
 use Rattle.listfile.proofs.listing.rows.Tie as tie
-use Rattle.listfile.proofs.listing.rows.Reads as reads
-use Rattle.listfile.proofs.listing.rows.Lts as lts
-use Rattle.listfile.proofs.listing.interval_row.Reads as interval-row-reads
 
 abbrev Inv-loop : tie.InvT-loop
 Inv-loop page₀ at n starts images holders next₀ x₀ page next x =

@@ -10,10 +10,6 @@ use Rattle.listfile.proofs.Rows.{head-length, texts-most}
 use borrow.Author.Needs.{needs}
 use Rattle.listfile.proofs.listing.table.Statement.{statement}
 use Rattle.listfile.proofs.listing.table.Tie as tie
-use Rattle.listfile.proofs.listing.table.Reads as reads
-use Rattle.listfile.proofs.listing.table.Lts as lts
-use Rattle.listfile.proofs.listing.rows.Reads as rows-reads
-use Rattle.listfile.proofs.text.head.Reads as head-reads
 
 cast-head : tie.Need-cast-head
 cast-head c = search needs

@@ -6,9 +6,6 @@ use Rattle.listfile.proofs.Rows.{weighed, unrefused}
 use borrow.Author.Needs.{needs}
 use Rattle.listfile.proofs.listing.weight_of.Statement.{statement}
 use Rattle.listfile.proofs.listing.weight_of.Tie as tie
-use Rattle.listfile.proofs.listing.weight_of.Reads as reads
-use Rattle.listfile.proofs.listing.weight_of.Lts as lts
-use Rattle.tables.proofs.weight.Reads as weight-reads
 
 weight-requires : tie.Need-weight-requires
 weight-requires c κs = search needs

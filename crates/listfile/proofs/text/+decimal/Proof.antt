@@ -1,7 +1,6 @@
 -- `decimal` meets its contract, by recursion: the digits of a tenth of v, and then the last one. The measure is v.
 use mathlib.Core.Path.{_∙_}
 use native.Mathlib.Omega.{arith}
-use borrow.Author.Needs.{needs}
 use Rattle.listfile.proofs.Writing.{fits-first, fits-second, wrote-both}
 use Rattle.listfile.proofs.Digits.{decimal-small, decimal-large}
 use Prim.Native.Nat.{ℕ, _<_}

@@ -3,10 +3,6 @@ use Rattle.listfile.proofs.Writing.{fits-first, fits-second, wrote-both
 use borrow.Author.Needs.{needs}
 use Rattle.listfile.proofs.text.field.Statement.{statement}
 use Rattle.listfile.proofs.text.field.Tie as tie
-use Rattle.listfile.proofs.text.field.Reads as reads
-use Rattle.listfile.proofs.text.field.Lts as lts
-use Rattle.listfile.proofs.text.decimal.Reads as decimal-reads
-use Rattle.listfile.proofs.text.put.Reads as put-reads
 
 decimal-requires : tie.Need-decimal-requires
 decimal-requires c κs = fits-first _ _ _ _ (c .before .before .pre)

@@ -3,9 +3,6 @@ use Rattle.listfile.proofs.Writing.{fits-first, fits-second, wrote-both
 use borrow.Author.Needs.{needs}
 use Rattle.listfile.proofs.text.head.Statement.{statement}
 use Rattle.listfile.proofs.text.head.Tie as tie
-use Rattle.listfile.proofs.text.head.Reads as reads
-use Rattle.listfile.proofs.text.head.Lts as lts
-use Rattle.listfile.proofs.text.field.Reads as field-reads
 
 field-requires : tie.Need-field-requires
 field-requires c κs = fits-first _ _ _ _ (c .before .before .pre)

@@ -2,8 +2,6 @@
 use Rattle.listfile.proofs.Signs.{bits-sign}
 use Rattle.listfile.proofs.text.is_negative.Statement.{statement}
 use Rattle.listfile.proofs.text.is_negative.Tie as tie
-use Rattle.listfile.proofs.text.is_negative.Reads as reads
-use Rattle.listfile.proofs.text.is_negative.Lts as lts
 
 returns : tie.Need-returns
 returns c = bits-sign _ (c .fits .v)

@@ -6,8 +6,6 @@ use Rattle.listfile.proofs.Signs.{bits-back, bits-sign, bits-positive, 
 use borrow.Author.Needs.{needs}
 use Rattle.listfile.proofs.text.magnitude.Statement.{statement}
 use Rattle.listfile.proofs.text.magnitude.Tie as tie
-use Rattle.listfile.proofs.text.magnitude.Reads as reads
-use Rattle.listfile.proofs.text.magnitude.Lts as lts
 
 sub-result : tie.Need-sub-result
 sub-result c = opposite-fits _ (c .before .fits .v) (c .before .pre) (sym (bits-sign _ (c .before .fits .v)) ∙ c .if1 .taken)

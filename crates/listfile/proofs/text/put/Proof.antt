@@ -4,8 +4,6 @@ use Rattle.listfile.proofs.Writing.{wrote-byte}
 use borrow.Author.Needs.{needs}
 use Rattle.listfile.proofs.text.put.Statement.{statement}
 use Rattle.listfile.proofs.text.put.Tie as tie
-use Rattle.listfile.proofs.text.put.Reads as reads
-use Rattle.listfile.proofs.text.put.Lts as lts
 
 slice-write-page : tie.Need-slice-write-page
 slice-write-page c = search needs

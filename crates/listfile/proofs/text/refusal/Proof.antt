@@ -6,10 +6,6 @@ use Rattle.listfile.proofs.Writing.{wrote-start, fits-first, fits-secon
 use borrow.Author.Needs.{needs}
 use Rattle.listfile.proofs.text.refusal.Statement.{statement}
 use Rattle.listfile.proofs.text.refusal.Tie as tie
-use Rattle.listfile.proofs.text.refusal.Reads as reads
-use Rattle.listfile.proofs.text.refusal.Lts as lts
-use Rattle.bytes.proofs.copy.Reads as copy-reads
-use Rattle.listfile.proofs.text.field.Reads as field-reads
 
 -- `refused`, and a space
 abbrev word : List ℕ

@@ -4,10 +4,6 @@ use Rattle.listfile.proofs.Signs.{bits-back}
 use borrow.Author.Needs.{needs}
 use Rattle.listfile.proofs.text.row.Statement.{statement}
 use Rattle.listfile.proofs.text.row.Tie as tie
-use Rattle.listfile.proofs.text.row.Reads as reads
-use Rattle.listfile.proofs.text.row.Lts as lts
-use Rattle.listfile.proofs.text.field.Reads as field-reads
-use Rattle.listfile.proofs.text.signed_field.Reads as signed-field-reads
 
 field-requires : tie.Need-field-requires
 field-requires c κs = fits-first _ _ _ _ (c .before .before .pre .1)

@@ -4,12 +4,6 @@ use Rattle.listfile.proofs.Signs.{signed-minus, signed-plus}
 use borrow.Author.Needs.{needs}
 use Rattle.listfile.proofs.text.signed.Statement.{statement}
 use Rattle.listfile.proofs.text.signed.Tie as tie
-use Rattle.listfile.proofs.text.signed.Reads as reads
-use Rattle.listfile.proofs.text.signed.Lts as lts
-use Rattle.listfile.proofs.text.decimal.Reads as decimal-reads
-use Rattle.listfile.proofs.text.is_negative.Reads as is-negative-reads
-use Rattle.listfile.proofs.text.magnitude.Reads as magnitude-reads
-use Rattle.listfile.proofs.text.put.Reads as put-reads
 
 magnitude-requires : tie.Need-magnitude-requires
 magnitude-requires c κs = search needs

@@ -4,10 +4,6 @@ use Rattle.listfile.proofs.Signs.{bits-back}
 use borrow.Author.Needs.{needs}
 use Rattle.listfile.proofs.text.signed_field.Statement.{statement}
 use Rattle.listfile.proofs.text.signed_field.Tie as tie
-use Rattle.listfile.proofs.text.signed_field.Reads as reads
-use Rattle.listfile.proofs.text.signed_field.Lts as lts
-use Rattle.listfile.proofs.text.put.Reads as put-reads
-use Rattle.listfile.proofs.text.signed.Reads as signed-reads
 
 signed-requires : tie.Need-signed-requires
 signed-requires c κs =

@@ -1,5 +1,5 @@
 -- `read_words` meets its contract: after i turns the slice holds the first i of the words, and then what it held.
-use Prim.Native.Nat.{_+_, _-_, _*_, _≤_}
+use Prim.Native.Nat.{_+_, _-_, _≤_}
 use mathlib.Core.Path.{_≡_, refl, sym, _∙_}
 use mathlib.Core.List.{_++_}
 use native.Mathlib.Omega.{arith}
@@ -10,9 +10,6 @@ use Rattle.listfile.specs.File.{wordsOf}
 use Rattle.listfile.proofs.Reading.{filling, filling-done, words-count}
 use Rattle.listfile.proofs.words.read_words.Statement.{statement}
 use Rattle.listfile.proofs.words.read_words.Tie as tie
-use Rattle.listfile.proofs.words.read_words.Reads as reads
-use Rattle.listfile.proofs.words.read_words.Lts as lts
-use Rattle.listfile.proofs.words.word.Reads as word-reads
 
 abbrev Inv-loop : tie.InvT-loop
 Inv-loop bytes first to₀ i₀ to i =

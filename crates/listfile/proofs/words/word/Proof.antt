@@ -4,9 +4,6 @@ use Rattle.listfile.proofs.Reading.{word-at}
 use borrow.Author.Needs.{needs}
 use Rattle.listfile.proofs.words.word.Statement.{statement}
 use Rattle.listfile.proofs.words.word.Tie as tie
-use Rattle.listfile.proofs.words.word.Reads as reads
-use Rattle.listfile.proofs.words.word.Lts as lts
-use Rattle.listfile.proofs.words.wide.Reads as wide-reads
 
 mul-at : tie.Need-mul-at
 mul-at c = search needs

@@ -61,16 +61,19 @@ first-requires c κs =
     let h = held-is _ _ (sym (e .before .is-unheld .ensures) ∙ e .if1 .left) in
     search needs
 
-sub-leading-up-to : tie.Need-sub-leading-up-to
-sub-leading-up-to c = search needs
+sub-stretch-end : tie.Need-sub-stretch-end
+sub-stretch-end c = search needs
 
-cast-leading-up-to : tie.Need-cast-leading-up-to
-cast-leading-up-to c = search needs
+cast-stretch-end : tie.Need-cast-stretch-end
+cast-stretch-end c = search needs
 
-leading-up-to-requires : tie.Need-leading-up-to-requires
-leading-up-to-requires c κs =
+stretch-end-requires : tie.Need-stretch-end-requires
+stretch-end-requires c κs =
     let e = c .before .before .before .before .before .before .before .before .before in
     first-within _ _ _ (c .first .ensures) (sym (e .before .is-unheld .ensures) ∙ e .if1 .left)
+
+sub-t23 : tie.Need-sub-t23
+sub-t23 c = search needs
 
 cast-t15 : tie.Need-cast-t15
 cast-t15 c = search needs
@@ -80,7 +83,7 @@ returns-4 c =
     let e = c .before .before .before .before .before .before .before .before .before .before in
     let f = sym (e .before .is-unheld .ensures) ∙ e .if1 .left in
     stretch-to _ _ _ (placed _ _ _ f (omega arith) (omega arith)) _ _ _ (c .before .first .ensures) (omega arith) (omega arith)
-    (c .leading-up-to .ensures .0)
+    (c .stretch-end .ensures .0)
 
 pub size-spec : {M : Type 1} → statement M
 size-spec =
@@ -101,8 +104,9 @@ size-spec =
     wide-requires-3
     returns-3
     first-requires
-    sub-leading-up-to
-    cast-leading-up-to
-    leading-up-to-requires
+    sub-stretch-end
+    cast-stretch-end
+    stretch-end-requires
+    sub-t23
     cast-t15
     returns-4)

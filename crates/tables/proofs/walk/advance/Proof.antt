@@ -1,5 +1,5 @@
 -- `advance` meets its contract: an outcome law for each way to return.
-use Rattle.tables.proofs.Steps.{advance-broken, advance-to}
+use Rattle.tables.proofs.Steps.{advance-broken, advance-end}
 use Rattle.tables.proofs.Passing.{broken-unheld, broken-far, whole, held-is}
 use native.Mathlib.Omega.{arith}
 use mathlib.Core.Path.{sym, _∙_}
@@ -45,46 +45,49 @@ returns-2 c =
     let e = c .before .before .before .before .before .before in
     advance-broken _ _ _ _ (broken-far _ _ _ _ (sym (e .before .is-unheld .ensures) ∙ e .if1 .left) (omega arith))
 
-mul-h : tie.Need-mul-h
-mul-h c = search needs
+mul-from : tie.Need-mul-from
+mul-from c = search needs
 
-shared-slice-read-h : tie.Need-shared-slice-read-h
-shared-slice-read-h c = search needs
+shared-slice-read-from : tie.Need-shared-slice-read-from
+shared-slice-read-from c = search needs
 
-cast-h : tie.Need-cast-h
-cast-h c =
+cast-from : tie.Need-cast-from
+cast-from c =
     let s = c .before .before .before .before .before .before .before .before .before .before .before .before in
     omega (arith, c .shared-slice-known6 .given (s .args .x))
 
-add-leading-up-to : tie.Need-add-leading-up-to
-add-leading-up-to c =
+add-from : tie.Need-add-from
+add-from c =
     let e = c .before .before .before .before .before .before .before in
     let h = held-is _ _ (sym (e .before .is-unheld .ensures) ∙ e .if1 .left) in
     omega arith
 
-cast-leading-up-to : tie.Need-cast-leading-up-to
-cast-leading-up-to c = search needs
+cast-stretch-end : tie.Need-cast-stretch-end
+cast-stretch-end c = search needs
 
-leading-up-to-requires : tie.Need-leading-up-to-requires
-leading-up-to-requires c κs =
+stretch-end-requires : tie.Need-stretch-end-requires
+stretch-end-requires c κs =
     let e = c .before .before .before .before .before .before .before in
     let h = held-is _ _ (sym (e .before .is-unheld .ensures) ∙ e .if1 .left) in
     omega arith
+
+cast-t20 : tie.Need-cast-t20
+cast-t20 c = search needs
+
+sub-t18 : tie.Need-sub-t18
+sub-t18 c = search needs
 
 cast-t21 : tie.Need-cast-t21
 cast-t21 c = search needs
 
-add-t14 : tie.Need-add-t14
-add-t14 c = search needs
-
-cast-t16 : tie.Need-cast-t16
-cast-t16 c = search needs
+sub-t14 : tie.Need-sub-t14
+sub-t14 c = search needs
 
 returns-3 : tie.Need-returns-3
 returns-3 c =
     let e = c .before .before .before .before .before .before .before .before in
     let f = sym (e .before .is-unheld .ensures) ∙ e .if1 .left in
-    advance-to _ _ _ _ (whole _ _ _ _ f (omega arith)) _ _ _ (omega arith) (omega arith) (c .leading-up-to .ensures .0)
+    advance-end _ _ _ _ (whole _ _ _ _ f (omega arith)) _ _ _ (omega arith) (omega arith) (c .stretch-end .ensures .0)
 
 pub advance-spec : {M : Type 1} → statement M
 advance-spec =
@@ -102,13 +105,14 @@ advance-spec =
     add-j
     wide-requires-3
     returns-2
-    mul-h
-    shared-slice-read-h
-    cast-h
-    add-leading-up-to
-    cast-leading-up-to
-    leading-up-to-requires
+    mul-from
+    shared-slice-read-from
+    cast-from
+    add-from
+    cast-stretch-end
+    stretch-end-requires
+    cast-t20
+    sub-t18
     cast-t21
-    add-t14
-    cast-t16
+    sub-t14
     returns-3)

@@ -1,0 +1,210 @@
+-- `write_list` meets its contract: each turn writes the next merged entry and its image (proofs/Writing).
+use Prim.Native.Nat.{ℕ, _+_, _-_, _<_}
+use mathlib.Core.Path.{_≡_, ap, _∙_}
+use mathlib.Core.List.{List}
+use native.Mathlib.Omega.{arith}
+use lib.ListN.{length, getD}
+use Rattle.runs.specs.Runs.{Runs, runs}
+use Rattle.runs.proofs.Searches.{getD-default}
+use Rattle.balance.specs.Cuts.{merged, At, Has}
+use Rattle.balance.proofs.Merged.{merged-length, at-sum, at-own}
+use Rattle.balance.proofs.Writing.{Writing, has-passed, writing-start, writing-next, writing-kept, writing-end}
+use Rattle.balance.proofs.fill.write_list.Statement.{statement}
+use Rattle.balance.proofs.fill.write_list.Tie as tie
+
+abbrev Inv-loop : tie.InvT-loop
+Inv-loop n starts images cuts to-starts₀ to-images₀ mark₀ m₀ to-starts to-images mark m =
+    Writing n (runs starts images) cuts to-starts₀ to-images₀ to-starts to-images mark m
+
+abbrev μ-loop : tie.MeasureT-loop
+μ-loop n starts images cuts to-starts₀ to-images₀ mark₀ m₀ to-starts to-images mark m =
+    length starts + length cuts - m
+
+-- the list that is handed in, and its starts with the cuts
+abbrev listOf : tie.Start Inv-loop μ-loop → Runs
+listOf a = runs (a .args .starts .now) (a .args .images .now)
+
+abbrev mergedOf : tie.Start Inv-loop μ-loop → List ℕ
+mergedOf a = merged (a .args .starts .now) (a .args .cuts .now)
+
+loop-holds : tie.Need-loop-holds Inv-loop μ-loop
+loop-holds c = let e = merged-length (c .before .before .before .before .before .args .starts .now)
+    (c .before .before .before .before .before .args .cuts .now) in
+    writing-start _ (listOf (c .before .before .before .before .before)) _ _ _
+    (c .before .before .before .before .before .pre .1)
+    (omega (arith, c .before .before .before .before .before .pre .2))
+    (omega (arith, c .before .before .before .before .before .pre .3))
+
+add-loop : tie.Need-add-loop Inv-loop μ-loop
+add-loop c = omega (
+  arith,
+  c .before .before .before .before .before .before .pre .2,
+  c .before .before .before .before .before .before .good,
+)
+
+-- the tables are as long as they were
+kept : (c : tie.At-loop Inv-loop μ-loop) → let a = c .before .before .before .before .before .before .args in
+    (length (c .loop .to-starts) ≡ length (a .to-starts .now))
+    × (length (c .loop .to-images) ≡ length (a .to-images .now))
+kept c = writing-kept _ (listOf (c .before .before .before .before .before .before)) _ _ _
+    (c .before .before .before .before .before .before .pre .1) _ _ _ _ (c .loop .inv)
+
+-- an entry is left
+some : (c : tie.In-loop Inv-loop μ-loop)
+    → c .before .loop .m < length (mergedOf (c .before .before .before .before .before .before .before))
+some c = omega (
+  arith,
+  c .loop-test .taken,
+  merged-length (c .before .before .before .before .before .before .before .args .starts .now)
+      (c .before .before .before .before .before .before .before .args .cuts .now),
+)
+
+entry-at-requires : tie.Need-entry-at-requires Inv-loop μ-loop
+entry-at-requires c κs = (
+  c .before .before .before .before .before .before .before .pre .1,
+  at-own _ _ _ (c .before .before .before .before .before .before .before .pre .1) _ _ (c .before .loop .inv .at),
+)
+
+next-mark-requires : tie.Need-next-mark-requires Inv-loop μ-loop
+next-mark-requires c κs = let a = c .before .before .loop .inv .at in (
+  c .before .before .before .before .before .before .before .before .pre .1,
+  at-own _ _ _ (c .before .before .before .before .before .before .before .before .pre .1) _ _ a,
+  omega (
+    arith,
+    some (c .before),
+    at-sum _ _ _ (c .before .before .before .before .before .before .before .before .pre .1) _ _ a,
+  ),
+)
+
+-- the entry that is written, the mark after it, and the run that has it
+entry : (c : tie.After-entry-at Inv-loop μ-loop)
+    → c .entry-at .result ≡ getD (mergedOf (c .before .before .before .before .before .before .before .before))
+    (c .before .before .loop .m) 0
+entry c =
+    c .entry-at .ensures ∙ ap
+    (λ (k : ℕ). getD (mergedOf (c .before .before .before .before .before .before .before .before)) k
+    (c .before .before .before .before .before .before .before .before .args .n))
+    (at-sum _ _ _ (c .before .before .before .before .before .before .before .before .pre .1) _ _
+    (c .before .before .loop .inv .at))
+    ∙ getD-default (mergedOf (c .before .before .before .before .before .before .before .before))
+    (c .before .before .loop .m) (c .before .before .before .before .before .before .before .before .args .n) 0
+    (some (c .before))
+
+passed : (c : tie.After-next-mark Inv-loop μ-loop)
+    → At (c .before .before .before .before .before .before .before .before .before .args .n)
+    (c .before .before .before .before .before .before .before .before .before .args .starts .now)
+    (c .before .before .before .before .before .before .before .before .before .args .cuts .now)
+    (c .next-mark .result) (c .before .before .before .loop .m + 1)
+passed c = let s = at-sum _ _ _ (c .before .before .before .before .before .before .before .before .before .pre .1) _
+    _ (c .before .before .before .loop .inv .at) in rw s at (c .next-mark .ensures)
+
+had : (c : tie.After-next-mark Inv-loop μ-loop) → let k = c .next-mark .result .starts in
+    (0 < k) × Has (c .before .before .before .before .before .before .before .before .before .args .n)
+    (c .before .before .before .before .before .before .before .before .before .args .starts .now) (k - 1)
+    (c .before .entry-at .result)
+had c =
+    let a = c .before .before .before .before .before .before .before .before .before .args in
+    has-passed (a .n) (listOf (c .before .before .before .before .before .before .before .before .before))
+    (a .cuts .now) (a .to-starts .now) (a .to-images .now)
+    (c .before .before .before .before .before .before .before .before .before .pre .1)
+    (c .before .before .before .before .before .before .before .before .before .pre .0) _ _ _ (passed c)
+    (some (c .before .before)) (entry (c .before))
+
+mul-to-starts : tie.Need-mul-to-starts Inv-loop μ-loop
+mul-to-starts c = omega (
+  arith,
+  some (c .before .before),
+  c .before .before .before .before .before .before .before .before .before .pre .2,
+  c .before .before .before .before .before .before .before .before .before .good,
+)
+
+slice-write-to-starts : tie.Need-slice-write-to-starts Inv-loop μ-loop
+slice-write-to-starts c =
+    omega (
+      arith,
+      some (c .before .before),
+      c .before .before .before .before .before .before .before .before .before .pre .2,
+      kept (c .before .before .before) .0,
+    )
+
+sub-image-of : tie.Need-sub-image-of Inv-loop μ-loop
+sub-image-of c = omega (arith, had (c .before) .0)
+
+image-of-requires : tie.Need-image-of-requires Inv-loop μ-loop
+image-of-requires c κs = (
+  c .before .before .before .before .before .before .before .before .before .before .pre .0,
+  had (c .before) .1,
+)
+
+mul-to-images : tie.Need-mul-to-images Inv-loop μ-loop
+mul-to-images c = omega (
+  arith,
+  some (c .before .before .before .before),
+  c .before .before .before .before .before .before .before .before .before .before .before .pre .3,
+  c .before .before .before .before .before .before .before .before .before .before .before .good,
+)
+
+slice-write-to-images : tie.Need-slice-write-to-images Inv-loop μ-loop
+slice-write-to-images c = omega (
+  arith,
+  some (c .before .before .before .before),
+  c .before .before .before .before .before .before .before .before .before .before .before .pre .3,
+  kept (c .before .before .before .before .before) .1,
+)
+
+add-m : tie.Need-add-m Inv-loop μ-loop
+add-m c = omega (
+  arith,
+  c .before .before .before .before .loop-test .taken,
+  c .before .before .before .before .before .before .before .before .before .before .before .pre .2,
+  c .before .before .before .before .before .before .before .before .before .before .before .good,
+)
+
+loop-less : tie.Need-loop-less Inv-loop μ-loop
+loop-less c = omega arith
+
+loop-again : tie.Need-loop-again Inv-loop μ-loop
+loop-again c = writing-next _
+    (listOf (c .before .before .before .before .before .before .before .before .before .before .before)) _ _ _
+    (c .before .before .before .before .before .before .before .before .before .before .before .pre .1) _ _ _ _
+    (c .before .before .before .before .before .loop .inv) _ _ _ (some (c .before .before .before .before))
+    (passed (c .before .before)) (entry (c .before .before .before)) (c .image-of .ensures)
+
+same-length : tie.Need-same-length Inv-loop μ-loop
+same-length c = kept (c .before) .0
+
+same-length-2 : tie.Need-same-length-2 Inv-loop μ-loop
+same-length-2 c = kept (c .before) .1
+
+returns : tie.Need-returns Inv-loop μ-loop
+returns c = writing-end _ (listOf (c .before .before .before .before .before .before .before)) _ _ _
+    (c .before .before .before .before .before .before .before .pre .1) _ _ _ _ (c .before .loop .inv)
+    (omega (
+      arith,
+      c .loop-test .left,
+      merged-length (c .before .before .before .before .before .before .before .args .starts .now)
+          (c .before .before .before .before .before .before .before .args .cuts .now),
+    ))
+
+pub write-list-spec : {M : Type 1} → statement M
+write-list-spec =
+    tie.close
+    (tie.spec
+    Inv-loop
+    μ-loop
+    loop-holds
+    add-loop
+    entry-at-requires
+    next-mark-requires
+    mul-to-starts
+    slice-write-to-starts
+    sub-image-of
+    image-of-requires
+    mul-to-images
+    slice-write-to-images
+    add-m
+    loop-less
+    loop-again
+    same-length
+    same-length-2
+    returns)

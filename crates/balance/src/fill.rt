@@ -1,0 +1,95 @@
+// Writes the tables of a list after cuts.
+use super::Mark;
+use super::marks;
+ghost use mathlib.Core.Path.{_≡_};
+ghost use mathlib.Core.List.{map};
+ghost use Prim.Native.Nat.{_+_, _≤_};
+ghost use lib.ListN.{length, replicate};
+ghost use Rattle.runs.specs.Legal.{Legal};
+ghost use Rattle.runs.specs.Runs.{runs, runAt, mapOf};
+ghost use Rattle.tables.specs.Tables.{tablesOf};
+ghost use Rattle.balance.specs.Cuts.{withCuts, Starts, Has, ListWritten, TablesWritten, over};
+
+// The image of `p`, which run `x` has.
+fn image_of(n: u32, starts: &[u32], images: &[u32], x: usize, p: u32) -> u32
+    requires { ⌜ Legal n (runs (now starts) (now images)) × Has n (now starts) x p ⌝ }
+    ensures { λ r. ⌜ r ≡ mapOf n (runs (now (starts .entry)) (now (images .entry))) p ⌝ }
+{
+    images[x] + (p - starts[x])
+}
+
+// Writes the starts and the cuts in rising order, and their images.
+fn write_list(
+    n: u32,
+    starts: &[u32],
+    images: &[u32],
+    cuts: &[u32],
+    to_starts: &mut [u32],
+    to_images: &mut [u32],
+)
+    requires { ⌜ Legal n (runs (now starts) (now images)) × Starts n (now starts) (now cuts)
+        × (length (now starts) + length (now cuts) ≤ length (now «to_starts»))
+        × (length (now starts) + length (now cuts) ≤ length (now «to_images»)) ⌝ }
+    ensures { λ _. ⌜ ListWritten n (runs (now (starts .entry)) (now (images .entry))) (now (cuts .entry))
+        (now («to_starts» .entry)) (now («to_images» .entry)) (now («to_starts» .exit)) (now («to_images» .exit)) ⌝ }
+{
+    let mut mark = Mark { starts: 0, cuts: 0 };
+    let mut m = 0;
+    while m < starts.len() + cuts.len() {
+        let s = marks::entry_at(n, starts, cuts, mark);
+        mark = marks::next_mark(n, starts, cuts, mark);
+        to_starts[m] = s;
+        to_images[m] = image_of(n, starts, images, mark.starts - 1, s);
+        m += 1;
+    }
+}
+
+// Writes the holder of each image: the run that has it.
+fn write_holders(n: u32, starts: &[u32], images: &[u32], to: &mut [u32])
+    requires { ⌜ Legal n (runs (now starts) (now images)) × (length (now starts) ≤ length (now to)) ⌝ }
+    ensures { λ _. ⌜ now (to .exit) ≡ over
+        (map (runAt n (runs (now (starts .entry)) (now (images .entry)))) (now (images .entry)))
+        (now (to .entry)) ⌝ }
+{
+    let mut x = 0;
+    while x < images.len() {
+        to[x] = (order::count_below(starts, images[x] + 1) - 1) as u32;
+        x += 1;
+    }
+}
+
+// Writes the tables of the list after the cuts.
+pub(crate) fn write_tables(
+    n: u32,
+    starts: &[u32],
+    images: &[u32],
+    cuts: &[u32],
+    to_starts: &mut [u32],
+    to_images: &mut [u32],
+    to_holders: &mut [u32],
+)
+    requires { ⌜ Legal n (runs (now starts) (now images)) × Starts n (now starts) (now cuts)
+        × (length (now starts) + length (now cuts) ≤ length (now «to_starts»))
+        × (length (now starts) + length (now cuts) ≤ length (now «to_images»))
+        × (length (now starts) + length (now cuts) ≤ length (now «to_holders»)) ⌝ }
+    ensures { λ _. ⌜ TablesWritten
+        (tablesOf n (withCuts n (runs (now (starts .entry)) (now (images .entry))) (now (cuts .entry))))
+        (now («to_starts» .entry)) (now («to_images» .entry)) (now («to_holders» .entry))
+        (now («to_starts» .exit)) (now («to_images» .exit)) (now («to_holders» .exit)) ⌝ }
+{
+    write_list(n, starts, images, cuts, to_starts, to_images);
+    let k = starts.len() + cuts.len();
+    write_holders(n, &to_starts[..k], &to_images[..k], to_holders);
+}
+
+// Sets the first `count` entries to 0.
+pub(crate) fn clear(s: &mut [u32], count: usize)
+    requires { ⌜ count ≤ length (now s) ⌝ }
+    ensures { λ _. ⌜ now (s .exit) ≡ over (replicate count 0) (now (s .entry)) ⌝ }
+{
+    let mut i = 0;
+    while i < count {
+        s[i] = 0;
+        i += 1;
+    }
+}

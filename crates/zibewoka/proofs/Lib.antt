@@ -1,0 +1,2 @@
+-- What the proofs of the exports rest on.
+mod Counts

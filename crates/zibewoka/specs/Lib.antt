@@ -1,0 +1,3 @@
+-- The answers that cross the boundary.
+pub mod Answers
+pub mod Lent

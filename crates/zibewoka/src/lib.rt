@@ -1,0 +1,189 @@
+// The library as C functions on numbers and slices, for a host program in Rust or C: thin above the proved operations.
+//
+// A slice passes as pointer and length. Each answer is a struct by value: `number` 0 means done; else it is the paper's
+// number, `place` is the place given with it, and the other fields are 0. specs/Answers.antt says which answer each
+// outcome is.
+mod answers;
+
+ghost use mathlib.Core.Path.{_≡_};
+ghost use Rattle.runs.specs.Runs.{runs};
+ghost use Rattle.runs.specs.Check.{checkOf};
+ghost use Rattle.tables.specs.Tables.{tables};
+ghost use Rattle.tables.specs.Move.{findOf, moveOf, movesOf};
+ghost use Rattle.tables.specs.Inverse.{inverseOf};
+ghost use Rattle.tables.specs.Under.{weightOf};
+ghost use Rattle.balance.specs.Lent.{lent};
+ghost use Rattle.zibewoka.specs.Answers.{listAnswer, findAnswer, moveAnswer, movesAnswer, inverseAnswer, weightAnswer};
+ghost use Rattle.zibewoka.specs.Lent.{BalanceAnswered, InverseListAnswered};
+
+// The answer of check and inverse list.
+#[repr(C)]
+pub struct ListAnswer {
+    pub number: u32,
+    pub place: u32,
+}
+
+// The answer of balance: how many intervals the balanced list has.
+#[repr(C)]
+pub struct BalanceAnswer {
+    pub number: u32,
+    pub place: u32,
+    pub intervals: u32,
+}
+
+// The answer of find, inverse and weight. Find's place is the one asked about, inverse's the one that it was reached
+// from, weight's 0; weight gives the weight as `interval`.
+#[repr(C)]
+pub struct IntervalAnswer {
+    pub number: u32,
+    pub place: u32,
+    pub interval: u32,
+}
+
+// The answer of a move.
+#[repr(C)]
+pub struct MoveAnswer {
+    pub number: u32,
+    pub place: u32,
+    pub interval: u32,
+    pub count: u32,
+}
+
+// The answer of a repeated move.
+#[repr(C)]
+pub struct MovesAnswer {
+    pub number: u32,
+    pub place: u32,
+    pub interval: u32,
+    pub count: u64,
+}
+
+// Whether a list is legal and has at most 16,384 runs.
+#[no_mangle]
+pub extern "C" fn zibewoka_check(n: u32, starts: &[u32], images: &[u32]) -> ListAnswer
+    ensures { λ r. ⌜ r ≡ listAnswer (checkOf n (runs (now (starts .entry)) (now (images .entry)))) ⌝ }
+{
+    answers::of_list(runs::check(n, starts, images))
+}
+
+// Balances a list into three lent tables, over a lent working table.
+#[no_mangle]
+pub extern "C" fn zibewoka_balance(
+    n: u32,
+    starts: &[u32],
+    images: &[u32],
+    d: u32,
+    to_starts: &mut [u32],
+    to_images: &mut [u32],
+    to_holders: &mut [u32],
+    working: &mut [u32],
+) -> BalanceAnswer
+    ensures { λ r. ⌜ BalanceAnswered n (runs (now (starts .entry)) (now (images .entry))) d
+        (lent (now («to_starts» .entry)) (now («to_images» .entry)) (now («to_holders» .entry)) (now (working .entry)))
+        (lent (now («to_starts» .exit)) (now («to_images» .exit)) (now («to_holders» .exit)) (now (working .exit))) r ⌝ }
+{
+    answers::of_balance(balance::balance(
+        n,
+        starts,
+        images,
+        d,
+        to_starts,
+        to_images,
+        to_holders,
+        working,
+    ))
+}
+
+// Writes the inverse list to two lent tables.
+#[no_mangle]
+pub extern "C" fn zibewoka_inverse_list(
+    n: u32,
+    starts: &[u32],
+    images: &[u32],
+    to_starts: &mut [u32],
+    to_images: &mut [u32],
+) -> ListAnswer
+    ensures { λ r. ⌜ InverseListAnswered n (runs (now (starts .entry)) (now (images .entry)))
+        (now («to_starts» .entry)) (now («to_images» .entry)) (now («to_starts» .exit)) (now («to_images» .exit)) r ⌝ }
+{
+    answers::of_list(runs::inverse_list(n, starts, images, to_starts, to_images))
+}
+
+// The interval that has a place.
+#[no_mangle]
+pub extern "C" fn zibewoka_find(
+    n: u32,
+    starts: &[u32],
+    images: &[u32],
+    holders: &[u32],
+    place: u32,
+) -> IntervalAnswer
+    ensures { λ r. ⌜ r ≡ findAnswer place (findOf n (tables (now (starts .entry)) (now (images .entry)) (now (holders .entry))) place) ⌝ }
+{
+    answers::of_find(tables::find(n, starts, images, holders, place), place)
+}
+
+// One move from a place of an interval.
+#[no_mangle]
+pub extern "C" fn zibewoka_move(
+    n: u32,
+    starts: &[u32],
+    images: &[u32],
+    holders: &[u32],
+    interval: u32,
+    place: u32,
+) -> MoveAnswer
+    ensures { λ r. ⌜ r ≡ moveAnswer (moveOf n (tables (now (starts .entry)) (now (images .entry)) (now (holders .entry))) interval place) ⌝ }
+{
+    let wide = answers::of_moves(tables::move_query(n, starts, images, holders, interval, place));
+    MoveAnswer {
+        number: wide.number,
+        place: wide.place,
+        interval: wide.interval,
+        count: wide.count as u32,
+    }
+}
+
+// m moves from a place of an interval, with the sum of their counts.
+#[no_mangle]
+pub extern "C" fn zibewoka_moves(
+    n: u32,
+    starts: &[u32],
+    images: &[u32],
+    holders: &[u32],
+    interval: u32,
+    place: u32,
+    m: u32,
+) -> MovesAnswer
+    ensures { λ r. ⌜ r ≡ movesAnswer (movesOf n (tables (now (starts .entry)) (now (images .entry)) (now (holders .entry))) m interval place) ⌝ }
+{
+    answers::of_moves(tables::repeated_moves(n, starts, images, holders, interval, place, m))
+}
+
+// The place that a place is reached from, and its interval.
+#[no_mangle]
+pub extern "C" fn zibewoka_inverse(
+    n: u32,
+    starts: &[u32],
+    images: &[u32],
+    holders: &[u32],
+    place: u32,
+) -> IntervalAnswer
+    ensures { λ r. ⌜ r ≡ inverseAnswer (inverseOf n (tables (now (starts .entry)) (now (images .entry)) (now (holders .entry))) place) ⌝ }
+{
+    answers::of_inverse(tables::inverse(n, starts, images, holders, place))
+}
+
+// How many starts lie under an interval's image.
+#[no_mangle]
+pub extern "C" fn zibewoka_weight(
+    n: u32,
+    starts: &[u32],
+    images: &[u32],
+    holders: &[u32],
+    interval: u32,
+) -> IntervalAnswer
+    ensures { λ r. ⌜ r ≡ weightAnswer (weightOf n (tables (now (starts .entry)) (now (images .entry)) (now (holders .entry))) interval) ⌝ }
+{
+    answers::of_weight(tables::weight(n, starts, images, holders, interval))
+}

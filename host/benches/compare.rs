@@ -1,0 +1,122 @@
+//! Each export beside a peer in safe Rust: the same lists, in one run. Prints a table of times and ratios.
+
+mod peer;
+#[path = "../tests/second/random.rs"]
+#[allow(dead_code)] // the tests use more of it
+mod random;
+
+use random::{list_of, List, Random};
+use std::hint::black_box;
+use std::time::{Duration, Instant};
+
+/// Seconds of a call of the library and of its peer, each by the fastest of many rounds, turn by turn.
+fn seconds<A, B>(mut library: impl FnMut() -> A, mut peer: impl FnMut() -> B) -> [f64; 2] {
+    let mut calls = 1;
+    while time(calls, &mut library) < Duration::from_millis(1) {
+        calls *= 2;
+    }
+    let mut fastest = [Duration::MAX; 2];
+    for _ in 0..20 {
+        fastest[0] = fastest[0].min(time(calls, &mut library));
+        fastest[1] = fastest[1].min(time(calls, &mut peer));
+    }
+    fastest.map(|whole| whole.as_secs_f64() / f64::from(calls))
+}
+
+fn time<T>(calls: u32, call: &mut impl FnMut() -> T) -> Duration {
+    let begun = Instant::now();
+    for _ in 0..calls {
+        black_box(call());
+    }
+    begun.elapsed()
+}
+
+/// A list of k runs of about 1,000 places each, by the order of their images; "cuts" has one run as long as all the
+/// others, whose image lies over their starts.
+fn list(r: &mut Random, shape: &str, k: usize) -> List {
+    let mut lengths: Vec<u64> = (0..k).map(|_| r.from(500, 1500)).collect();
+    let mut order: Vec<usize> = (0..k).collect();
+    match shape {
+        "shuffled" => r.shuffle(&mut order),
+        "reversed" => order.reverse(),
+        _ => {
+            lengths[k - 1] = lengths[..k - 1].iter().sum();
+            r.shuffle(&mut order[..k - 1]);
+            order.rotate_right(1);
+        }
+    }
+    list_of(&lengths, &order)
+}
+
+/// One line of the table: for each call the library's time and its ratio to the peer's.
+fn line(r: &mut Random, shape: &str, k: usize, d: u32) -> String {
+    let List { n, starts, images } = list(r, shape, k);
+    let b = d as usize * k / (d as usize - 1);
+    let mut cells = Vec::new();
+    let mut cell =
+        |unit: f64, [library, peer]: [f64; 2]| cells.push(format!("{:.1} | {:.2}", library * unit, library / peer));
+
+    cell(1e6, seconds(|| zibewoka::check(n, &starts, &images), || peer::check(n, &starts, &images)));
+
+    let [mut s, mut i, mut h, mut w] = [0; 4].map(|_| vec![0; b]);
+    let [mut peer_s, mut peer_i, mut peer_h, mut peer_w] = [0; 4].map(|_| vec![0; b]);
+    let times = seconds(
+        || zibewoka::balance(n, &starts, &images, d, &mut s, &mut i, &mut h, &mut w),
+        || peer::balance(n, &starts, &images, d, &mut peer_s, &mut peer_i, &mut peer_h, &mut peer_w),
+    );
+    assert!(s == peer_s && i == peer_i && h == peer_h && w == peer_w, "the peer balances alike");
+    cell(1e6, times);
+
+    let size = zibewoka::balance(n, &starts, &images, d, &mut s, &mut i, &mut h, &mut w).expect("legal") as usize;
+    let (s, i, h) = (&s[..size], &i[..size], &h[..size]);
+    let places: Vec<u32> = (0..64).map(|_| r.below(u64::from(n)) as u32).collect();
+    let times = seconds(
+        || places.iter().map(|&p| zibewoka::find(n, s, i, h, p).expect("a place")).sum::<u32>(),
+        || places.iter().map(|&p| peer::find(n, s, i, h, p).expect("a place")).sum::<u32>(),
+    );
+    cell(1e9 / places.len() as f64, times);
+
+    let m = 10_000;
+    let first = places[0];
+    let interval = zibewoka::find(n, s, i, h, first).expect("a place");
+    let times = seconds(
+        || {
+            (0..m).fold((first, interval), |(place, interval), _| {
+                let step = zibewoka::move_once(n, s, i, h, interval, place).expect("a move");
+                (step.place, step.interval)
+            })
+        },
+        || {
+            (0..m).fold((first, interval), |(place, interval), _| {
+                let (place, interval, _) = peer::move_once(n, s, i, h, interval, place).expect("a move");
+                (place, interval)
+            })
+        },
+    );
+    cell(1e9 / f64::from(m), times);
+    let times =
+        seconds(|| zibewoka::moves(n, s, i, h, interval, first, m), || peer::moves(n, s, i, h, interval, first, m));
+    cell(1e9 / f64::from(m), times);
+    format!("| {shape} | {k} | {d} | {size} | {} |", cells.join(" | "))
+}
+
+fn main() {
+    println!("Times of the library, and each as a ratio to the peer in safe Rust (below 1: the library is faster).");
+    println!(
+        "Release builds, the fastest of twenty rounds. No lent buffer is cleared between calls; the library clears"
+    );
+    println!("its own arrays in each check and balance, where the peer takes vectors from the heap.");
+    println!();
+    println!(
+        "| list | k | d | K | check µs | × | balance µs | × | find ns | × | move ns | × | repeated, ns a move | × |"
+    );
+    println!("|---|---|---|---|---|---|---|---|---|---|---|---|---|---|");
+    let r = &mut Random::new(7);
+    for shape in ["shuffled", "reversed", "cuts"] {
+        for k in [16, 1024, 16384] {
+            for d in [2, 8, 64] {
+                println!("{}", line(r, shape, k, d));
+            }
+        }
+    }
+}

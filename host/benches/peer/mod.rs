@@ -1,0 +1,227 @@
+//! The peers: the same calls in safe Rust, as a careful programmer would write them, with vectors for working room.
+
+pub type Outcome<T> = Result<T, (u32, u32)>;
+
+/// Tests 1 to 6. Answers the runs in rising order of image, as image and index.
+fn check_into_order(n: u32, starts: &[u32], images: &[u32]) -> Outcome<Vec<(u32, u32)>> {
+    let k = starts.len();
+    if n == 0 || k == 0 || k != images.len() {
+        return Err((1, 0));
+    }
+    if k > 16384 {
+        return Err((2, 0));
+    }
+    if starts[0] != 0 {
+        return Err((3, 0));
+    }
+    if let Some(x) = starts.windows(2).position(|pair| pair[1] <= pair[0] || n <= pair[1]) {
+        return Err((4, x as u32 + 1));
+    }
+    let ends = || starts[1..].iter().copied().chain([n]);
+    let image_ends = || starts.iter().zip(ends()).zip(images).map(|((s, e), i)| u64::from(*i) + u64::from(e - s));
+    if let Some(x) = image_ends().position(|end| u64::from(n) < end) {
+        return Err((5, x as u32));
+    }
+    let mut order: Vec<(u32, u32)> = images.iter().copied().zip(0..).collect();
+    order.sort_unstable_by_key(|&(image, _)| image);
+    let mut lowest = k as u32;
+    let mut reached = 0;
+    for (t, &(image, x)) in order.iter().enumerate() {
+        let end = image + (starts.get(x as usize + 1).copied().unwrap_or(n) - starts[x as usize]);
+        if image < reached || order.get(t + 1).is_some_and(|&(next, _)| next < end) {
+            lowest = lowest.min(x);
+        }
+        reached = reached.max(end);
+    }
+    if lowest < k as u32 {
+        return Err((6, lowest));
+    }
+    Ok(order)
+}
+
+#[inline(never)]
+pub fn check(n: u32, starts: &[u32], images: &[u32]) -> Outcome<()> {
+    check_into_order(n, starts, images).map(|_| ())
+}
+
+/// The starts of a list with cuts, answered by binary searches.
+struct Cut<'a> {
+    n: u32,
+    starts: &'a [u32],
+    cuts: Vec<u32>,
+}
+
+impl Cut<'_> {
+    fn below(&self, t: u32) -> usize {
+        self.starts.partition_point(|&s| s < t) + self.cuts.partition_point(|&s| s < t)
+    }
+
+    /// The first start at or above t, or n.
+    fn from(&self, t: u32) -> u32 {
+        let s = self.starts.get(self.starts.partition_point(|&s| s < t)).copied().unwrap_or(self.n);
+        let u = self.cuts.get(self.cuts.partition_point(|&s| s < t)).copied().unwrap_or(self.n);
+        s.min(u)
+    }
+
+    /// The last start not above v.
+    fn to(&self, v: u32) -> u32 {
+        let s = self.starts[self.starts.partition_point(|&s| s <= v) - 1];
+        match self.cuts.partition_point(|&s| s <= v) {
+            0 => s,
+            c => s.max(self.cuts[c - 1]),
+        }
+    }
+}
+
+/// The cuts that balance a legal list: a sweep by rising image that goes back where a cut makes an interval behind heavy.
+fn balancing_cuts(n: u32, starts: &[u32], images: &[u32], order: &[(u32, u32)], d: u32) -> Vec<u32> {
+    let mut list = Cut { n, starts, cuts: Vec::new() };
+    let preimage = |q: u32| {
+        let x = order[order.partition_point(|&(image, _)| image <= q) - 1].1 as usize;
+        starts[x] + (q - images[x])
+    };
+    let (mut p, mut q) = (0, 0);
+    while p < n {
+        let start = preimage(p);
+        let end = p + (list.from(start + 1) - start);
+        if list.below(end) - list.below(p) < 2 * d as usize {
+            if p == q {
+                q = end;
+            }
+            p = q;
+            continue;
+        }
+        let mut s = list.from(p);
+        for _ in 0..d {
+            s = list.from(s + 1);
+        }
+        let u = start + (s - p);
+        list.cuts.insert(list.cuts.partition_point(|&c| c < u), u);
+        p = q;
+        if u < q {
+            let v = preimage(u);
+            p = u - (v - list.to(v));
+        }
+    }
+    list.cuts
+}
+
+#[allow(clippy::too_many_arguments)]
+#[inline(never)]
+pub fn balance(
+    n: u32,
+    starts: &[u32],
+    images: &[u32],
+    d: u32,
+    to_starts: &mut [u32],
+    to_images: &mut [u32],
+    to_holders: &mut [u32],
+    working: &mut [u32],
+) -> Outcome<u32> {
+    let order = check_into_order(n, starts, images)?;
+    if !(2..=64).contains(&d) {
+        return Err((7, d));
+    }
+    let b = d as usize * starts.len() / (d as usize - 1);
+    if to_starts.len() < b || to_images.len() < b || to_holders.len() < b || working.len() < b {
+        return Err((8, b as u32));
+    }
+    let cuts = balancing_cuts(n, starts, images, &order, d);
+    let k = starts.len() + cuts.len();
+    let mut rest = &cuts[..];
+    let mut at = 0;
+    for (x, (&start, &image)) in starts.iter().zip(images).enumerate() {
+        let end = starts.get(x + 1).copied().unwrap_or(n);
+        (to_starts[at], to_images[at]) = (start, image);
+        at += 1;
+        while let Some((&cut, others)) = rest.split_first().filter(|(&cut, _)| cut < end) {
+            (to_starts[at], to_images[at]) = (cut, image + (cut - start));
+            at += 1;
+            rest = others;
+        }
+    }
+    let to_starts = &to_starts[..k];
+    for (holder, &image) in to_holders[..k].iter_mut().zip(&to_images[..k]) {
+        *holder = to_starts.partition_point(|&s| s <= image) as u32 - 1;
+    }
+    working[..b].fill(0);
+    Ok(k as u32)
+}
+
+fn fits(n: u32, starts: &[u32], images: &[u32], holders: &[u32]) -> Outcome<()> {
+    let k = starts.len();
+    if n == 0 || k == 0 || k != images.len() || k != holders.len() || k > 32768 {
+        return Err((9, 0));
+    }
+    Ok(())
+}
+
+#[inline(never)]
+pub fn find(n: u32, starts: &[u32], images: &[u32], holders: &[u32], i: u32) -> Outcome<u32> {
+    fits(n, starts, images, holders)?;
+    if n <= i || i < starts[0] {
+        return Err((11, i));
+    }
+    Ok(starts[1..].iter().take_while(|&&s| s <= i).count() as u32)
+}
+
+fn located(n: u32, starts: &[u32], images: &[u32], holders: &[u32], x: u32, i: u32) -> Outcome<()> {
+    fits(n, starts, images, holders)?;
+    let at = x as usize;
+    if starts.len() <= at {
+        return Err((10, x));
+    }
+    if n <= i || i < starts[at] || starts.get(at + 1).copied().unwrap_or(n) <= i {
+        return Err((11, i));
+    }
+    Ok(())
+}
+
+/// A move from a place that its interval has: the place and the interval reached, and the holder; or nothing where the
+/// interval is broken.
+#[inline(always)]
+fn step(n: u32, starts: &[u32], images: &[u32], holders: &[u32], x: usize, i: u32) -> Option<(u32, usize, usize)> {
+    let image = images[x];
+    let h = holders[x] as usize;
+    let j = image.checked_add(i - starts[x]).filter(|&j| j < n)?;
+    if image < *starts.get(h)? {
+        return None;
+    }
+    let mut reached = h;
+    while starts.get(reached + 1).is_some_and(|&start| start <= j) {
+        reached += 1;
+    }
+    Some((j, reached, h))
+}
+
+#[inline(never)]
+pub fn move_once(n: u32, starts: &[u32], images: &[u32], holders: &[u32], x: u32, i: u32) -> Outcome<(u32, u32, u32)> {
+    located(n, starts, images, holders, x, i)?;
+    match step(n, starts, images, holders, x as usize, i) {
+        None => Err((12, x)),
+        Some((j, y, h)) => Ok((j, y as u32, (y - h) as u32)),
+    }
+}
+
+#[inline(never)]
+pub fn moves(
+    n: u32,
+    starts: &[u32],
+    images: &[u32],
+    holders: &[u32],
+    x: u32,
+    i: u32,
+    m: u32,
+) -> Outcome<(u32, u32, u64)> {
+    located(n, starts, images, holders, x, i)?;
+    // Of one length, as was tested: the indexes into two of them need no test of their own.
+    let (images, holders) = (&images[..starts.len()], &holders[..starts.len()]);
+    let (mut place, mut interval, mut count) = (i, x as usize, 0);
+    for _ in 0..m {
+        let Some((j, y, h)) = step(n, starts, images, holders, interval, place) else {
+            return Err((12, interval as u32));
+        };
+        (place, interval, count) = (j, y, count + (y - h) as u64);
+    }
+    Ok((place, interval as u32, count))
+}

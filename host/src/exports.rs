@@ -1,0 +1,214 @@
+//! The exports as they are: numbers and slices in, one struct out. All of the crate's `unsafe` code is here.
+//!
+//! In every answer `number` 0 means done; else it is the paper's number, `place` is the place that is given with it, and
+//! the other fields are 0.
+
+/// The answer of [`check`] and [`inverse_list`].
+#[repr(C)]
+#[derive(Clone, Copy, Debug, PartialEq, Eq)]
+pub struct ListAnswer {
+    /// 0, or the paper's number.
+    pub number: u32,
+    /// The place given with the number; 0 where the call is done.
+    pub place: u32,
+}
+
+/// The answer of [`balance`].
+#[repr(C)]
+#[derive(Clone, Copy, Debug, PartialEq, Eq)]
+pub struct BalanceAnswer {
+    /// 0, or the paper's number.
+    pub number: u32,
+    /// The place given with the number; 0 where the call is done.
+    pub place: u32,
+    /// How many intervals the balanced list has.
+    pub intervals: u32,
+}
+
+/// The answer of [`find`], [`inverse`] and [`weight`].
+#[repr(C)]
+#[derive(Clone, Copy, Debug, PartialEq, Eq)]
+pub struct IntervalAnswer {
+    /// 0, or the paper's number.
+    pub number: u32,
+    /// The place given with the number. Where the call is done, find's is the place asked about, inverse's the place
+    /// that it is reached from, and weight's 0.
+    pub place: u32,
+    /// The interval that has the place; of `weight`, the weight.
+    pub interval: u32,
+}
+
+/// The answer of [`move_once`].
+#[repr(C)]
+#[derive(Clone, Copy, Debug, PartialEq, Eq)]
+pub struct MoveAnswer {
+    /// 0, or the paper's number.
+    pub number: u32,
+    /// The place reached, or the place given with the number.
+    pub place: u32,
+    /// The interval that has it.
+    pub interval: u32,
+    /// How many starts the walk passed.
+    pub count: u32,
+}
+
+/// The answer of [`moves`].
+#[repr(C)]
+#[derive(Clone, Copy, Debug, PartialEq, Eq)]
+pub struct MovesAnswer {
+    /// 0, or the paper's number.
+    pub number: u32,
+    /// The place reached, or the place given with the number.
+    pub place: u32,
+    /// The interval that has it.
+    pub interval: u32,
+    /// How many starts all moves together passed.
+    pub count: u64,
+}
+
+// A slice crosses as pointer and length.
+type Ptr = *const u32;
+type MutPtr = *mut u32;
+
+#[rustfmt::skip]
+unsafe extern "C" {
+    fn zibewoka_check(n: u32, starts: Ptr, k: usize, images: Ptr, ki: usize) -> ListAnswer;
+    fn zibewoka_balance(
+        n: u32, starts: Ptr, k: usize, images: Ptr, ki: usize, d: u32,
+        to_starts: MutPtr, ls: usize, to_images: MutPtr, li: usize, to_holders: MutPtr, lh: usize, working: MutPtr, lw: usize,
+    ) -> BalanceAnswer;
+    fn zibewoka_inverse_list(
+        n: u32, starts: Ptr, k: usize, images: Ptr, ki: usize, to_starts: MutPtr, ls: usize, to_images: MutPtr, li: usize,
+    ) -> ListAnswer;
+    fn zibewoka_find(
+        n: u32, starts: Ptr, k: usize, images: Ptr, ki: usize, holders: Ptr, kh: usize, place: u32,
+    ) -> IntervalAnswer;
+    fn zibewoka_move(
+        n: u32, starts: Ptr, k: usize, images: Ptr, ki: usize, holders: Ptr, kh: usize, interval: u32, place: u32,
+    ) -> MoveAnswer;
+    fn zibewoka_moves(
+        n: u32, starts: Ptr, k: usize, images: Ptr, ki: usize, holders: Ptr, kh: usize, interval: u32, place: u32, m: u32,
+    ) -> MovesAnswer;
+    fn zibewoka_inverse(
+        n: u32, starts: Ptr, k: usize, images: Ptr, ki: usize, holders: Ptr, kh: usize, place: u32,
+    ) -> IntervalAnswer;
+    fn zibewoka_weight(
+        n: u32, starts: Ptr, k: usize, images: Ptr, ki: usize, holders: Ptr, kh: usize, interval: u32,
+    ) -> IntervalAnswer;
+}
+
+/// `zibewoka_check`.
+pub fn check(n: u32, starts: &[u32], images: &[u32]) -> ListAnswer {
+    // SAFETY: here and below, each pointer and length is that of a Rust slice, which lives for the call and which no
+    // other `&mut` shares; the functions are proved to keep within them, whatever numbers they hold.
+    unsafe { zibewoka_check(n, starts.as_ptr(), starts.len(), images.as_ptr(), images.len()) }
+}
+
+/// `zibewoka_balance`.
+#[allow(clippy::too_many_arguments)] // the export's own
+pub fn balance(
+    n: u32,
+    starts: &[u32],
+    images: &[u32],
+    d: u32,
+    to_starts: &mut [u32],
+    to_images: &mut [u32],
+    to_holders: &mut [u32],
+    working: &mut [u32],
+) -> BalanceAnswer {
+    // SAFETY: as in `check`.
+    unsafe {
+        zibewoka_balance(
+            n,
+            starts.as_ptr(),
+            starts.len(),
+            images.as_ptr(),
+            images.len(),
+            d,
+            to_starts.as_mut_ptr(),
+            to_starts.len(),
+            to_images.as_mut_ptr(),
+            to_images.len(),
+            to_holders.as_mut_ptr(),
+            to_holders.len(),
+            working.as_mut_ptr(),
+            working.len(),
+        )
+    }
+}
+
+/// `zibewoka_inverse_list`.
+pub fn inverse_list(
+    n: u32,
+    starts: &[u32],
+    images: &[u32],
+    to_starts: &mut [u32],
+    to_images: &mut [u32],
+) -> ListAnswer {
+    // SAFETY: as in `check`.
+    unsafe {
+        zibewoka_inverse_list(
+            n,
+            starts.as_ptr(),
+            starts.len(),
+            images.as_ptr(),
+            images.len(),
+            to_starts.as_mut_ptr(),
+            to_starts.len(),
+            to_images.as_mut_ptr(),
+            to_images.len(),
+        )
+    }
+}
+
+// Calls an export that takes n, the three tables and numbers.
+macro_rules! on_tables {
+    ($export:ident, $n:ident, $starts:ident, $images:ident, $holders:ident, $($number:ident),+) => {
+        // SAFETY: as in `check`.
+        unsafe {
+            $export(
+                $n,
+                $starts.as_ptr(),
+                $starts.len(),
+                $images.as_ptr(),
+                $images.len(),
+                $holders.as_ptr(),
+                $holders.len(),
+                $($number),+
+            )
+        }
+    };
+}
+
+/// `zibewoka_find`.
+pub fn find(n: u32, starts: &[u32], images: &[u32], holders: &[u32], place: u32) -> IntervalAnswer {
+    on_tables!(zibewoka_find, n, starts, images, holders, place)
+}
+
+/// `zibewoka_move`.
+pub fn move_once(n: u32, starts: &[u32], images: &[u32], holders: &[u32], interval: u32, place: u32) -> MoveAnswer {
+    on_tables!(zibewoka_move, n, starts, images, holders, interval, place)
+}
+
+/// `zibewoka_moves`.
+pub fn moves(
+    n: u32,
+    starts: &[u32],
+    images: &[u32],
+    holders: &[u32],
+    interval: u32,
+    place: u32,
+    m: u32,
+) -> MovesAnswer {
+    on_tables!(zibewoka_moves, n, starts, images, holders, interval, place, m)
+}
+
+/// `zibewoka_inverse`.
+pub fn inverse(n: u32, starts: &[u32], images: &[u32], holders: &[u32], place: u32) -> IntervalAnswer {
+    on_tables!(zibewoka_inverse, n, starts, images, holders, place)
+}
+
+/// `zibewoka_weight`.
+pub fn weight(n: u32, starts: &[u32], images: &[u32], holders: &[u32], interval: u32) -> IntervalAnswer {
+    on_tables!(zibewoka_weight, n, starts, images, holders, interval)
+}

@@ -1,0 +1,178 @@
+//! Run lists, balanced move tables and the walks through them: a safe wrapper over the proved library.
+//!
+//! A run list is a length `n` with two slices of one length: run i sends the places from `starts[i]` up to the next start
+//! (or `n`) to as many places from `images[i]` on. [`check`] says whether a list is a permutation of the places below
+//! `n`; [`balance`] writes its balanced tables (starts, images, holders) into lent slices; [`find`], [`move_once`],
+//! [`moves`], [`inverse`] and [`weight`] walk through any tables. Every function takes any numbers: where it cannot
+//! answer, it says why by a [`Refusal`] and has changed nothing that was lent.
+//!
+//! [`exports`] has the same functions with the answers as they cross the boundary.
+
+#![deny(unsafe_code)]
+
+use std::error::Error;
+use std::fmt;
+
+#[allow(unsafe_code)]
+pub mod exports;
+
+// The README's example is compiled and run as a test.
+#[cfg(doctest)]
+#[doc = include_str!("../../README.md")]
+struct Readme;
+
+/// Why a call was refused: the number and the place of the paper's table.
+#[derive(Clone, Copy, Debug, PartialEq, Eq, Hash)]
+pub struct Refusal {
+    /// 1 to 14.
+    pub number: u32,
+    /// The run, interval, place or size that the number speaks of.
+    pub place: u32,
+}
+
+impl fmt::Display for Refusal {
+    fn fmt(&self, f: &mut fmt::Formatter) -> fmt::Result {
+        write!(f, "refused {} {}", self.number, self.place)
+    }
+}
+
+impl Error for Refusal {}
+
+/// A place and the interval that has it.
+#[derive(Clone, Copy, Debug, PartialEq, Eq, Hash)]
+pub struct Position {
+    /// The place.
+    pub place: u32,
+    /// The interval's index.
+    pub interval: u32,
+}
+
+/// Where a move or a repeated move ends.
+#[derive(Clone, Copy, Debug, PartialEq, Eq, Hash)]
+pub struct Step {
+    /// The place reached.
+    pub place: u32,
+    /// The interval that has it.
+    pub interval: u32,
+    /// How many interval starts were passed on the way.
+    pub count: u64,
+}
+
+fn done(number: u32, place: u32) -> Result<(), Refusal> {
+    match number {
+        0 => Ok(()),
+        _ => Err(Refusal { number, place }),
+    }
+}
+
+/// Whether the list is legal and has at most 16,384 runs.
+///
+/// # Errors
+/// Numbers 1 to 6.
+pub fn check(n: u32, starts: &[u32], images: &[u32]) -> Result<(), Refusal> {
+    let answer = exports::check(n, starts, images);
+    done(answer.number, answer.place)
+}
+
+/// Balances the list at degree `d`, 2 to 64, and answers K, how many intervals the balanced list has.
+///
+/// Its tables come to stand in the first K entries of the three lent ones, and the first B entries of `working` are 0
+/// then; B is the whole part of d·k/(d−1), for k runs. All other entries stay.
+///
+/// # Errors
+/// Numbers 1 to 8; 8 where a lent table has fewer than B entries.
+#[allow(clippy::too_many_arguments)] // the paper's own
+pub fn balance(
+    n: u32,
+    starts: &[u32],
+    images: &[u32],
+    d: u32,
+    to_starts: &mut [u32],
+    to_images: &mut [u32],
+    to_holders: &mut [u32],
+    working: &mut [u32],
+) -> Result<u32, Refusal> {
+    let answer = exports::balance(n, starts, images, d, to_starts, to_images, to_holders, working);
+    done(answer.number, answer.place)?;
+    Ok(answer.intervals)
+}
+
+/// Writes the inverse list to the first k entries of the lent tables.
+///
+/// # Errors
+/// Numbers 1 to 6, and 8 where a lent table has fewer than k entries.
+pub fn inverse_list(
+    n: u32,
+    starts: &[u32],
+    images: &[u32],
+    to_starts: &mut [u32],
+    to_images: &mut [u32],
+) -> Result<(), Refusal> {
+    let answer = exports::inverse_list(n, starts, images, to_starts, to_images);
+    done(answer.number, answer.place)
+}
+
+/// The interval that has `place`.
+///
+/// # Errors
+/// Numbers 9 and 11.
+pub fn find(n: u32, starts: &[u32], images: &[u32], holders: &[u32], place: u32) -> Result<u32, Refusal> {
+    let answer = exports::find(n, starts, images, holders, place);
+    done(answer.number, answer.place)?;
+    Ok(answer.interval)
+}
+
+/// One move from `place`, which `interval` has.
+///
+/// # Errors
+/// Numbers 9 to 12.
+pub fn move_once(
+    n: u32,
+    starts: &[u32],
+    images: &[u32],
+    holders: &[u32],
+    interval: u32,
+    place: u32,
+) -> Result<Step, Refusal> {
+    let answer = exports::move_once(n, starts, images, holders, interval, place);
+    done(answer.number, answer.place)?;
+    Ok(Step { place: answer.place, interval: answer.interval, count: u64::from(answer.count) })
+}
+
+/// `m` moves from `place`, which `interval` has.
+///
+/// # Errors
+/// Numbers 9 to 12; 12 with the interval that could not be left, and then there is no part result.
+pub fn moves(
+    n: u32,
+    starts: &[u32],
+    images: &[u32],
+    holders: &[u32],
+    interval: u32,
+    place: u32,
+    m: u32,
+) -> Result<Step, Refusal> {
+    let answer = exports::moves(n, starts, images, holders, interval, place, m);
+    done(answer.number, answer.place)?;
+    Ok(Step { place: answer.place, interval: answer.interval, count: answer.count })
+}
+
+/// The place that `place` is reached from, and its interval.
+///
+/// # Errors
+/// Numbers 9, 11 and 14.
+pub fn inverse(n: u32, starts: &[u32], images: &[u32], holders: &[u32], place: u32) -> Result<Position, Refusal> {
+    let answer = exports::inverse(n, starts, images, holders, place);
+    done(answer.number, answer.place)?;
+    Ok(Position { place: answer.place, interval: answer.interval })
+}
+
+/// How many starts lie under the image of `interval`.
+///
+/// # Errors
+/// Numbers 9, 10 and 12.
+pub fn weight(n: u32, starts: &[u32], images: &[u32], holders: &[u32], interval: u32) -> Result<u32, Refusal> {
+    let answer = exports::weight(n, starts, images, holders, interval);
+    done(answer.number, answer.place)?;
+    Ok(answer.interval)
+}

@@ -1,0 +1,332 @@
+//! The second program: document 01 from its text alone, in the plainest way, to be compared with the library. Nothing of
+//! the library is used or copied; lists are walked from the front and every pair is looked at.
+
+/// What a call comes to: its result, or the number and the place.
+pub type Outcome<T> = Result<T, (u32, u32)>;
+
+/// A run or an interval, in numbers that cannot overflow.
+#[derive(Clone, Copy)]
+struct Run {
+    start: u64,
+    image: u64,
+    end: u64,
+}
+
+impl Run {
+    fn image_end(&self) -> u64 {
+        self.image + (self.end - self.start)
+    }
+}
+
+/// Run i's end is "the next run's start, or n for the last run".
+fn end(n: u32, starts: &[u32], i: usize) -> u64 {
+    match starts.get(i + 1) {
+        Some(&next) => u64::from(next),
+        None => u64::from(n),
+    }
+}
+
+fn run(n: u32, starts: &[u32], images: &[u32], i: usize) -> Run {
+    Run { start: u64::from(starts[i]), image: u64::from(images[i]), end: end(n, starts, i) }
+}
+
+fn share_a_place(a: &Run, b: &Run) -> bool {
+    a.image < b.image_end() && b.image < a.image_end()
+}
+
+/// Tests 1 to 6.
+pub fn check(n: u32, starts: &[u32], images: &[u32]) -> Outcome<()> {
+    let k = starts.len();
+    if n == 0 || k == 0 || images.len() != k {
+        return Err((1, 0));
+    }
+    if k > 16384 {
+        return Err((2, 0));
+    }
+    if starts[0] != 0 {
+        return Err((3, 0));
+    }
+    for i in 0..k {
+        if starts[i] >= n || (i > 0 && starts[i] <= starts[i - 1]) {
+            return Err((4, i as u32));
+        }
+    }
+    let runs: Vec<Run> = (0..k).map(|i| run(n, starts, images, i)).collect();
+    for (i, r) in runs.iter().enumerate() {
+        if r.image_end() > u64::from(n) {
+            return Err((5, i as u32));
+        }
+    }
+    for i in 0..k {
+        for j in 0..k {
+            if i != j && share_a_place(&runs[i], &runs[j]) {
+                return Err((6, i as u32));
+            }
+        }
+    }
+    Ok(())
+}
+
+/// Starts, images and holders.
+#[derive(Clone, Debug, PartialEq, Eq)]
+pub struct Tables {
+    pub starts: Vec<u32>,
+    pub images: Vec<u32>,
+    pub holders: Vec<u32>,
+}
+
+/// The tables of a legal list: the holder is "the index of the interval in which x's image lies".
+pub fn tables(n: u32, starts: &[u32], images: &[u32]) -> Tables {
+    let mut holders = Vec::new();
+    for &image in images {
+        let mut h = 0;
+        while end(n, starts, h) <= u64::from(image) {
+            h += 1;
+        }
+        holders.push(h as u32);
+    }
+    Tables { starts: starts.to_vec(), images: images.to_vec(), holders }
+}
+
+/// "The number of starts at or above its image and below its image plus length."
+fn weight_of(runs: &[Run], x: usize) -> usize {
+    runs.iter().filter(|r| runs[x].image <= r.start && r.start < runs[x].image_end()).count()
+}
+
+fn heavy_with_lowest_image(runs: &[Run], weights: &[usize], d: usize) -> Option<usize> {
+    (0..runs.len()).filter(|&x| weights[x] >= 2 * d).min_by_key(|&x| runs[x].image)
+}
+
+/// Cuts x at "the (d+1)th start under its image, in rising order".
+fn cut(runs: &mut Vec<Run>, x: usize, d: usize) {
+    let whole = runs[x];
+    let under: Vec<u64> = runs.iter().map(|r| r.start).filter(|&s| whole.image <= s && s < whole.image_end()).collect();
+    let s = under[d];
+    let start = whole.start + (s - whole.image);
+    runs[x].end = start;
+    runs.insert(x + 1, Run { start, image: s, end: whole.end });
+}
+
+/// The balanced list by the paper's sentence: all weights anew after each cut. For short lists.
+pub fn balanced_literally(n: u32, starts: &[u32], images: &[u32], d: usize) -> (Vec<u32>, Vec<u32>) {
+    let mut runs: Vec<Run> = (0..starts.len()).map(|i| run(n, starts, images, i)).collect();
+    loop {
+        let weights: Vec<usize> = (0..runs.len()).map(|x| weight_of(&runs, x)).collect();
+        match heavy_with_lowest_image(&runs, &weights, d) {
+            Some(x) => cut(&mut runs, x, d),
+            None => return lists(&runs),
+        }
+    }
+}
+
+/// The same for long lists: a cut changes the weights of its two parts and adds one to that of each interval whose image
+/// has the new start. The tests compare this with `balanced_literally`.
+pub fn balanced(n: u32, starts: &[u32], images: &[u32], d: usize) -> (Vec<u32>, Vec<u32>) {
+    let mut runs: Vec<Run> = (0..starts.len()).map(|i| run(n, starts, images, i)).collect();
+    let mut weights: Vec<usize> = (0..runs.len()).map(|x| weight_of(&runs, x)).collect();
+    while let Some(x) = heavy_with_lowest_image(&runs, &weights, d) {
+        cut(&mut runs, x, d);
+        weights.insert(x + 1, 0);
+        let new = runs[x + 1].start;
+        for y in 0..runs.len() {
+            if runs[y].image <= new && new < runs[y].image_end() {
+                weights[y] += 1;
+            }
+        }
+        weights[x] = weight_of(&runs, x);
+        weights[x + 1] = weight_of(&runs, x + 1);
+    }
+    lists(&runs)
+}
+
+fn lists(runs: &[Run]) -> (Vec<u32>, Vec<u32>) {
+    runs.iter().map(|r| (r.start as u32, r.image as u32)).unzip()
+}
+
+/// B, "the whole part of d×k/(d−1)".
+pub fn bound(d: u32, k: usize) -> usize {
+    d as usize * k / (d as usize - 1)
+}
+
+/// Tests 1 to 8, and the balanced list's tables. `lent` has the lent tables' counts of entries.
+pub fn balance(n: u32, starts: &[u32], images: &[u32], d: u32, lent: [usize; 4]) -> Outcome<Tables> {
+    check(n, starts, images)?;
+    if !(2..=64).contains(&d) {
+        return Err((7, d));
+    }
+    let b = bound(d, starts.len());
+    if lent.iter().any(|&count| count < b) {
+        return Err((8, b as u32));
+    }
+    let (to_starts, to_images) = balanced(n, starts, images, d as usize);
+    Ok(tables(n, &to_starts, &to_images))
+}
+
+/// Tests 1 to 6 and 8, and the inverse list: starts, then images.
+pub fn inverse_list(n: u32, starts: &[u32], images: &[u32], lent: [usize; 2]) -> Outcome<(Vec<u32>, Vec<u32>)> {
+    check(n, starts, images)?;
+    let k = starts.len();
+    if lent.iter().any(|&count| count < k) {
+        return Err((8, k as u32));
+    }
+    let mut swapped: Vec<(u32, u32)> = images.iter().copied().zip(starts.iter().copied()).collect();
+    swapped.sort();
+    Ok(swapped.into_iter().unzip())
+}
+
+/// Test 9.
+fn fits(n: u32, t: &Tables) -> Outcome<()> {
+    let k = t.starts.len();
+    if n == 0 || k == 0 || t.images.len() != k || t.holders.len() != k || k > 32768 {
+        return Err((9, 0));
+    }
+    Ok(())
+}
+
+/// Test 10.
+fn known(t: &Tables, x: u32) -> Outcome<()> {
+    if x as usize >= t.starts.len() {
+        return Err((10, x));
+    }
+    Ok(())
+}
+
+/// "From interval 0, go on while the next start is at most i."
+pub fn find(n: u32, t: &Tables, i: u32) -> Outcome<u32> {
+    fits(n, t)?;
+    if i >= n || i < t.starts[0] {
+        return Err((11, i));
+    }
+    let mut x = 0;
+    while x + 1 < t.starts.len() && t.starts[x + 1] <= i {
+        x += 1;
+    }
+    Ok(x as u32)
+}
+
+/// Tests 9 to 11 of a move.
+fn stands(n: u32, t: &Tables, x: u32, i: u32) -> Outcome<()> {
+    fits(n, t)?;
+    known(t, x)?;
+    if i >= n || i < t.starts[x as usize] || u64::from(i) >= end(n, &t.starts, x as usize) {
+        return Err((11, i));
+    }
+    Ok(())
+}
+
+/// The place reached, the interval reached and the starts passed.
+pub fn step(n: u32, t: &Tables, x: u32, i: u32) -> Outcome<(u32, u32, u32)> {
+    stands(n, t, x, i)?;
+    let from = x as usize;
+    let h = t.holders[from] as usize;
+    if h >= t.starts.len() || t.starts[h] > t.images[from] {
+        return Err((12, x));
+    }
+    let j = u64::from(t.images[from]) + u64::from(i - t.starts[from]);
+    if j >= u64::from(n) {
+        return Err((12, x));
+    }
+    let mut reached = h;
+    let mut passed = 0;
+    while reached + 1 < t.starts.len() && u64::from(t.starts[reached + 1]) <= j {
+        reached += 1;
+        passed += 1;
+    }
+    Ok((j as u32, reached as u32, passed))
+}
+
+/// m moves, with the sum of the counts.
+pub fn steps(n: u32, t: &Tables, x: u32, i: u32, m: u32) -> Outcome<(u32, u32, u64)> {
+    stands(n, t, x, i)?;
+    let mut at = (i, x, 0);
+    for _ in 0..m {
+        let (place, interval, count) = step(n, t, at.1, at.0)?;
+        at = (place, interval, at.2 + u64::from(count));
+    }
+    Ok(at)
+}
+
+/// "The lowest x whose image is at most j and for which start + (j − image) is below x's end": that sum, and x.
+pub fn inverse(n: u32, t: &Tables, j: u32) -> Outcome<(u32, u32)> {
+    fits(n, t)?;
+    if j >= n {
+        return Err((11, j));
+    }
+    for x in 0..t.starts.len() {
+        if t.images[x] <= j {
+            let sum = u64::from(t.starts[x]) + u64::from(j - t.images[x]);
+            if sum < end(n, &t.starts, x) {
+                return Ok((sum as u32, x as u32));
+            }
+        }
+    }
+    Err((14, j))
+}
+
+/// The size of the stretch of starts under x's image.
+pub fn weight(n: u32, t: &Tables, x: u32) -> Outcome<u32> {
+    fits(n, t)?;
+    known(t, x)?;
+    let at = x as usize;
+    let h = t.holders[at] as usize;
+    if h >= t.starts.len() || t.starts[h] > t.images[at] {
+        return Err((12, x));
+    }
+    let (start, end) = (u64::from(t.starts[at]), end(n, &t.starts, at));
+    if end <= start || u64::from(t.images[at]) + (end - start) > u64::from(n) {
+        return Err((12, x));
+    }
+    let image_end = u64::from(t.images[at]) + (end - start);
+    let first = if t.starts[h] == t.images[at] { h } else { h + 1 };
+    let mut size = 0;
+    while first + size < t.starts.len() && u64::from(t.starts[first + size]) < image_end {
+        size += 1;
+    }
+    Ok(size as u32)
+}
+
+/// The tables of a file's list and its degree, or the refusal. The listing program "takes at most 1,024 runs and gives 2
+/// above that".
+fn file(bytes: &[u8]) -> Outcome<(u32, u32, usize, Tables)> {
+    let words: Vec<u32> =
+        bytes.chunks_exact(4).map(|word| u32::from_le_bytes(word.try_into().expect("four bytes"))).collect();
+    if bytes.len() < 20 {
+        return Err((15, 0));
+    }
+    let (n, k, d) = (words[0], words[1], words[2]);
+    if n == 0 || k == 0 {
+        return Err((1, 0));
+    }
+    if k > 1024 {
+        return Err((2, 0));
+    }
+    if words[3] != 20 {
+        return Err((15, 12));
+    }
+    if words[4] != 20 + 4 * k {
+        return Err((15, 16));
+    }
+    let k = k as usize;
+    if bytes.len() != 20 + 8 * k {
+        return Err((15, 20));
+    }
+    let (starts, images) = (&words[5..5 + k], &words[5 + k..]);
+    let tables = balance(n, starts, images, d, [usize::MAX; 4])?;
+    Ok((n, d, k, tables))
+}
+
+/// What the listing program prints.
+pub fn listing(bytes: &[u8]) -> String {
+    match file(bytes) {
+        Err((number, place)) => format!("refused {number} {place}\n"),
+        Ok((n, d, k, t)) => {
+            let mut text = format!("{n} {k} {d} {}\n", t.starts.len());
+            for x in 0..t.starts.len() {
+                let shift = i64::from(t.images[x]) - i64::from(t.starts[x]);
+                let weight = weight(n, &t, x as u32).expect("the tables of a legal list");
+                text += &format!("{x} {} {} {shift} {} {weight}\n", t.starts[x], t.images[x], t.holders[x]);
+            }
+            text
+        }
+    }
+}

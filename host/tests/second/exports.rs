@@ -1,0 +1,458 @@
+//! Every export on every kind of list and tables: each answer whole, and every entry of every lent table before and after.
+//!
+//! Bookmarks are not exported, so neither they nor their number, 13, come up here; nor does 15, which is a file's.
+
+use crate::definition::{self as second, Outcome, Tables};
+use crate::random::{damage, damaged, legal, list_of, List, Random};
+use std::collections::BTreeSet;
+use zibewoka::exports::{self, BalanceAnswer, IntervalAnswer, ListAnswer, MoveAnswer, MovesAnswer};
+use zibewoka::Refusal;
+
+/// The numbers that each export gave.
+#[derive(Default)]
+struct Given {
+    check: BTreeSet<u32>,
+    balance: BTreeSet<u32>,
+    inverse_list: BTreeSet<u32>,
+    find: BTreeSet<u32>,
+    step: BTreeSet<u32>,
+    steps: BTreeSet<u32>,
+    inverse: BTreeSet<u32>,
+    weight: BTreeSet<u32>,
+}
+
+fn refusal<T>(outcome: Outcome<T>) -> Result<T, Refusal> {
+    outcome.map_err(|(number, place)| Refusal { number, place })
+}
+
+impl Given {
+    fn check(&mut self, list: &List) {
+        let List { n, starts, images } = list;
+        let wanted = second::check(*n, starts, images);
+        let answer = exports::check(*n, starts, images);
+        let (number, place) = wanted.err().unwrap_or((0, 0));
+        assert_eq!(answer, ListAnswer { number, place });
+        assert_eq!(zibewoka::check(*n, starts, images), refusal(wanted));
+        self.check.insert(number);
+    }
+
+    /// Balances into tables of these counts, with any numbers in them.
+    fn balance(&mut self, r: &mut Random, list: &List, d: u32, counts: [usize; 4]) -> Option<Tables> {
+        let List { n, starts, images } = list;
+        let wanted = second::balance(*n, starts, images, d, counts);
+        let before = counts.map(|count| r.words(count));
+        let [mut s, mut i, mut h, mut w] = before.clone();
+        let answer = exports::balance(*n, starts, images, d, &mut s, &mut i, &mut h, &mut w);
+        let [mut after_s, mut after_i, mut after_h, mut after_w] = before.clone();
+        let (number, place) = wanted.as_ref().err().copied().unwrap_or((0, 0));
+        let mut intervals = 0;
+        if let Ok(tables) = &wanted {
+            let k = tables.starts.len();
+            intervals = k as u32;
+            after_s[..k].copy_from_slice(&tables.starts);
+            after_i[..k].copy_from_slice(&tables.images);
+            after_h[..k].copy_from_slice(&tables.holders);
+            after_w[..second::bound(d, starts.len())].fill(0);
+        }
+        assert_eq!(answer, BalanceAnswer { number, place, intervals });
+        assert!(s == after_s && i == after_i && h == after_h && w == after_w, "the lent tables after balancing");
+        let [mut s, mut i, mut h, mut w] = before;
+        let safe = zibewoka::balance(*n, starts, images, d, &mut s, &mut i, &mut h, &mut w);
+        assert_eq!(safe, refusal(wanted.as_ref().map(|_| intervals).map_err(|&e| e)));
+        assert!(s == after_s && i == after_i && h == after_h && w == after_w, "the same through the wrapper");
+        self.balance.insert(number);
+        wanted.ok()
+    }
+
+    fn inverse_list(&mut self, r: &mut Random, list: &List, counts: [usize; 2]) {
+        let List { n, starts, images } = list;
+        let wanted = second::inverse_list(*n, starts, images, counts);
+        let before = counts.map(|count| r.words(count));
+        let [mut s, mut i] = before.clone();
+        let answer = exports::inverse_list(*n, starts, images, &mut s, &mut i);
+        let [mut after_s, mut after_i] = before.clone();
+        let (number, place) = wanted.as_ref().err().copied().unwrap_or((0, 0));
+        if let Ok((to_starts, to_images)) = &wanted {
+            after_s[..to_starts.len()].copy_from_slice(to_starts);
+            after_i[..to_images.len()].copy_from_slice(to_images);
+        }
+        assert_eq!(answer, ListAnswer { number, place });
+        assert!(s == after_s && i == after_i, "the lent tables after the inverse list");
+        let [mut s, mut i] = before;
+        let safe = zibewoka::inverse_list(*n, starts, images, &mut s, &mut i);
+        assert_eq!(safe, refusal(wanted.map(|_| ())));
+        assert!(s == after_s && i == after_i, "the same through the wrapper");
+        self.inverse_list.insert(number);
+    }
+
+    fn find(&mut self, n: u32, t: &Tables, i: u32) {
+        let wanted = second::find(n, t, i);
+        let answer = exports::find(n, &t.starts, &t.images, &t.holders, i);
+        let (number, place, interval) = match wanted {
+            Ok(x) => (0, i, x),
+            Err((number, place)) => (number, place, 0),
+        };
+        assert_eq!(answer, IntervalAnswer { number, place, interval });
+        assert_eq!(zibewoka::find(n, &t.starts, &t.images, &t.holders, i), refusal(wanted));
+        self.find.insert(number);
+    }
+
+    fn step(&mut self, n: u32, t: &Tables, x: u32, i: u32) {
+        let wanted = second::step(n, t, x, i);
+        let answer = exports::move_once(n, &t.starts, &t.images, &t.holders, x, i);
+        let (number, place, interval, count) = match wanted {
+            Ok((place, interval, count)) => (0, place, interval, count),
+            Err((number, place)) => (number, place, 0, 0),
+        };
+        assert_eq!(answer, MoveAnswer { number, place, interval, count });
+        let safe = zibewoka::move_once(n, &t.starts, &t.images, &t.holders, x, i);
+        assert_eq!(safe.map(|s| (s.place, s.interval, s.count as u32)), refusal(wanted));
+        self.step.insert(number);
+    }
+
+    fn steps(&mut self, n: u32, t: &Tables, x: u32, i: u32, m: u32) {
+        let wanted = second::steps(n, t, x, i, m);
+        let answer = exports::moves(n, &t.starts, &t.images, &t.holders, x, i, m);
+        let (number, place, interval, count) = match wanted {
+            Ok((place, interval, count)) => (0, place, interval, count),
+            Err((number, place)) => (number, place, 0, 0),
+        };
+        assert_eq!(answer, MovesAnswer { number, place, interval, count });
+        let safe = zibewoka::moves(n, &t.starts, &t.images, &t.holders, x, i, m);
+        assert_eq!(safe.map(|s| (s.place, s.interval, s.count)), refusal(wanted));
+        self.steps.insert(number);
+    }
+
+    fn inverse(&mut self, n: u32, t: &Tables, j: u32) {
+        let wanted = second::inverse(n, t, j);
+        let answer = exports::inverse(n, &t.starts, &t.images, &t.holders, j);
+        let (number, place, interval) = match wanted {
+            Ok((place, interval)) => (0, place, interval),
+            Err((number, place)) => (number, place, 0),
+        };
+        assert_eq!(answer, IntervalAnswer { number, place, interval });
+        let safe = zibewoka::inverse(n, &t.starts, &t.images, &t.holders, j);
+        assert_eq!(safe.map(|s| (s.place, s.interval)), refusal(wanted));
+        self.inverse.insert(number);
+    }
+
+    fn weight(&mut self, n: u32, t: &Tables, x: u32) {
+        let wanted = second::weight(n, t, x);
+        let answer = exports::weight(n, &t.starts, &t.images, &t.holders, x);
+        let (number, place, interval) = match wanted {
+            Ok(weight) => (0, 0, weight),
+            Err((number, place)) => (number, place, 0),
+        };
+        assert_eq!(answer, IntervalAnswer { number, place, interval });
+        assert_eq!(zibewoka::weight(n, &t.starts, &t.images, &t.holders, x), refusal(wanted));
+        self.weight.insert(number);
+    }
+
+    /// Every export on a list. Lent tables are long enough, or one of them is not.
+    fn on_list(&mut self, r: &mut Random, list: &List, d: u32) -> Option<Tables> {
+        let before = list.clone();
+        self.check(list);
+        let k = list.starts.len();
+        let b = if d < 2 { k } else { second::bound(d, k) };
+        let mut counts = [0; 4].map(|_| b + r.below(3) as usize);
+        let mut pair = [0; 2].map(|_| k + r.below(3) as usize);
+        if r.one_in(6) {
+            counts[r.below(4) as usize] = r.below(b as u64 + 1) as usize;
+            pair[r.below(2) as usize] = r.below(k as u64 + 1) as usize;
+        }
+        self.inverse_list(r, list, pair);
+        let tables = self.balance(r, list, d, counts);
+        assert!(*list == before, "the list stays");
+        tables
+    }
+
+    /// Every export on tables, at one interval and place.
+    fn on_tables(&mut self, n: u32, t: &Tables, x: u32, i: u32, m: u32) {
+        self.find(n, t, i);
+        self.step(n, t, x, i);
+        self.steps(n, t, x, i, m);
+        self.inverse(n, t, i);
+        self.weight(n, t, x);
+    }
+
+    /// Every export on tables, at places in their intervals and at any numbers.
+    fn on_tables_somewhere(&mut self, r: &mut Random, n: u32, t: &Tables, count: usize) {
+        let before = t.clone();
+        for _ in 0..count {
+            let mut x = r.below(t.starts.len() as u64 + 1) as u32;
+            let start = t.starts.get(x as usize).copied().unwrap_or(0);
+            let end = t.starts.get(x as usize + 1).copied().unwrap_or(n);
+            let mut i = start.wrapping_add(r.below(u64::from(end.wrapping_sub(start)) + 1) as u32);
+            if r.one_in(10) {
+                i = damaged(r, i, n);
+            }
+            if r.one_in(20) {
+                x = r.word();
+            }
+            let m = r.below(40) as u32;
+            self.on_tables(n, t, x, i, m);
+        }
+        assert!(*t == before, "the tables stay");
+    }
+
+    fn all(&self) -> [(&'static str, &BTreeSet<u32>, &'static [u32]); 8] {
+        [
+            ("check", &self.check, &[0, 1, 2, 3, 4, 5, 6]),
+            ("balance", &self.balance, &[0, 1, 2, 3, 4, 5, 6, 7, 8]),
+            ("inverse_list", &self.inverse_list, &[0, 1, 2, 3, 4, 5, 6, 8]),
+            ("find", &self.find, &[0, 9, 11]),
+            ("move", &self.step, &[0, 9, 10, 11, 12]),
+            ("moves", &self.steps, &[0, 9, 10, 11, 12]),
+            ("inverse", &self.inverse, &[0, 9, 11, 14]),
+            ("weight", &self.weight, &[0, 9, 10, 12]),
+        ]
+    }
+}
+
+/// A table entry, a count or n becomes something else.
+fn damage_tables(r: &mut Random, n: &mut u32, t: &mut Tables) {
+    let x = r.below(t.starts.len() as u64) as usize;
+    match r.below(12) {
+        0 => *n = damaged(r, *n, *n),
+        1 => drop(t.holders.pop()),
+        2 => t.images.push(0),
+        3..=5 => t.starts[x] = damaged(r, t.starts[x], *n),
+        6..=8 => t.images[x] = damaged(r, t.images[x], *n),
+        _ => t.holders[x] = damaged(r, t.holders[x], t.starts.len() as u32),
+    }
+}
+
+/// Numbers that mean nothing, small enough at times that some calls come through.
+fn senseless(r: &mut Random) -> (u32, Tables) {
+    let k = r.below(40) as usize;
+    let n = if r.one_in(2) { r.word() } else { r.below(100) as u32 };
+    let mut column = |limit: u64| -> Vec<u32> {
+        let any = r.one_in(3);
+        (0..k).map(|_| if any { r.word() } else { r.below(limit) as u32 }).collect()
+    };
+    let starts = column(u64::from(n) + 1);
+    let images = column(u64::from(n) + 1);
+    let holders = column(k as u64 + 1);
+    (n, Tables { starts, images, holders })
+}
+
+/// The degrees, and some that are none.
+fn degree(r: &mut Random) -> u32 {
+    match r.below(12) {
+        0 => r.word(),
+        1 => 65,
+        2..=5 => 2,
+        6..=8 => 3,
+        _ => r.from(2, 64) as u32,
+    }
+}
+
+/// Every export on a list, sound and damaged, and on its tables, sound and damaged.
+fn try_list(given: &mut Given, r: &mut Random, k: usize, questions: usize) {
+    let list = legal(r, k);
+    let d = degree(r);
+    let plain = second::tables(list.n, &list.starts, &list.images);
+    given.on_tables_somewhere(r, list.n, &plain, questions);
+    if let Some(balanced) = given.on_list(r, &list, d) {
+        given.on_tables_somewhere(r, list.n, &balanced, questions);
+        let (mut n, mut tables) = (list.n, balanced);
+        damage_tables(r, &mut n, &mut tables);
+        given.on_tables_somewhere(r, n, &tables, questions);
+    }
+    let mut worse = list;
+    damage(r, &mut worse);
+    let d = degree(r);
+    given.on_list(r, &worse, d);
+}
+
+#[test]
+fn random_lists_and_tables() {
+    let mut given = Given::default();
+    let r = &mut Random::new(1);
+    for _ in 0..100_000 {
+        let k = r.from(1, 40) as usize;
+        try_list(&mut given, r, k, 5);
+    }
+    for _ in 0..1500 {
+        let k = r.from(500, 2000) as usize;
+        try_list(&mut given, r, k, 50);
+    }
+    for _ in 0..400_000 {
+        let (n, tables) = senseless(r);
+        given.on_tables_somewhere(r, n, &tables, 5);
+    }
+    longest_lists(&mut given, r);
+    for (export, numbers, possible) in given.all() {
+        let missed: Vec<u32> = possible.iter().copied().filter(|number| !numbers.contains(number)).collect();
+        assert!(missed.is_empty(), "{export} never gave {missed:?}");
+        assert_eq!(numbers.len(), possible.len(), "{export} gave {numbers:?}");
+    }
+}
+
+/// Lists of 16,384 runs and one more, and tables of 32,768 intervals and one more.
+fn longest_lists(given: &mut Given, r: &mut Random) {
+    for k in [16384, 16385] {
+        let order: Vec<usize> = (0..k).rev().collect();
+        let list = list_of(&vec![3; k], &order);
+        given.on_list(r, &list, 2);
+    }
+    for k in [32768, 32769] {
+        let entries: Vec<u32> = (0..k).collect();
+        let tables = Tables { starts: entries.clone(), images: entries.clone(), holders: entries };
+        given.on_tables(k, &tables, k - 1, k - 1, 3);
+    }
+}
+
+/// The keys of document 01 that an export can answer.
+#[test]
+fn known_keys() {
+    let list = |n: u32, starts: &[u32], images: &[u32]| List { n, starts: starts.to_vec(), images: images.to_vec() };
+    let tables_at = |list: &List, d: u32| {
+        let b = second::bound(d, list.starts.len());
+        let [mut s, mut i, mut h, mut w] = [0; 4].map(|_| vec![0; b]);
+        let k = zibewoka::balance(list.n, &list.starts, &list.images, d, &mut s, &mut i, &mut h, &mut w);
+        k.map(|k| [s, i, h].map(|table| table[..k as usize].to_vec()))
+    };
+    let listing = list(16, &[0, 2, 4, 6, 8], &[14, 12, 10, 8, 0]);
+    let [s, i, h] = tables_at(&listing, 2).expect("legal");
+    assert_eq!((&s[..], &i[..]), (&[0, 2, 4, 6, 8, 12][..], &[14, 12, 10, 8, 0, 4][..]));
+    assert_eq!(h, [5, 5, 4, 4, 0, 2]);
+    assert_eq!(
+        (0..6).map(|x| zibewoka::weight(16, &s, &i, &h, x).expect("whole")).collect::<Vec<_>>(),
+        [0, 1, 0, 1, 2, 2]
+    );
+    let step = |place, interval, count| Ok(zibewoka::Step { place, interval, count });
+    assert_eq!(zibewoka::move_once(16, &s, &i, &h, 4, 11), step(3, 1, 1));
+    assert_eq!(zibewoka::moves(16, &s, &i, &h, 0, 0, 4), step(0, 0, 1));
+    assert_eq!(zibewoka::inverse(16, &s, &i, &h, 9), Ok(zibewoka::Position { place: 7, interval: 3 }));
+    let [mut s, mut i, mut h, mut w] = [0; 4].map(|_| vec![0; 9]);
+    let short = zibewoka::balance(16, &listing.starts, &listing.images, 2, &mut s, &mut i, &mut h, &mut w);
+    assert_eq!(short, Err(Refusal { number: 8, place: 10 }));
+
+    let light = list(12, &[0, 2, 4, 6], &[10, 8, 6, 0]);
+    assert_eq!(tables_at(&light, 2).expect("legal")[0], light.starts);
+    let most = list(15, &[0, 3, 5, 7, 8], &[8, 11, 13, 0, 1]);
+    let [s, i, h] = tables_at(&most, 2).expect("legal");
+    assert_eq!(s, most.starts);
+    assert_eq!(zibewoka::move_once(15, &s, &i, &h, 4, 14), step(7, 3, 3));
+    assert_eq!(tables_at(&list(1, &[0], &[0]), 2).expect("legal")[0].len(), 1);
+    assert_eq!(zibewoka::check(4, &[0, 2], &[2, 0]), Ok(()));
+    assert_eq!(zibewoka::check(4, &[0, 2], &[0, 1]), Err(Refusal { number: 6, place: 0 }));
+    assert_eq!(zibewoka::check(4, &[0, 2], &[0, 3]), Err(Refusal { number: 5, place: 1 }));
+    assert_eq!(zibewoka::check(u32::MAX, &[0, u32::MAX - 1], &[1, 0]), Ok(()));
+    let psi =
+        list(45, &[0, 1, 5, 6, 12, 17, 19, 22, 25, 32, 34, 42, 43], &[11, 28, 2, 22, 32, 38, 42, 12, 15, 0, 3, 37, 40]);
+    let [s, i, h] = tables_at(&psi, 2).expect("legal");
+    assert_eq!(s, psi.starts);
+    assert_eq!(zibewoka::move_once(45, &s, &i, &h, 4, 15), step(35, 10, 1));
+}
+
+#[test]
+fn weights_kept_from_cut_to_cut_are_those_of_the_list() {
+    let r = &mut Random::new(2);
+    for round in 0..20_000 {
+        let k = if round % 100 == 0 { r.from(100, 200) } else { r.from(1, 40) } as usize;
+        let List { n, starts, images } = legal(r, k);
+        let d = if r.one_in(2) { 2 } else { r.from(2, 8) } as usize;
+        let wanted = second::balanced_literally(n, &starts, &images, d);
+        assert_eq!(second::balanced(n, &starts, &images, d), wanted);
+    }
+}
+
+/// All permutations of n places.
+fn permutations(n: u32) -> Vec<Vec<u32>> {
+    if n == 0 {
+        return vec![vec![]];
+    }
+    let mut all = Vec::new();
+    for shorter in permutations(n - 1) {
+        for at in 0..=shorter.len() {
+            let mut longer = shorter.clone();
+            longer.insert(at, n - 1);
+            all.push(longer);
+        }
+    }
+    all
+}
+
+/// The lists of a permutation: a run must begin at each place whose image is not the next one, and may begin at others.
+fn lists(permutation: &[u32]) -> Vec<List> {
+    let n = permutation.len();
+    let mut all = Vec::new();
+    for chosen in 0..1 << (n - 1) {
+        let begins = |p: usize| p == 0 || chosen >> (p - 1) & 1 == 1;
+        if (1..n).any(|p| !begins(p) && permutation[p] != permutation[p - 1] + 1) {
+            continue;
+        }
+        let starts: Vec<u32> = (0..n).filter(|&p| begins(p)).map(|p| p as u32).collect();
+        let images = starts.iter().map(|&p| permutation[p as usize]).collect();
+        all.push(List { n: n as u32, starts, images });
+    }
+    all
+}
+
+#[test]
+fn all_permutations_of_up_to_six_places() {
+    let mut given = Given::default();
+    let r = &mut Random::new(3);
+    for permutation in (1..=6).flat_map(permutations) {
+        let n = permutation.len() as u32;
+        for (list, d) in lists(&permutation).into_iter().flat_map(|list| [(list.clone(), 2), (list, 3)]) {
+            let k = list.starts.len();
+            given.check(&list);
+            given.inverse_list(r, &list, [k, k + 1]);
+            let b = second::bound(d, k);
+            let tables = given.balance(r, &list, d, [b, b + 1, b, b]).expect("a permutation's list is legal");
+            let literally = second::balanced_literally(n, &list.starts, &list.images, d as usize);
+            assert_eq!((&tables.starts, &tables.images), (&literally.0, &literally.1));
+            every_place(&mut given, &permutation, &tables, d);
+        }
+    }
+}
+
+/// Every export at every place and interval of a permutation's balanced tables, and the permutation itself.
+fn every_place(given: &mut Given, permutation: &[u32], t: &Tables, d: u32) {
+    let n = permutation.len() as u32;
+    for p in 0..=n {
+        for x in 0..=t.starts.len() as u32 {
+            given.on_tables(n, t, x, p, p);
+        }
+    }
+    for p in 0..n {
+        let x = zibewoka::find(n, &t.starts, &t.images, &t.holders, p).expect("p is a place");
+        let step = zibewoka::move_once(n, &t.starts, &t.images, &t.holders, x, p).expect("x has p");
+        assert_eq!(step.place, permutation[p as usize]);
+        assert!(step.count < u64::from(2 * d));
+        let back = zibewoka::inverse(n, &t.starts, &t.images, &t.holders, step.place).expect("each place is an image");
+        assert_eq!((back.place, back.interval), (p, x));
+    }
+}
+
+/// Millions of moves one by one through balanced tables, each beside the list's function, then the same in one call.
+#[test]
+fn a_walk_of_millions_of_moves() {
+    let r = &mut Random::new(4);
+    for d in [2, 8, 64] {
+        let m = 4_000_000;
+        let list = legal(r, 2000);
+        let List { n, starts, images } = &list;
+        let b = second::bound(d, starts.len());
+        let [mut s, mut i, mut h, mut w] = [0; 4].map(|_| vec![0; b]);
+        let k =
+            zibewoka::balance(*n, starts, images, d, &mut s, &mut i, &mut h, &mut w).expect("a legal list") as usize;
+        let (s, i, h) = (&s[..k], &i[..k], &h[..k]);
+        let first = r.below(u64::from(*n)) as u32;
+        let first_interval = zibewoka::find(*n, s, i, h, first).expect("a place");
+        let (mut place, mut interval, mut count) = (first, first_interval, 0);
+        for _ in 0..m {
+            let step = zibewoka::move_once(*n, s, i, h, interval, place).expect("the interval has the place");
+            let run = starts.partition_point(|&start| start <= place) - 1;
+            assert_eq!(step.place, images[run] + (place - starts[run]));
+            assert!(step.count < u64::from(2 * d));
+            (place, interval, count) = (step.place, step.interval, count + step.count);
+        }
+        let whole = zibewoka::moves(*n, s, i, h, first_interval, first, m).expect("the same walk");
+        assert_eq!((whole.place, whole.interval, whole.count), (place, interval, count));
+        assert!(count <= u64::from(m) * u64::from(2 * d - 1));
+    }
+}
