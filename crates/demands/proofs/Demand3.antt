@@ -1,8 +1,9 @@
 -- Demand 3. What `balance` promises puts the tables of the balanced list at the head of the lent ones; through these the
 -- single calls are the plain walk's, so whole lists of calls are (Serving, Marking); and since no interval is heavy, no
 -- move passes more than 2d − 1 starts (Counting).
-use Prim.Native.Nat.{ℕ, _-_, _*_, _≤_, _<_}
-use mathlib.Core.Path.{_≡_, ap, _∙_}
+use Prim.Native.Nat.{ℕ, suc, _-_, _*_, _≤_, _<_}
+use mathlib.Core.Path.{_≡_, sym, ap, _∙_}
+use mathlib.Core.List.{List, [], _∷_, _++_}
 use native.Mathlib.Omega.{arith}
 use lib.ListN.{length}
 use borrow.Author.Tests.{le-ltb}
@@ -15,7 +16,7 @@ use Rattle.runs.proofs.Accepted.{accepted-legal}
 use Rattle.runs.proofs.Legality.{homes, home, run-at}
 use Rattle.tables.specs.Tables.{Tables, tablesOf}
 use Rattle.tables.specs.Under.{weight}
-use Rattle.tables.specs.Bookmark.{fresh}
+use Rattle.tables.specs.Bookmark.{fresh, Marking, markingsOf}
 use Rattle.tables.proofs.Walks.{above-to, walk-bound}
 use Rattle.tables.proofs.LegalTables.{legal-find-beyond}
 use Rattle.tables.specs.Move.{findOf}
@@ -29,7 +30,7 @@ use Rattle.demands.specs.Demands.{Through, Roomy, Serves, Demand3}
 use Rattle.demands.proofs.Demand2.{balanced-few, through-balanced}
 use Rattle.demands.proofs.Serving.{same-replies}
 use Rattle.demands.proofs.Counting.{counts-length, counts-sum, counts-most, sum-most}
-use Rattle.demands.proofs.Marking.{same-trail, advancing-served}
+use Rattle.demands.proofs.Marking.{same-trail, advancing-served, trail-last}
 
 -- balancing an accepted list into roomy tables is not refused
 balance-done : (n : ℕ) (r : Runs) (d : ℕ) (l : Lent) → checkOf n r ≡ done tt → 2 ≤ d → d ≤ 64 → Roomy (boundOf d (countOf r)) l
@@ -75,6 +76,14 @@ module _ (n : ℕ) (r : Runs) (d : ℕ) (c : Legal n r) (k : countOf r ≤ maxRu
   fresh-trail m p h =
       same-trail n (2 * d - 1) r t (tablesOf n t) (walks .move) (walks .inside) most (omega arith) m p 0 0 h (omega arith) (omega arith)
 
+  fresh-end : (m p : ℕ) → p < n → plainTrail n r t (suc m) p 0 0
+      ≡ plainTrail n r t m p 0 0 ++ (markingsOf n (tablesOf n t) (suc m) (fresh p (runAt n t p)) ∷ [])
+  fresh-end m p h =
+      let b = fresh p (runAt n t p) in
+      sym (fresh-trail (suc m) p h)
+      ∙ trail-last n (tablesOf n t) m b
+      ∙ ap (λ (l : List Marking). l ++ (markingsOf n (tablesOf n t) (suc m) b ∷ [])) (fresh-trail m p h)
+
   -- the tables of the balanced list serve the plain walk
   tables-serve : (l : Lent) → firstOf (countOf t) l ≡ tablesOf n t → Serves n r d (countOf t) l
   tables-serve l e = record {
@@ -91,6 +100,7 @@ module _ (n : ℕ) (r : Runs) (d : ℕ) (c : Legal n r) (k : countOf r ≤ maxRu
     );
     same-trail = λ p h m. rw e (fresh-trail m p h);
     same-advances = λ p h ms a. advancing-served n (firstOf (countOf t) l) ms _ a ∙ rw e (fresh-trail (length ms) p h);
+    same-end = λ p h m. rw e (fresh-end m p h);
   }
 
 pub demand3 : Demand3

@@ -3,7 +3,7 @@
 use Prim.Native.Nat.{ℕ, zero, suc, _+_, _*_, _^_, _≤_, _<_}
 use mathlib.Core.Path.{_≡_, refl, sym, ap, _∙_}
 use mathlib.Core.Logic.{_⊎_, inl, inr}
-use mathlib.Core.List.{List, [], _∷_, map}
+use mathlib.Core.List.{List, [], _∷_, _++_, map}
 use native.Mathlib.Omega.{arith}
 use lib.ListN.{length}
 use native.Mathlib.Nat.{mul-le-mul-left}
@@ -14,7 +14,7 @@ use Rattle.runs.specs.Runs.{Runs, runAt, mapOf}
 use Rattle.runs.proofs.Judging.{judge-done, judge-on}
 use Rattle.tables.specs.Tables.{Tables}
 use Rattle.tables.specs.Move.{moveTests, stepOf, moveOf}
-use Rattle.tables.specs.Bookmark.{spent, bookmarkOf, markAfter, Marking, marking, markedSays, markingOf}
+use Rattle.tables.specs.Bookmark.{spent, bookmarkOf, markAfter, Marking, marking, markedSays, markingOf, markingsOf}
 use Rattle.tables.specs.declared.Bookmark.{Bookmark}
 use Rattle.tables.specs.declared.Marked.{Marked}
 use Rattle.tables.proofs.Markings.{advances-marking}
@@ -112,3 +112,18 @@ advancing-served n τ (m ∷ ms) b a =
     let e = advances-marking n τ b (m .moved) (m .bookmark) (a .0) in
     let f = advancing-served n τ ms (m .bookmark) (a .1) ∙ ap (λ (w : Marking). servedTrail n τ (length ms) (w .bookmark)) e in
     λ i. e i ∷ f i
+
+-- the last move of a trail is where so many moves of the bookmark lead
+module _ (n : ℕ) (τ : Tables) where
+  markings-first : (m : ℕ) (b : Bookmark) → markingsOf n τ (suc m) (markingOf n τ b .bookmark) ≡ markingsOf n τ (suc (suc m)) b
+  unfolding markingsOf
+  markings-first zero b = refl
+  markings-first (suc m) b = ap (λ (w : Marking). markingOf n τ (w .bookmark)) (markings-first m b)
+
+  pub trail-last : (m : ℕ) (b : Bookmark) → servedTrail n τ (suc m) b ≡ servedTrail n τ m b ++ (markingsOf n τ (suc m) b ∷ [])
+  unfolding servedTrail markingsOf
+  trail-last zero b = refl
+  trail-last (suc m) b =
+      let c = markingOf n τ b .bookmark in
+      ap (λ (l : List Marking). markingOf n τ b ∷ l)
+      (trail-last m c ∙ ap (λ (w : Marking). servedTrail n τ m c ++ (w ∷ [])) (markings-first m b))

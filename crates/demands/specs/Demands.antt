@@ -1,10 +1,10 @@
 -- The three demands. Their proofs are in proofs/, apart from what they say. That every call stays in bounds and ends is
 -- what the checker proves of each function; here stands what its contract's definitions come to.
-use Prim.Native.Nat.{ℕ, _+_, _-_, _*_, _^_, _≤_, _<_}
+use Prim.Native.Nat.{ℕ, suc, _+_, _-_, _*_, _^_, _≤_, _<_}
 use mathlib.Core.Path.{_≡_}
 use mathlib.Core.Bool.{true, false}
 use mathlib.Core.Logic.{_↔_, _⊎_}
-use mathlib.Core.List.{List, [], _∷_, map}
+use mathlib.Core.List.{List, [], _∷_, _++_, map}
 use lib.ListN.{length, getD}
 use Rattle.order.specs.Order.{All, sumOf}
 use Rattle.runs.specs.Outcome.{Outcome, done, refused, Test, test, judge}
@@ -18,7 +18,7 @@ use Rattle.tables.specs.Tables.{Tables, tablesOf}
 use Rattle.tables.specs.Move.{movedSays, findTests, locateTests, moveTests, findOf, moveOf, movesOf}
 use Rattle.tables.specs.Inverse.{inverseTests, inverseOf}
 use Rattle.tables.specs.Under.{underTests}
-use Rattle.tables.specs.Bookmark.{bookmarkTests, bookmarkOf, fresh, Advances, markedSays}
+use Rattle.tables.specs.Bookmark.{bookmarkTests, bookmarkOf, fresh, Advances, markedSays, markingsOf}
 use Rattle.tables.specs.declared.Bookmark.{Bookmark}
 use Rattle.tables.specs.declared.Moved.{Moved}
 use Rattle.tables.specs.declared.Marked.{Marked}
@@ -132,6 +132,9 @@ pub record Serves (n : ℕ) (r : Runs) (d k : ℕ) (l : Lent) : Type 0 where
   -- the same of the contract of `advance`: what any number of calls say, and leave of that one bookmark
   pub same-advances : (p : ℕ) → p < n → (ms : List Marked) → Advancing n (firstOf k l) (fresh p (runAt n (balanced d n r) p)) ms
       → map markedSays ms ≡ plainTrail n r (balanced d n r) (length ms) p 0 0
+  -- and of `bookmark_moves`: it ends where the last of so many moves does
+  pub same-end : (p : ℕ) → p < n → (m : ℕ) → plainTrail n r (balanced d n r) (suc m) p 0 0
+      ≡ plainTrail n r (balanced d n r) m p 0 0 ++ (markingsOf n (firstOf k l) (suc m) (fresh p (runAt n (balanced d n r) p)) ∷ [])
 
 abbrev pub Demand3 : Type 0
 Demand3 =
