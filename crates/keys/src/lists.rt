@@ -14,7 +14,7 @@ pub(crate) fn checks() {
 }
 
 // 2: one run more than a list may have.
-pub(crate) fn crowded() {
+pub(crate) fn too_many() {
     let many = [0u32; 16385];
     let mut a = [7u32; 2];
     let mut b = [7u32; 2];

@@ -7,7 +7,7 @@ mod walks;
 
 fn main() {
     lists::checks();
-    lists::crowded();
+    lists::too_many();
     lists::inverses();
     lists::balances();
     lists::nine();

@@ -1,4 +1,4 @@
--- The number and the place of each refusal (document 01, the table of numbers). The trade's word stands beside each.
+-- The number and the place of each refusal (document 01, the table of numbers).
 use Prim.Native.Nat.{ℕ}
 use Rattle.runs.specs.Outcome.{Outcome, done, refused}
 use Rattle.runs.specs.declared.Refusal.{Refusal}
@@ -6,22 +6,24 @@ use Rattle.runs.specs.declared.Refusal.the-variants.{Empty, TooManyRuns,
 use Rattle.runs.specs.declared.Checked.{Checked}
 use Rattle.runs.specs.declared.Checked.the-variants.{Accepted, Refused}
 
+-- The trade's words: 1 empty, 2 crowded, 3 late, 4 disorder, 5 overrun, 6 clash, 7 degree, 8 short, 9 misfit,
+-- 10 stranger, 11 astray, 12 torn, 13 spent, 14 unlanded, 15 header.
 abbrev pub numberOf : Refusal → ℕ
-numberOf Empty = 1  -- empty
-numberOf TooManyRuns = 2  -- crowded
-numberOf FirstStart = 3  -- late
-numberOf (StartOrder x) = 4  -- disorder
-numberOf (ImageRange x) = 5  -- overrun
-numberOf (ImageOverlap x) = 6  -- clash
-numberOf (Degree d) = 7  -- degree
-numberOf (ShortTable b) = 8  -- short
-numberOf TableShape = 9  -- misfit
-numberOf (IntervalIndex x) = 10  -- stranger
-numberOf (PlaceRange i) = 11  -- astray
-numberOf (BrokenInterval x) = 12  -- torn
-numberOf CounterLimit = 13  -- spent
-numberOf (NoPreimage j) = 14  -- unlanded
-numberOf (FileHeader b) = 15  -- header
+numberOf Empty = 1
+numberOf TooManyRuns = 2
+numberOf FirstStart = 3
+numberOf (StartOrder x) = 4
+numberOf (ImageRange x) = 5
+numberOf (ImageOverlap x) = 6
+numberOf (Degree d) = 7
+numberOf (ShortTable b) = 8
+numberOf TableShape = 9
+numberOf (IntervalIndex x) = 10
+numberOf (PlaceRange i) = 11
+numberOf (BrokenInterval x) = 12
+numberOf CounterLimit = 13
+numberOf (NoPreimage j) = 14
+numberOf (FileHeader b) = 15
 
 abbrev pub placeOf : Refusal → ℕ
 placeOf Empty = 0
