@@ -74,7 +74,8 @@ module _ (n : ℕ) (r : Runs) (d : ℕ) (c : Legal n r) (k : countOf r ≤ maxRu
 
   fresh-trail : (m p : ℕ) → p < n → servedTrail n (tablesOf n t) m (fresh p (runAt n t p)) ≡ plainTrail n r t m p 0 0
   fresh-trail m p h =
-      same-trail n (2 * d - 1) r t (tablesOf n t) (walks .move) (walks .inside) most (omega arith) m p 0 0 h (omega arith) (omega arith)
+      same-trail n (2 * d - 1) r t (tablesOf n t) (walks .move) (walks .inside) most (omega arith)
+      m p 0 0 h (omega arith) (omega arith)
 
   fresh-end : (m p : ℕ) → p < n → plainTrail n r t (suc m) p 0 0
       ≡ plainTrail n r t m p 0 0 ++ (markingsOf n (tablesOf n t) (suc m) (fresh p (runAt n t p)) ∷ [])

@@ -110,17 +110,20 @@ unfolding servedTrail
 advancing-served n τ [] b a = refl
 advancing-served n τ (m ∷ ms) b a =
     let e = advances-marking n τ b (m .moved) (m .bookmark) (a .0) in
-    let f = advancing-served n τ ms (m .bookmark) (a .1) ∙ ap (λ (w : Marking). servedTrail n τ (length ms) (w .bookmark)) e in
-    λ i. e i ∷ f i
+    let f = ap (λ (w : Marking). servedTrail n τ (length ms) (w .bookmark)) e in
+    let g = advancing-served n τ ms (m .bookmark) (a .1) ∙ f in
+    λ i. e i ∷ g i
 
 -- the last move of a trail is where so many moves of the bookmark lead
 module _ (n : ℕ) (τ : Tables) where
-  markings-first : (m : ℕ) (b : Bookmark) → markingsOf n τ (suc m) (markingOf n τ b .bookmark) ≡ markingsOf n τ (suc (suc m)) b
+  markings-first : (m : ℕ) (b : Bookmark)
+      → markingsOf n τ (suc m) (markingOf n τ b .bookmark) ≡ markingsOf n τ (suc (suc m)) b
   unfolding markingsOf
   markings-first zero b = refl
   markings-first (suc m) b = ap (λ (w : Marking). markingOf n τ (w .bookmark)) (markings-first m b)
 
-  pub trail-last : (m : ℕ) (b : Bookmark) → servedTrail n τ (suc m) b ≡ servedTrail n τ m b ++ (markingsOf n τ (suc m) b ∷ [])
+  pub trail-last : (m : ℕ) (b : Bookmark)
+      → servedTrail n τ (suc m) b ≡ servedTrail n τ m b ++ (markingsOf n τ (suc m) b ∷ [])
   unfolding servedTrail markingsOf
   trail-last zero b = refl
   trail-last (suc m) b =

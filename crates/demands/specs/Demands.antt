@@ -129,12 +129,15 @@ pub record Serves (n : ℕ) (r : Runs) (d k : ℕ) (l : Lent) : Type 0 where
   -- a bookmark that is fresh at such a place: each answer, and its four numbers after it
   pub same-trail : (p : ℕ) → p < n → (m : ℕ)
       → servedTrail n (firstOf k l) m (fresh p (runAt n (balanced d n r) p)) ≡ plainTrail n r (balanced d n r) m p 0 0
-  -- the same of the contract of `advance`: what any number of calls say, and leave of that one bookmark
-  pub same-advances : (p : ℕ) → p < n → (ms : List Marked) → Advancing n (firstOf k l) (fresh p (runAt n (balanced d n r) p)) ms
+  -- the same over the contract of `advance`: what any number of calls on that one bookmark say, and leave of it
+  pub same-advances : (p : ℕ) → p < n → (ms : List Marked)
+      → Advancing n (firstOf k l) (fresh p (runAt n (balanced d n r) p)) ms
       → map markedSays ms ≡ plainTrail n r (balanced d n r) (length ms) p 0 0
-  -- and of `bookmark_moves`: it ends where the last of so many moves does
-  pub same-end : (p : ℕ) → p < n → (m : ℕ) → plainTrail n r (balanced d n r) (suc m) p 0 0
-      ≡ plainTrail n r (balanced d n r) m p 0 0 ++ (markingsOf n (firstOf k l) (suc m) (fresh p (runAt n (balanced d n r) p)) ∷ [])
+  -- and over that of `bookmark_moves`: what m + 1 moves say, and leave, is the last of that trail
+  pub same-end : (p : ℕ) → p < n → (m : ℕ)
+      → plainTrail n r (balanced d n r) (suc m) p 0 0
+      ≡ plainTrail n r (balanced d n r) m p 0 0
+      ++ (markingsOf n (firstOf k l) (suc m) (fresh p (runAt n (balanced d n r) p)) ∷ [])
 
 abbrev pub Demand3 : Type 0
 Demand3 =

@@ -1,4 +1,4 @@
-// A bookmark after a step.
+// A bookmark after a step, and lent for one move.
 use super::Bookmark;
 use super::Marked;
 use super::Moved;
