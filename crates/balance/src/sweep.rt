@@ -4,11 +4,16 @@ use super::marks;
 use super::pieces;
 ghost use Prim.Native.Nat.{_≤_};
 ghost use lib.ListN.{length};
+ghost use Rattle.order.specs.Order.{Room};
 ghost use Rattle.runs.specs.Legal.{Legal};
 ghost use Rattle.runs.specs.Runs.{runs};
 ghost use Rattle.runs.specs.Check.{maxRuns};
 ghost use Rattle.balance.specs.Balance.{boundOf};
 ghost use Rattle.balance.specs.Cuts.{Ranked, BalancingCuts};
+
+// A list of so few runs gets smaller tables to work in, as in its check: clearing the others would take a short one
+// longer than its cuts.
+const FEW_RUNS: usize = 1024;
 
 // Cuts pieces until none is heavy, each time the heavy one with the lowest image: the cuts come to stand in
 // `working`, in rising order. Answers how many there are. Before `q` only the piece at `p` may be heavy, and a cut
@@ -58,6 +63,36 @@ fn sweep(
     cuts
 }
 
+// The cuts that balance the list, in rising order in `working`. Answers how many there are. `order` is room for the
+// runs in rising order of image, and `ranked` for their images in that order.
+fn cuts_by_image(
+    n: u32,
+    starts: &[u32],
+    images: &[u32],
+    d: u32,
+    order: &mut [u32],
+    ranked: &mut [u32],
+    working: &mut [u32],
+) -> usize
+    requires { ⌜ Legal n (runs (now starts) (now images)) × Room (now order) (now ranked) (now images) × (2 ≤ d) × (d ≤ 64)
+        × (boundOf d (length (now starts)) ≤ length (now working)) ⌝ }
+    ensures { λ r. ⌜ BalancingCuts d n (runs (now (starts .entry)) (now (images .entry)))
+        (now (working .entry)) (now (working .exit)) r ⌝ }
+{
+    order::sort_by_key(order, ranked, images);
+    order::gather(images, order, ranked);
+    let k = images.len();
+    sweep(
+        n,
+        starts,
+        images,
+        &order[..k],
+        &ranked[..k],
+        d as usize,
+        working,
+    )
+}
+
 // The cuts that balance the list, in rising order in `working`. Answers how many there are.
 pub(crate) fn balancing_cuts(
     n: u32,
@@ -71,18 +106,12 @@ pub(crate) fn balancing_cuts(
     ensures { λ r. ⌜ BalancingCuts d n (runs (now (starts .entry)) (now (images .entry)))
         (now (working .entry)) (now (working .exit)) r ⌝ }
 {
+    if starts.len() <= FEW_RUNS {
+        let mut order: [u32; FEW_RUNS] = [0; FEW_RUNS];
+        let mut ranked: [u32; FEW_RUNS] = [0; FEW_RUNS];
+        return cuts_by_image(n, starts, images, d, &mut order, &mut ranked, working);
+    }
     let mut order: [u32; runs::MAX_RUNS] = [0; runs::MAX_RUNS];
     let mut ranked: [u32; runs::MAX_RUNS] = [0; runs::MAX_RUNS];
-    order::sort_by_key(&mut order, &mut ranked, images);
-    order::gather(images, &order, &mut ranked);
-    let k = images.len();
-    sweep(
-        n,
-        starts,
-        images,
-        &order[..k],
-        &ranked[..k],
-        d as usize,
-        working,
-    )
+    cuts_by_image(n, starts, images, d, &mut order, &mut ranked, working)
 }
