@@ -1,13 +1,14 @@
 -- What `balance` answers, one law for each way to return: the tests of a refused call, or the tables that were filled.
 use Prim.Native.Nat.{ℕ, _+_, _-_, _≤_, _<_}
-use mathlib.Core.Path.{_≡_, refl, sym, ap, _∙_, subst}
-use mathlib.Core.Bool.{Bool, true, false, _||_, false≢true}
+use mathlib.Core.Path.{_≡_, sym, ap, _∙_, subst}
+use mathlib.Core.Bool.{true, false}
 use mathlib.Core.List.{List, [], _∷_, _++_}
 use native.Mathlib.Omega.{arith}
 use lib.ListN.{length, take, drop, replicate, length-replicate}
 use lib.Seq.{drop-drop}
 use lib.Dec.{ltb}
 use borrow.Author.Tests.{lt-ltb, le-ltb, ltb-false}
+use Rattle.order.proofs.Laws.{or-false}
 use Rattle.runs.specs.Outcome.{done, refused, Test, test, judge, andThen, mapDone, filled}
 use Rattle.runs.specs.Refusal.{refusalSays}
 use Rattle.runs.specs.Runs.{Runs, countOf}
@@ -27,10 +28,6 @@ use Rattle.balance.proofs.Writing.{legal-count}
 -- tests 7 and 8
 abbrev lentTests : Runs → ℕ → Lent → List Test
 lentTests r d l = degreeTest d ∷ test 8 (tooShort (boundOf d (countOf r)) l) (boundOf d (countOf r)) ∷ []
-
-or-false : (a b : Bool) → (a || b) ≡ false → (a ≡ false) × (b ≡ false)
-or-false true b e = absurd (false≢true (sym e))
-or-false false b e = (refl, e)
 
 module _ (n : ℕ) (r : Runs) (d : ℕ) (l : Lent) where
   parts : balanceOf n r d l ≡ andThen (checkOf n r) (λ _. judge (lentTests r d l) (tablesOf n (balanced d n r)))

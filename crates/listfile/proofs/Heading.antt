@@ -1,12 +1,13 @@
 -- What a file's header comes to, by the facts that its tests show.
 use Prim.Native.Nat.{ℕ, _+_, _*_, _≤_, _<_}
-use mathlib.Core.Path.{_≡_, refl, sym, ap, _∙_}
-use mathlib.Core.Bool.{Bool, true, false, _||_, true≢false}
+use mathlib.Core.Path.{_≡_, sym, ap, _∙_}
+use mathlib.Core.Bool.{true, false}
 use mathlib.Core.List.{List, []}
 use native.Mathlib.Omega.{arith}
 use lib.ListN.{length}
 use lib.Dec.{eqb}
 use borrow.Author.Tests.{lt-ltb, le-ltb, eq-eqb, ne-eqb, ltb-false, eqb-true, eqb-false, not-false}
+use Rattle.order.proofs.Laws.{or-false}
 use Rattle.runs.specs.Outcome.{done, refused, judge, andThen}
 use Rattle.runs.proofs.Judging.{judge-append, judge-first, judge-done}
 use Rattle.listfile.specs.File.{wordOf, headerOf, countTests, layoutTests, layoutOf, headerTests, headingOf, Laid}
@@ -81,10 +82,6 @@ module _ (most : ℕ) (bytes : List ℕ) where
           heading-read h d g = rw (heading-rest, ← h, e, f, g)
 
 -- what holds of a header that was read
-pub or-false : (a b : Bool) → (a || b) ≡ false → (a ≡ false) × (b ≡ false)
-or-false true b e = absurd (true≢false e)
-or-false false b e = (refl, e)
-
 pub heading-laid : (most : ℕ) (bytes : List ℕ) (h : Header) → done h ≡ headingOf most bytes → Laid most bytes h
 unfolding headingOf headerTests countTests layoutTests
 heading-laid most bytes h e =

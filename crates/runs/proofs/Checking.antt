@@ -1,14 +1,14 @@
 -- What `check` answers, by the facts that its tests show: one law for each way to return.
 use Prim.Native.Nat.{ℕ, suc, _-_, _≤_, _<_}
-use mathlib.Core.Path.{_≡_, refl, sym, _∙_}
+use mathlib.Core.Path.{_≡_, sym, _∙_}
 use mathlib.Core.List.{List}
-use mathlib.Core.Bool.{Bool, true, false, _||_, true≢false}
+use mathlib.Core.Bool.{Bool, true, false}
 use mathlib.Core.Logic.{_≢_, _⊎_, inl, inr}
 use native.Mathlib.Omega.{arith}
 use lib.ListN.{length}
 use lib.Dec.{leb, eqb}
 use borrow.Author.Tests.{ltb-false, lt-ltb, le-ltb, eq-eqb, ne-eqb, leb-false, eqb-true, eqb-false, not-false}
-use Rattle.order.proofs.Laws.{lt-or-le}
+use Rattle.order.proofs.Laws.{lt-or-le, or-false}
 use Rattle.runs.specs.Outcome.{done, refused, judge}
 use Rattle.runs.specs.Search.{firstBelow}
 use Rattle.runs.specs.Runs.{Runs, countOf, startOf, endOf, imageEnd}
@@ -33,10 +33,6 @@ module _ (n : ℕ) (r : Runs) (x : ℕ) where
   pub overruns-within : overruns n r x ≡ false → imageEnd n r x ≤ n
   unfolding overruns
   overruns-within e = ltb-false _ _ e
-
-pub or-false : (a b : Bool) → (a || b) ≡ false → (a ≡ false) × (b ≡ false)
-or-false true b e = absurd (true≢false e)
-or-false false b e = (refl, e)
 
 -- what test 1 shows where it does not apply
 pub record Matched (n : ℕ) (r : Runs) : Type 0 where

@@ -1,39 +1,32 @@
 -- The tests of 9 to 12 and the facts that they stand for.
 use Prim.Native.Nat.{ℕ, _≤_, _<_}
-use mathlib.Core.Path.{_≡_, refl, sym, _∙_}
-use mathlib.Core.Bool.{Bool, true, false, not, _||_, true≢false}
+use mathlib.Core.Path.{_≡_, sym, _∙_}
+use mathlib.Core.Bool.{Bool, true, false, not}
 use native.Mathlib.Omega.{arith}
 use lib.ListN.{length}
 use lib.Dec.{leb, ltb, eqb}
 use borrow.Author.Tests.{lt-ltb, le-ltb, le-leb, lt-leb, ltb-false, leb-false, eq-eqb, ne-eqb, eqb-true, eqb-false, not-false}
+use Rattle.order.proofs.Laws.{or-false}
 use Rattle.runs.specs.Runs.{startOf, imageOf, endOf, carry}
 use Rattle.tables.specs.Tables.{Tables, sizeOf, holderOf, maxIntervals, misshapen, outside, unheld, broken}
 use Rattle.tables.specs.Passed.{Shaped}
 
-pub or-left : (a b : Bool) → (a || b) ≡ false → a ≡ false
-or-left true b e = e
-or-left false b e = refl
-
-pub or-right : (a b : Bool) → (a || b) ≡ false → b ≡ false
-or-right true b e = absurd (true≢false e)
-or-right false b e = e
-
 -- 9 passed
-pub shaped : (n : ℕ) (t : Tables) (b : Bool) → b ≡ misshapen n t → b ≡ false → Shaped n t
+pub shaped : (n : ℕ) (t : Tables) (s : Bool) → s ≡ misshapen n t → s ≡ false → Shaped n t
 unfolding misshapen
-shaped n t b q f =
+shaped n t s q f =
     let e : misshapen n t ≡ false = sym q ∙ f in
-    let e₁ = or-right (eqb n 0) _ e in
-    let e₂ = or-right (eqb (sizeOf t) 0) _ e₁ in
-    let e₃ = or-right (not (eqb (sizeOf t) (length (t .list .images)))) _ e₂ in
-    let e₄ = or-right (not (eqb (sizeOf t) (length (t .holders)))) _ e₃ in
+    let a = or-false (eqb n 0) _ e in
+    let b = or-false (eqb (sizeOf t) 0) _ (a .1) in
+    let c = or-false (not (eqb (sizeOf t) (length (t .list .images)))) _ (b .1) in
+    let d = or-false (not (eqb (sizeOf t) (length (t .holders)))) _ (c .1) in
     record {
       fits = e;
-      places = omega (arith, eqb-false n 0 (or-left (eqb n 0) _ e));
-      some = omega (arith, eqb-false (sizeOf t) 0 (or-left (eqb (sizeOf t) 0) _ e₁));
-      few = ltb-false maxIntervals (sizeOf t) e₄;
-      imaged = sym (eqb-true (sizeOf t) _ (not-false _ (or-left (not (eqb (sizeOf t) (length (t .list .images)))) _ e₂)));
-      held = sym (eqb-true (sizeOf t) _ (not-false _ (or-left (not (eqb (sizeOf t) (length (t .holders)))) _ e₃)));
+      places = omega (arith, eqb-false n 0 (a .0));
+      some = omega (arith, eqb-false (sizeOf t) 0 (b .0));
+      few = ltb-false maxIntervals (sizeOf t) (d .1);
+      imaged = sym (eqb-true (sizeOf t) _ (not-false _ (c .0)));
+      held = sym (eqb-true (sizeOf t) _ (not-false _ (d .0)));
     }
 
 pub fitting : (n : ℕ) (t : Tables) → 0 < n → 0 < sizeOf t
@@ -66,11 +59,9 @@ module _ (n : ℕ) (t : Tables) (x i : ℕ) where
   pub inside-is : outside n t x i ≡ false → (i < n) × (startOf (t .list) x ≤ i) × (i < endOf n (t .list) x)
   unfolding outside
   inside-is e =
-      let o = or-right (leb n i) _ e in (
-        leb-false n i (or-left (leb n i) _ e),
-        ltb-false i _ (or-left (ltb i (startOf (t .list) x)) _ o),
-        leb-false _ i (or-right (ltb i (startOf (t .list) x)) _ o),
-      )
+      let a = or-false (leb n i) _ e in
+      let b = or-false (ltb i (startOf (t .list) x)) _ (a .1) in
+      (leb-false n i (a .0), ltb-false i _ (b .0), leb-false _ i (b .1))
 
   -- 12 for a move
   pub broken-unheld : unheld t x ≡ true → broken n t x i ≡ true
@@ -87,7 +78,7 @@ module _ (n : ℕ) (t : Tables) (x i : ℕ) where
 
   pub whole-is : broken n t x i ≡ false → (unheld t x ≡ false) × (carry (t .list) x i < n)
   unfolding broken
-  whole-is e = (or-left (unheld t x) _ e, leb-false _ _ (or-right (unheld t x) _ e))
+  whole-is e = let a = or-false (unheld t x) _ e in (a .0, leb-false _ _ (a .1))
 
 -- the holder's part of 12
 module _ (t : Tables) (x : ℕ) where
@@ -102,8 +93,8 @@ module _ (t : Tables) (x : ℕ) where
   pub held-is : unheld t x ≡ false → (holderOf t x < sizeOf t) × (startOf (t .list) (holderOf t x) ≤ imageOf (t .list) x)
   unfolding unheld
   held-is e =
-      let b = leb (sizeOf t) (holderOf t x) in
-      (leb-false _ _ (or-left b _ e), ltb-false _ _ (or-right b _ e))
+      let a = or-false (leb (sizeOf t) (holderOf t x)) _ e in
+      (leb-false _ _ (a .0), ltb-false _ _ (a .1))
 
   pub held : holderOf t x < sizeOf t → startOf (t .list) (holderOf t x) ≤ imageOf (t .list) x → unheld t x ≡ false
   unfolding unheld

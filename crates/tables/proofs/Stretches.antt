@@ -8,6 +8,7 @@ use native.Mathlib.Omega.{arith}
 use lib.ListN.{take, drop}
 use lib.Dec.{ltb, leb, eqb, leb·suc-suc}
 use borrow.Author.Tests.{lt-ltb, le-ltb, le-leb, lt-leb, leb-false, eq-eqb, ne-eqb}
+use Rattle.order.proofs.Laws.{or-false}
 use Rattle.runs.specs.Outcome.{done, refused, test, judge, _then_else_}
 use Rattle.runs.specs.Search.{leading}
 use Rattle.runs.specs.Runs.{startOf, imageOf, endOf, imageEnd}
@@ -16,7 +17,7 @@ use Rattle.tables.specs.Tables.{Tables, sizeOf, holderOf, misshapen, unh
 use Rattle.tables.specs.Under.{unplaced, underFirst, underCount, weightOf, stretch, startsUnderOf}
 use Rattle.tables.specs.Passed.{Shaped, Indexed, Entered, stretchOf}
 use Rattle.tables.proofs.Leading.{leading-within}
-use Rattle.tables.proofs.Passing.{or-left, shaped, held-is}
+use Rattle.tables.proofs.Passing.{shaped, held-is}
 
 module _ (t : Tables) (x : ℕ) where
   -- the two ways to begin
@@ -105,7 +106,7 @@ module _ (n : ℕ) (t : Tables) (x : ℕ) where
 
     pub weight-held : holderOf t x < sizeOf t
     unfolding unplaced
-    weight-held = held-is t x (or-left (unheld t x) _ (passes .1)) .0
+    weight-held = held-is t x (or-false (unheld t x) _ (passes .1) .0) .0
 
     pub weight-entered : Entered t x
     weight-entered =
@@ -115,7 +116,7 @@ module _ (n : ℕ) (t : Tables) (x : ℕ) where
     pub stretch-within : (f : ℕ) → f ≡ underFirst t x → f + w ≤ sizeOf t
     unfolding underCount unplaced
     stretch-within f p =
-        let h = first-within t x (underFirst t x) refl (or-left (unheld t x) _ (passes .1)) in
+        let h = first-within t x (underFirst t x) refl (or-false (unheld t x) _ (passes .1) .0) in
         let l = leading-within (λ s. ltb s (imageEnd n (t .list) x)) (t .list .starts) (underFirst t x) h in
         omega (arith, p, passes .2)
 
