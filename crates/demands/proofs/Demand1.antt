@@ -16,7 +16,7 @@ use Rattle.runs.specs.declared.Checked.{Checked}
 use Rattle.runs.proofs.Judging.{done-refused}
 use Rattle.tables.specs.Tables.{sizeOf}
 use Rattle.tables.proofs.Moves.{moves-order}
-use Rattle.tables.proofs.Marks.{bookmark-kept}
+use Rattle.bookmarks.proofs.Marks.{bookmark-kept}
 use Rattle.balance.specs.Lent.{Lent, balancedSays, balanceOf, Balances}
 use Rattle.balance.specs.declared.Balanced.{Balanced}
 use Rattle.listfile.specs.File.{countTests, layoutTests, headerTests, bodyTests, fileTests}

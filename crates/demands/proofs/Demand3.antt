@@ -16,7 +16,7 @@ use Rattle.runs.proofs.Accepted.{accepted-legal}
 use Rattle.runs.proofs.Legality.{homes, home, run-at}
 use Rattle.tables.specs.Tables.{Tables, tablesOf}
 use Rattle.tables.specs.Under.{weight}
-use Rattle.tables.specs.Bookmark.{fresh, Marking, markingsOf}
+use Rattle.bookmarks.specs.Bookmark.{fresh, Marking, markingsOf}
 use Rattle.tables.proofs.Walks.{above-to, walk-bound}
 use Rattle.tables.proofs.LegalTables.{legal-find-beyond}
 use Rattle.tables.specs.Move.{findOf}

@@ -14,10 +14,10 @@ use Rattle.runs.specs.Runs.{Runs, runAt, mapOf}
 use Rattle.runs.proofs.Judging.{judge-done, judge-on}
 use Rattle.tables.specs.Tables.{Tables}
 use Rattle.tables.specs.Move.{moveTests, stepOf, moveOf}
-use Rattle.tables.specs.Bookmark.{spent, bookmarkOf, markAfter, Marking, marking, markedSays, markingOf, markingsOf}
-use Rattle.tables.specs.declared.Bookmark.{Bookmark}
-use Rattle.tables.specs.declared.Marked.{Marked}
-use Rattle.tables.proofs.Markings.{advances-marking}
+use Rattle.bookmarks.specs.Bookmark.{spent, bookmarkOf, markAfter, Marking, marking, markedSays, markingOf, markingsOf}
+use Rattle.bookmarks.specs.declared.Bookmark.{Bookmark}
+use Rattle.bookmarks.specs.declared.Marked.{Marked}
+use Rattle.bookmarks.proofs.Markings.{advances-marking}
 use Rattle.tables.specs.declared.Step.{Step}
 use Rattle.demands.specs.PlainWalk.{plainMove, plainTrail, standing}
 use Rattle.demands.specs.Served.{servedTrail, Advancing}

@@ -10,7 +10,8 @@ use Rattle.runs.proofs.Bijection.{map-below, map-injective, map-onto}
 use Rattle.tables.specs.Tables.{tablesOf, maxIntervals}
 use Rattle.tables.specs.Function.{stepFrom, passedIn, stepsFrom}
 use Rattle.tables.specs.declared.Step.{Step}
-use Rattle.tables.proofs.LegalTables.{legal-find, legal-move, legal-moves, legal-bookmark-on, legal-inverse}
+use Rattle.tables.proofs.LegalTables.{legal-find, legal-move, legal-moves, legal-inverse}
+use Rattle.bookmarks.proofs.LegalMarks.{legal-bookmark-on}
 use Rattle.demands.specs.PlainWalk.{plainMove, plainMoves}
 use Rattle.demands.specs.Demands.{Through}
 

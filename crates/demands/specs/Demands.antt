@@ -18,10 +18,10 @@ use Rattle.tables.specs.Tables.{Tables, tablesOf}
 use Rattle.tables.specs.Move.{movedSays, findTests, locateTests, moveTests, findOf, moveOf, movesOf}
 use Rattle.tables.specs.Inverse.{inverseTests, inverseOf}
 use Rattle.tables.specs.Under.{underTests}
-use Rattle.tables.specs.Bookmark.{bookmarkTests, bookmarkOf, fresh, Advances, markedSays, markingsOf}
-use Rattle.tables.specs.declared.Bookmark.{Bookmark}
+use Rattle.bookmarks.specs.Bookmark.{bookmarkTests, bookmarkOf, fresh, Advances, markedSays, markingsOf}
+use Rattle.bookmarks.specs.declared.Bookmark.{Bookmark}
 use Rattle.tables.specs.declared.Moved.{Moved}
-use Rattle.tables.specs.declared.Marked.{Marked}
+use Rattle.bookmarks.specs.declared.Marked.{Marked}
 use Rattle.balance.specs.Balance.{balanced, boundOf}
 use Rattle.balance.specs.Lent.{Lent, firstOf, balancedSays, balanceTests, Balances}
 use Rattle.balance.specs.declared.Balanced.{Balanced}

@@ -5,10 +5,10 @@ use mathlib.Core.List.{List, [], _∷_, _++_}
 use lib.Dec.{ltb, leb}
 use Rattle.runs.specs.Outcome.{Outcome, done, refused, test, judge, _then_else_}
 use Rattle.runs.specs.Runs.{Runs, runAt, mapOf}
-use Rattle.tables.specs.Bookmark.{Marking, marking}
+use Rattle.bookmarks.specs.Bookmark.{Marking, marking}
 use Rattle.tables.specs.Function.{passedFrom}
 use Rattle.tables.specs.declared.Step.{Step}
-use Rattle.tables.specs.declared.Bookmark.{Bookmark}
+use Rattle.bookmarks.specs.declared.Bookmark.{Bookmark}
 use Rattle.demands.specs.Calls.{Call, find, move, moves, Reply, found, moved}
 
 -- r is the accepted run list, t the balanced list T. The walk stands at p; "x is always T's interval that has p".

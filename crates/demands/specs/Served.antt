@@ -4,10 +4,10 @@ use mathlib.Core.List.{List, [], _∷_}
 use Rattle.runs.specs.Outcome.{Outcome, done, refused}
 use Rattle.tables.specs.Tables.{Tables}
 use Rattle.tables.specs.Move.{findOf, moveOf, movesOf}
-use Rattle.tables.specs.Bookmark.{Advances, Marking, markingOf}
+use Rattle.bookmarks.specs.Bookmark.{Advances, Marking, markingOf}
 use Rattle.tables.specs.declared.Step.{Step}
-use Rattle.tables.specs.declared.Bookmark.{Bookmark}
-use Rattle.tables.specs.declared.Marked.{Marked}
+use Rattle.bookmarks.specs.declared.Bookmark.{Bookmark}
+use Rattle.bookmarks.specs.declared.Marked.{Marked}
 use Rattle.demands.specs.Calls.{Call, find, move, moves, Reply, found, moved}
 
 -- What a call leaves to the next: the place and the interval that it gave, "a find's place with the interval found, or

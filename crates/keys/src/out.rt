@@ -1,11 +1,11 @@
 // Lines of a name and numbers on standard output.
 use balance::Balanced;
+use bookmarks::Marked;
 use listfile::FileChecked;
 use runs::Checked;
 use runs::Refusal;
 use tables::Found;
 use tables::Inverted;
-use tables::Marked;
 use tables::Moved;
 use tables::Weighed;
 

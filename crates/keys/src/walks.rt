@@ -1,6 +1,6 @@
 // Walks through the document's tables, and through tables with other numbers in them.
 use super::out;
-use tables::Bookmark;
+use bookmarks::Bookmark;
 
 // 9 and 11.
 pub(crate) fn finds() {
@@ -78,7 +78,7 @@ pub(crate) fn bookmarks() {
     let s = [0, 2, 4, 6, 8, 12];
     let i = [14, 12, 10, 8, 0, 4];
     let h = [5, 5, 4, 6, 0, 2];
-    out::marked(tables::advanced(
+    out::marked(bookmarks::advanced(
         16,
         &s,
         &i,
@@ -90,7 +90,7 @@ pub(crate) fn bookmarks() {
             passed: 2,
         },
     ));
-    out::marked(tables::advanced(
+    out::marked(bookmarks::advanced(
         0,
         &s,
         &i,
@@ -102,7 +102,7 @@ pub(crate) fn bookmarks() {
             passed: 2,
         },
     ));
-    out::marked(tables::advanced(
+    out::marked(bookmarks::advanced(
         16,
         &s,
         &i,
@@ -114,7 +114,7 @@ pub(crate) fn bookmarks() {
             passed: 2,
         },
     ));
-    out::marked(tables::advanced(
+    out::marked(bookmarks::advanced(
         16,
         &s,
         &i,
@@ -126,7 +126,7 @@ pub(crate) fn bookmarks() {
             passed: 2,
         },
     ));
-    out::marked(tables::advanced(
+    out::marked(bookmarks::advanced(
         16,
         &s,
         &i,
@@ -138,7 +138,7 @@ pub(crate) fn bookmarks() {
             passed: 2,
         },
     ));
-    out::marked(tables::advanced(
+    out::marked(bookmarks::advanced(
         16,
         &s,
         &i,
@@ -150,7 +150,7 @@ pub(crate) fn bookmarks() {
             passed: 2,
         },
     ));
-    out::marked(tables::advanced(
+    out::marked(bookmarks::advanced(
         16,
         &s,
         &i,
@@ -170,6 +170,6 @@ pub(crate) fn marks() {
     let i = [14, 12, 10, 8, 0, 4];
     let h = [5, 5, 4, 4, 0, 2];
     let broken = [5, 5, 4, 6, 0, 2];
-    out::marked(tables::bookmark_moves(16, &s, &i, &h, 0, 0, 4));
-    out::marked(tables::bookmark_moves(16, &s, &i, &broken, 0, 0, 4));
+    out::marked(bookmarks::bookmark_moves(16, &s, &i, &h, 0, 0, 4));
+    out::marked(bookmarks::bookmark_moves(16, &s, &i, &broken, 0, 0, 4));
 }

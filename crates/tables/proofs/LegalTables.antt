@@ -1,7 +1,7 @@
 -- Through the tables of a legal list, balanced or not, the walks give the list's function, its powers and its inverse,
 -- and the starts under an image are those of the definition; no call on a place below n is refused. A holder is the
 -- index of the run that has the image, so a walk from it passes the starts up to the place reached (Walks).
-use Prim.Native.Nat.{ℕ, zero, suc, _+_, _^_, _≤_, _<_}
+use Prim.Native.Nat.{ℕ, zero, suc, _+_, _≤_, _<_}
 use mathlib.Core.Path.{_≡_, refl, sym, ap, _∙_}
 use mathlib.Core.Bool.{true, false}
 use mathlib.Core.List.{map}
@@ -22,15 +22,12 @@ use Rattle.tables.specs.Tables.{tablesOf, holderOf, unheld, maxIntervals
 use Rattle.tables.specs.Move.{passed, findOf, moveOf, movesOf, onwards}
 use Rattle.tables.specs.Inverse.{carryBack, sends, sourceOf, inverseOf}
 use Rattle.tables.specs.Under.{under, weight, underFirst, underCount, weightOf, stretch, startsUnderOf}
-use Rattle.tables.specs.Bookmark.{bookmarkOf}
 use Rattle.tables.specs.Function.{passedFrom, stepFrom, passedIn, stepsFrom}
-use Rattle.tables.specs.Passed.{Shaped, Located, advanceOf, markOf, stretchOf}
-use Rattle.tables.specs.declared.Bookmark.{Bookmark}
+use Rattle.tables.specs.Passed.{Shaped, Located, advanceOf, stretchOf}
 use Rattle.tables.proofs.Passing.{fitting, shaped, held, whole}
 use Rattle.tables.proofs.Steps.{find-far, find-at, locate-in, move-located, advance-to}
 use Rattle.tables.proofs.Sources.{sends-is, inverse-from}
 use Rattle.tables.proofs.Stretches.{placed, weight-indexed}
-use Rattle.tables.proofs.Marks.{unspent, mark-on, bookmark-on}
 use Rattle.tables.proofs.Walks.{walk-passed, walk-count, above-to, map-in, under-first, under-count, under-is}
 
 module _ (n : ℕ) (r : Runs) (c : Legal n r) (few : countOf r ≤ maxIntervals) where
@@ -112,21 +109,6 @@ module _ (n : ℕ) (r : Runs) (c : Legal n r) (few : countOf r ≤ maxIntervals)
   unfolding movesOf onwards andThen mapDone powerOf passedIn
   legal-moves zero p h = sym (locate-in n (tablesOf n r) (runAt n r p) p (legal-located p h))
   legal-moves (suc m) p h = rw (legal-moves m p h, legal-move (powerOf n r m p) (power-below m p h))
-
-  -- a bookmark that stands in the run that has its place makes that move, but for 13
-  pub legal-bookmark : (b : Bookmark) → b .place < n → b .interval ≡ runAt n r (b .place)
-      → bookmarkOf n (tablesOf n r) b ≡ markOf b (stepFrom n r (b .place))
-  legal-bookmark b h e =
-      let s = stepFrom n r (b .place) in
-      let m : moveOf n (tablesOf n r) (b .interval) (b .place) ≡ done s = rw e (legal-move (b .place) h) in
-      sym (bookmark-on n (tablesOf n r) b s (sym m))
-
-  pub legal-bookmark-on : (b : Bookmark) → b .place < n → b .interval ≡ runAt n r (b .place)
-      → b .moves + 1 < 2 ^ 32 → b .passed + stepFrom n r (b .place) .count < 2 ^ 64
-      → bookmarkOf n (tablesOf n r) b ≡ done (stepFrom n r (b .place))
-  legal-bookmark-on b h e l m =
-      let s = stepFrom n r (b .place) in
-      legal-bookmark b h e ∙ sym (mark-on b s _ refl (unspent b s l m))
 
   -- inverse gives the place that comes to j, and the run that has it
   sends-own : (p : ℕ) → p < n → sends n r (mapOf n r p) (runAt n r p) ≡ true

@@ -5,7 +5,5 @@ mod Steps
 pub mod Moves
 mod Sources
 mod Stretches
-pub mod Marks
-pub mod Markings
 pub mod Walks
 pub mod LegalTables

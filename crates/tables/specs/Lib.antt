@@ -3,6 +3,5 @@ pub mod Tables
 pub mod Move
 pub mod Inverse
 pub mod Under
-pub mod Bookmark
 pub mod Function
 pub mod Passed

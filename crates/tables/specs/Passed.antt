@@ -1,18 +1,15 @@
 -- What is known once tests have passed, and what is left of a call then: the private functions' contracts cite these.
 use Prim.Native.Nat.{ℕ, _≤_, _<_}
 use mathlib.Core.Path.{_≡_}
-use mathlib.Core.Bool.{Bool, true, false}
+use mathlib.Core.Bool.{false}
 use mathlib.Core.List.{[], _∷_}
 use lib.ListN.{length}
-use Rattle.runs.specs.Outcome.{Outcome, done, refused, test, judge}
+use Rattle.runs.specs.Outcome.{Outcome, test, judge}
 use Rattle.runs.specs.Runs.{startOf, endOf}
 use Rattle.tables.specs.Tables.{Tables, sizeOf, maxIntervals, misshapen, brokenTest}
-use Rattle.tables.specs.Move.{movedSays, stepOf}
+use Rattle.tables.specs.Move.{stepOf}
 use Rattle.tables.specs.Under.{unplaced, underCount}
-use Rattle.tables.specs.Bookmark.{spent, markAfter}
 use Rattle.tables.specs.declared.Step.{Step}
-use Rattle.tables.specs.declared.Bookmark.{Bookmark}
-use Rattle.tables.specs.declared.Marked.{Marked}
 
 -- after 9
 pub record Shaped (n : ℕ) (t : Tables) : Type 0 where
@@ -49,16 +46,3 @@ pub record Located (n : ℕ) (t : Tables) (x i : ℕ) : Type 0 where
 -- what is left of a move then: 12 and the step
 unfoldable pub advanceOf : ℕ → Tables → ℕ → ℕ → Outcome Step
 advanceOf n t x i = judge (brokenTest n t x i ∷ []) (stepOf t x i)
-
--- what is left of a bookmark's move after 12: 13, the answer and the bookmark
-unfoldable pub markOf : Bookmark → Step → Outcome Step
-markOf b s = judge (test 13 (spent b s) 0 ∷ []) s
-
-pub record Marks (b : Bookmark) (s : Step) (m : Marked) : Type 0 where
-  pub says : movedSays (m .moved) ≡ markOf b s
-  pub mark : m .bookmark ≡ markAfter b (markOf b s)
-
--- whether a call is refused
-abbrev pub isRefused : {A : Type 0} → Outcome A → Bool
-isRefused (done a) = false
-isRefused (refused k p) = true

@@ -3,14 +3,12 @@
 // Each operation's contract is one equation with its definition in specs/, for every input. On the tables of a legal
 // list these are the list's function, its powers and its inverse (proofs/LegalTables).
 mod checks;
-mod marking;
 mod preimage;
 mod under;
 mod walk;
 
 ghost use mathlib.Core.Path.{_≡_};
 ghost use Rattle.tables.specs.Tables.{tables};
-ghost use Rattle.tables.specs.Bookmark.{fresh, Advances, markedSays, markingsOf};
 ghost use Rattle.tables.specs.Inverse.{invertedSays, inverseOf};
 ghost use Rattle.tables.specs.Move.{foundSays, movedSays, findOf, moveOf, movesOf};
 ghost use Rattle.tables.specs.Under.{weighedSays, weightOf, startsUnderOf};
@@ -26,14 +24,6 @@ pub struct Step {
 pub struct Source {
     pub place: u32,
     pub interval: u32,
-}
-
-// A walk that its owner keeps: where it stands, the moves made and the starts passed.
-pub struct Bookmark {
-    pub place: u32,
-    pub interval: u32,
-    pub moves: u32,
-    pub passed: u64,
 }
 
 pub enum Found {
@@ -54,12 +44,6 @@ pub enum Inverted {
 pub enum Weighed {
     Weight(u32),
     Refused(runs::Refusal),
-}
-
-// What a bookmark's move answers, and the bookmark after it.
-pub struct Marked {
-    pub bookmark: Bookmark,
-    pub moved: Moved,
 }
 
 // The interval that a walk from the first one reaches for place i.
@@ -156,60 +140,4 @@ pub fn starts_under<'a>(
             &starts[from..from + w as usize]
         }
     }
-}
-
-// A bookmark's move: its answer and the bookmark after it, which a refusal leaves as it was.
-pub fn advanced(n: u32, starts: &[u32], images: &[u32], holders: &[u32], b: Bookmark) -> Marked
-    ensures { λ r. ⌜ Advances n (tables (now (starts .entry)) (now (images .entry)) (now (holders .entry))) b (r .moved) (r .bookmark) ⌝ }
-{
-    match move_query(n, starts, images, holders, b.interval, b.place) {
-        Moved::Refused(r) => Marked {
-            bookmark: b,
-            moved: Moved::Refused(r),
-        },
-        Moved::To(s) => marking::mark(b, s),
-    }
-}
-
-// A bookmark's move on the spot: the bookmark is lent by its owner, and a refusal leaves it as it was.
-pub fn advance(n: u32, starts: &[u32], images: &[u32], holders: &[u32], b: &mut Bookmark) -> Moved
-    ensures { λ r. ⌜ Advances n (tables (now (starts .entry)) (now (images .entry)) (now (holders .entry))) (now (b .entry)) r (now (b .exit)) ⌝ }
-{
-    let m = advanced(n, starts, images, holders, *b);
-    *b = m.bookmark;
-    m.moved
-}
-
-// m moves of a bookmark that is fresh at place i of interval x: the last answer, and the bookmark then. A refused move
-// leaves the bookmark, so all later ones would be refused alike: the first refusal is the last answer.
-pub fn bookmark_moves(
-    n: u32,
-    starts: &[u32],
-    images: &[u32],
-    holders: &[u32],
-    x: u32,
-    i: u32,
-    m: u32,
-) -> Marked
-    ensures { λ r. ⌜ markedSays r ≡ markingsOf n (tables (now (starts .entry)) (now (images .entry)) (now (holders .entry))) m (fresh i x) ⌝ }
-{
-    let mut marked = Marked {
-        bookmark: Bookmark {
-            place: i,
-            interval: x,
-            moves: 0,
-            passed: 0,
-        },
-        moved: checks::locate(n, starts, images, holders, x, i),
-    };
-    let mut made: u32 = 0;
-    while made < m {
-        marked = marking::advance_once(n, starts, images, holders, marked.bookmark);
-        let moved = marked.moved;
-        if marking::is_refused(moved) {
-            return marked;
-        }
-        made += 1;
-    }
-    marked
 }

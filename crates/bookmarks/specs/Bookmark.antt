@@ -5,12 +5,12 @@ use mathlib.Core.Bool.{Bool, _||_}
 use mathlib.Core.List.{List, [], _∷_, _++_}
 use lib.Dec.{leb}
 use Rattle.runs.specs.Outcome.{Outcome, done, refused, Test, test, judge}
 use Rattle.tables.specs.Tables.{Tables}
 use Rattle.tables.specs.Move.{movedSays, stepOf, moveTests, movesOf}
 use Rattle.tables.specs.declared.Step.{Step}
-use Rattle.tables.specs.declared.Bookmark.{Bookmark}
+use Rattle.bookmarks.specs.declared.Bookmark.{Bookmark}
 use Rattle.tables.specs.declared.Moved.{Moved}
-use Rattle.tables.specs.declared.Marked.{Marked}
+use Rattle.bookmarks.specs.declared.Marked.{Marked}
 
 -- "A fresh one has both counters 0."
 abbrev pub fresh : ℕ → ℕ → Bookmark

@@ -1,14 +1,14 @@
 // A bookmark after a step, and lent for one move.
 use super::Bookmark;
 use super::Marked;
-use super::Moved;
-use super::Step;
 use runs::Refusal;
+use tables::Moved;
+use tables::Step;
 ghost use mathlib.Core.Path.{_≡_};
 ghost use Rattle.tables.specs.Tables.{tables};
-ghost use Rattle.tables.specs.Bookmark.{spent, Advances};
+ghost use Rattle.bookmarks.specs.Bookmark.{spent, Advances};
 ghost use Rattle.tables.specs.Move.{movedSays};
-ghost use Rattle.tables.specs.Passed.{Marks, isRefused};
+ghost use Rattle.bookmarks.specs.Passed.{Marks, isRefused};
 
 // Test 13: whether a counter would pass its width.
 fn is_spent(b: Bookmark, s: Step) -> bool

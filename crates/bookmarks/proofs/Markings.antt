@@ -8,13 +8,13 @@ use native.Mathlib.Numerals.{add-one}
 use native.Mathlib.Omega.{arith}
 use Rattle.order.proofs.Laws.{lt-or-le}
 use Rattle.runs.specs.Outcome.{Outcome, done, refused}
 use Rattle.tables.specs.Tables.{Tables}
 use Rattle.tables.specs.Move.{movedSays, movesOf}
-use Rattle.tables.specs.Bookmark.{bookmarkOf, markAfter, Advances, Marking, marking, markingOf, markingsOf}
-use Rattle.tables.specs.Passed.{isRefused}
+use Rattle.bookmarks.specs.Bookmark.{bookmarkOf, markAfter, Advances, Marking, marking, markingOf, markingsOf}
+use Rattle.bookmarks.specs.Passed.{isRefused}
 use Rattle.tables.specs.declared.Step.{Step}
-use Rattle.tables.specs.declared.Bookmark.{Bookmark}
+use Rattle.bookmarks.specs.declared.Bookmark.{Bookmark}
 use Rattle.tables.specs.declared.Moved.{Moved}
 
 -- what is promised of a move is one equation
 pub advances-marking : (n : ℕ) (t : Tables) (b : Bookmark) (m : Moved) (left : Bookmark) → Advances n t b m left

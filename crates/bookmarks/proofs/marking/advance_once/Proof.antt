@@ -47,25 +47,25 @@ use denote.Triple.Spec.{Meets, tripleOf}
 use denote.Triple.Table.{entered, cited}
 use denote.Triple.Walked.{says, Stays, stay-dropped, walkOf, AllGo, goes-dropped, Walks, ends-at, walked, walk-meets}
 use denote.Exit.{yes}
 use Rattle.tables.specs.Tables.{tables as tablesIn}
-use Rattle.tables.specs.Bookmark.{Advances}
-use Rattle.tables.specs.declared.Bookmark.{Bookmark}
+use Rattle.bookmarks.specs.Bookmark.{Advances}
+use Rattle.bookmarks.specs.declared.Bookmark.{Bookmark}
 use Rattle.tables.specs.declared.Moved.{Moved}
-use Rattle.tables.specs.declared.Marked.{Marked}
-use Rattle.tables.proofs.Bookmark as T
-use Rattle.tables.proofs.Bookmark.Laws as T′
+use Rattle.bookmarks.specs.declared.Marked.{Marked}
+use Rattle.bookmarks.proofs.Bookmark as T
+use Rattle.bookmarks.proofs.Bookmark.Laws as T′
 use Rattle.tables.proofs.Moved as S
 use Rattle.tables.proofs.Moved.Laws as S′
-use Rattle.tables.proofs.Marked as N
-use Rattle.tables.proofs.Marked.Laws as N′
-use Rattle.tables.proofs.advance as adv
-use Rattle.tables.proofs.advance.Symbol as adv-def
-use Rattle.tables.proofs.advance.Symbol.{name as #tables·advance}
-use Rattle.tables.proofs.advance.Met as adv-thm
-use Rattle.tables.proofs.marking.advance_once.Key.{name as #tables·advance-once}
-use Rattle.tables.proofs.marking.advance_once as once
-use Rattle.tables.proofs.marking.advance_once.Statement as stated
-use Rattle.tables.proofs.marking.advance_once.Code as code
+use Rattle.bookmarks.proofs.Marked as N
+use Rattle.bookmarks.proofs.Marked.Laws as N′
+use Rattle.bookmarks.proofs.advance as adv
+use Rattle.bookmarks.proofs.advance.Symbol as adv-def
+use Rattle.bookmarks.proofs.advance.Symbol.{name as #bookmarks·advance}
+use Rattle.bookmarks.proofs.advance.Met as adv-thm
+use Rattle.bookmarks.proofs.marking.advance_once.Key.{name as #bookmarks·advance-once}
+use Rattle.bookmarks.proofs.marking.advance_once as once
+use Rattle.bookmarks.proofs.marking.advance_once.Statement as stated
+use Rattle.bookmarks.proofs.marking.advance_once.Code as code
 
 abbrev Xs : Type 0
 Xs = RefT (List ℕ)
@@ -245,7 +245,7 @@ module _ {M : Type 1} (𝓤 : URA M) (H : Heap 𝓤) (A : Atoms 𝓤) (W : Given
       move ! (1 ∷ 0 ∷ []) $ done !
 
   module _ (C : Calls 𝓤 H) (Λ : Loops 𝓤 H) (fm : FmC 𝓤 H (W .laws) C)
-      (known : Triple 𝓤 (C #tables·advance) (Adv 𝓤 H A at-mem run)) where
+      (known : Triple 𝓤 (C #bookmarks·advance) (Adv 𝓤 H A at-mem run)) where
     walk : Is (ShrSlice (named 0) κ₁ u32) s₁ (v s₁ ∷ []) → Is (ShrSlice (named 1) κ₂ u32) s₂ (v s₂ ∷ [])
         → Is (ShrSlice (named 2) κ₃ u32) s₃ (v s₃ ∷ []) → Is T.the-row h (T′.lowered h ∷ [])
         → ent 𝓤 (onEntry 𝓤 H A once.signature κs qs x at)
@@ -327,7 +327,7 @@ module _ {M : Type 1} (𝓤 : URA M) (H : Heap 𝓤) (A : Atoms 𝓤) (W : Given
 module _ {M : Type 1} (𝓤 : URA M) (H : Heap 𝓤) (A : Atoms 𝓤) (W : Given 𝓤 H A) (mem : Memory → SProp 𝓤)
     (run : Routine → Fun 𝓤) where
   once-walks : (C : Calls 𝓤 H) (Λ : Loops 𝓤 H) → FmC 𝓤 H (W .laws) C
-      → Triple 𝓤 (C #tables·advance) (Adv 𝓤 H A mem run)
+      → Triple 𝓤 (C #bookmarks·advance) (Adv 𝓤 H A mem run)
       → Walks 𝓤 H A once.ended stayed (WpFn 𝓤 H C Λ code.function) (once.clauses 𝓤 H A mem run)
   once-walks C Λ fm known =
       walked 𝓤 H A once.ended stayed (once.clauses 𝓤 H A mem run) (WpFn 𝓤 H C Λ code.function)
@@ -363,7 +363,7 @@ module _ {M : Type 1} (𝓤 : URA M) (H : Heap 𝓤) (A : Atoms 𝓤) (W : Given
 
 once-meets : {M : Type 1} (𝓤 : URA M) (H : Heap 𝓤) (A : Atoms 𝓤) → Given 𝓤 H A
     → (mem : Memory → SProp 𝓤) (run : Routine → Fun 𝓤) (𝓣 : Tables 𝓤 H)
-    → Triple 𝓤 (𝓣 .C #tables·advance) (Adv 𝓤 H A mem run)
+    → Triple 𝓤 (𝓣 .C #bookmarks·advance) (Adv 𝓤 H A mem run)
     → Meets 𝓤 H A once.signature (WpFn 𝓤 H (𝓣 .C) (𝓣 .Λ) code.function) (once.spec 𝓤 H A mem run)
 once-meets 𝓤 H A W mem run 𝓣 known =
     walk-meets 𝓤 H A once.ended stayed W (goes 𝓤 H A W mem run) (once.clauses 𝓤 H A mem run)
@@ -374,7 +374,7 @@ pub advance-once-spec : {M : Type 1} → stated.statement M
 unfolding code.routine tablesOf
 advance-once-spec 𝓤 H 𝓜 𝓖 𝓡 =
     entered 𝓤 H (tripleOf 𝓤 H (𝓖 .A) once.signature (once.spec 𝓤 H (𝓖 .A) (𝓜 .mem) (𝓡 .run)))
-    (tables 𝓤 H 𝓜 𝓡 code.env .C) (tables 𝓤 H 𝓜 𝓡 code.env .Λ) #tables·advance-once code.function (code.unfolded 𝓤 H 𝓜 𝓡)
+    (tables 𝓤 H 𝓜 𝓡 code.env .C) (tables 𝓤 H 𝓜 𝓡 code.env .Λ) #bookmarks·advance-once code.function (code.unfolded 𝓤 H 𝓜 𝓡)
     (once-meets 𝓤 H (𝓖 .A) (givenOf 𝓤 H 𝓜 𝓖) (𝓜 .mem) (𝓡 .run) (tablesOf 𝓤 H 𝓜 (tables 𝓤 H 𝓜 𝓡 code.env))
-    (cited 𝓤 H (Adv 𝓤 H (𝓖 .A) (𝓜 .mem) (𝓡 .run)) 𝓜 𝓡 code.env #tables·advance adv-def.routine
-    code.calls-tables·advance (adv-thm.met 𝓤 H 𝓜 𝓖 𝓡)))
+    (cited 𝓤 H (Adv 𝓤 H (𝓖 .A) (𝓜 .mem) (𝓡 .run)) 𝓜 𝓡 code.env #bookmarks·advance adv-def.routine
+    code.calls-bookmarks·advance (adv-thm.met 𝓤 H 𝓜 𝓖 𝓡)))

@@ -6,17 +6,16 @@ use mathlib.Core.Logic.{_⊎_, inl, inr}
 use native.Mathlib.Omega.{arith}
 use lib.Dec.{leb, ltb}
 use borrow.Author.Tests.{lt-ltb, le-ltb, le-leb, lt-leb, leb-false}
-use Rattle.order.proofs.Laws.{lt-or-le}
+use Rattle.order.proofs.Laws.{lt-or-le, or-false}
 use Rattle.runs.specs.Outcome.{Outcome, done, refused, judge, andThen}
 use Rattle.runs.proofs.Judging.{judge-append, judge-done}
 use Rattle.tables.specs.Tables.{Tables}
 use Rattle.tables.specs.Move.{movedSays, stepOf, moveOf, moveTests}
-use Rattle.tables.specs.Bookmark.{spent, bookmarkOf, markAfter, Advances}
-use Rattle.tables.specs.Passed.{markOf}
+use Rattle.bookmarks.specs.Bookmark.{spent, bookmarkOf, markAfter, Advances}
+use Rattle.bookmarks.specs.Passed.{markOf}
 use Rattle.tables.specs.declared.Step.{Step}
-use Rattle.tables.specs.declared.Bookmark.{Bookmark}
+use Rattle.bookmarks.specs.declared.Bookmark.{Bookmark}
 use Rattle.tables.specs.declared.Moved.{Moved}
-use Rattle.tables.proofs.Passing.{or-left, or-right}
 
 -- 13
 module _ (b : Bookmark) (s : Step) where
@@ -44,10 +43,8 @@ module _ (b : Bookmark) (s : Step) where
     pub room : t ≡ false → (b .moves + 1 < 4294967296) × (b .passed + s .count < 18446744073709551616)
     unfolding spent
     room f =
-        let g = sym e ∙ f in
-        let l = or-left (leb 4294967296 (b .moves + 1)) _ g in
-        let m = or-right (leb 4294967296 (b .moves + 1)) _ g in
-        (leb-false 4294967296 (b .moves + 1) l, leb-false 18446744073709551616 (b .passed + s .count) m)
+        let a = or-false (leb 4294967296 (b .moves + 1)) _ (sym e ∙ f) in
+        (leb-false 4294967296 (b .moves + 1) (a .0), leb-false 18446744073709551616 (b .passed + s .count) (a .1))
 
     pub mark-spent : t ≡ true → refused 13 0 ≡ markOf b s
     unfolding markOf judge

@@ -1,9 +1,9 @@
 -- `mark` meets its contract: by whether a counter would pass its width.
-use Rattle.tables.proofs.Marks.{room, mark-spent, mark-on, after-refused, after-done}
+use Rattle.bookmarks.proofs.Marks.{room, mark-spent, mark-on, after-refused, after-done}
 use native.Mathlib.Omega.{arith}
 use borrow.Author.Needs.{needs}
-use Rattle.tables.proofs.marking.mark.Statement.{statement}
-use Rattle.tables.proofs.marking.mark.Tie as tie
+use Rattle.bookmarks.proofs.marking.mark.Statement.{statement}
+use Rattle.bookmarks.proofs.marking.mark.Tie as tie
 
 is-spent-requires : tie.Need-is-spent-requires
 is-spent-requires c κs = search needs

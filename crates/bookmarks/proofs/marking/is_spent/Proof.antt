@@ -1,9 +1,9 @@
 -- `is_spent` meets its contract: its two tests are those of `spent`.
-use Rattle.tables.proofs.Marks.{spent-moves, spent-passed}
+use Rattle.bookmarks.proofs.Marks.{spent-moves, spent-passed}
 use native.Mathlib.Omega.{arith}
 use borrow.Author.Needs.{needs}
-use Rattle.tables.proofs.marking.is_spent.Statement.{statement}
-use Rattle.tables.proofs.marking.is_spent.Tie as tie
+use Rattle.bookmarks.proofs.marking.is_spent.Statement.{statement}
+use Rattle.bookmarks.proofs.marking.is_spent.Tie as tie
 
 returns : tie.Need-returns
 returns c = spent-moves _ _ (c .if1 .taken)

@@ -1,13 +1,13 @@
 -- `bookmark_moves` meets its contract: the state is what so many moves of the fresh bookmark come to.
-use Rattle.tables.proofs.Markings.{markings-none, markings-more, markings-all, markings-refused}
-use Rattle.tables.specs.Bookmark.{fresh, markedSays, markingsOf}
+use Rattle.bookmarks.proofs.Markings.{markings-none, markings-more, markings-all, markings-refused}
+use Rattle.bookmarks.specs.Bookmark.{fresh, markedSays, markingsOf}
 use Rattle.tables.specs.Tables.{tables}
 use borrow.Author.Needs.{needs}
 use native.Mathlib.Omega.{arith}
 use mathlib.Core.Path.{_≡_, sym, _∙_}
 use Prim.Native.Nat.{_-_, _≤_}
-use Rattle.tables.proofs.bookmark_moves.Statement.{statement}
-use Rattle.tables.proofs.bookmark_moves.Tie as tie
+use Rattle.bookmarks.proofs.bookmark_moves.Statement.{statement}
+use Rattle.bookmarks.proofs.bookmark_moves.Tie as tie
 
 abbrev Inv-loop : tie.InvT-loop
 Inv-loop n starts images holders x i m marked₀ made₀ marked made =
@@ -16,11 +16,11 @@ Inv-loop n starts images holders x i m marked₀ made₀ marked made =
 abbrev μ-loop : tie.MeasureT-loop
 μ-loop n starts images holders x i m marked₀ made₀ marked made = m - made
 
-locate-requires : tie.Need-locate-requires Inv-loop μ-loop
-locate-requires c κs = search needs
+repeated-moves-requires : tie.Need-repeated-moves-requires Inv-loop μ-loop
+repeated-moves-requires c κs = search needs
 
 loop-holds : tie.Need-loop-holds Inv-loop μ-loop
-loop-holds c = (omega arith, markings-none _ _ _ _ (c .locate .ensures))
+loop-holds c = (omega arith, markings-none _ _ _ _ (c .repeated-moves .ensures))
 
 advance-once-requires : tie.Need-advance-once-requires Inv-loop μ-loop
 advance-once-requires c κs = search needs
@@ -56,7 +56,7 @@ bookmark-moves-spec =
     (tie.spec
     Inv-loop
     μ-loop
-    locate-requires
+    repeated-moves-requires
     loop-holds
     advance-once-requires
     is-refused-requires

@@ -1,11 +1,11 @@
 -- `advanced` meets its contract: by whether the move is refused. All of the work is `move_query`'s and `mark`'s.
-use Rattle.tables.proofs.Marks.{after-refused, bookmark-refused, bookmark-on}
-use Rattle.tables.specs.Bookmark.{markAfter}
+use Rattle.bookmarks.proofs.Marks.{after-refused, bookmark-refused, bookmark-on}
+use Rattle.bookmarks.specs.Bookmark.{markAfter}
 use Rattle.tables.specs.Move.{movedSays}
 use mathlib.Core.Path.{sym, ap, _∙_}
 use borrow.Author.Needs.{needs}
-use Rattle.tables.proofs.advanced.Statement.{statement}
-use Rattle.tables.proofs.advanced.Tie as tie
+use Rattle.bookmarks.proofs.advanced.Statement.{statement}
+use Rattle.bookmarks.proofs.advanced.Tie as tie
 
 move-query-requires : tie.Need-move-query-requires
 move-query-requires c κs = search needs
