@@ -11,10 +11,6 @@ ghost use Rattle.runs.specs.Check.{maxRuns};
 ghost use Rattle.balance.specs.Balance.{boundOf};
 ghost use Rattle.balance.specs.Cuts.{Ranked, BalancingCuts};
 
-// A list of so few runs gets smaller tables to work in, as in its check: clearing the others would take a short one
-// longer than its cuts.
-const FEW_RUNS: usize = 1024;
-
 // Cuts pieces until none is heavy, each time the heavy one with the lowest image: the cuts come to stand in
 // `working`, in rising order. Answers how many there are. Before `q` only the piece at `p` may be heavy, and a cut
 // there can make one piece before `q` heavy again: the one under whose image the new start lies. `mark` stands before
@@ -93,7 +89,8 @@ fn cuts_by_image(
     )
 }
 
-// The cuts that balance the list, in rising order in `working`. Answers how many there are.
+// The same, with room of its own: less of it for a short list, as in its check, since clearing it would take longer than
+// the cuts.
 pub(crate) fn balancing_cuts(
     n: u32,
     starts: &[u32],
@@ -106,9 +103,9 @@ pub(crate) fn balancing_cuts(
     ensures { λ r. ⌜ BalancingCuts d n (runs (now (starts .entry)) (now (images .entry)))
         (now (working .entry)) (now (working .exit)) r ⌝ }
 {
-    if starts.len() <= FEW_RUNS {
-        let mut order: [u32; FEW_RUNS] = [0; FEW_RUNS];
-        let mut ranked: [u32; FEW_RUNS] = [0; FEW_RUNS];
+    if starts.len() <= runs::SOME_RUNS {
+        let mut order: [u32; runs::SOME_RUNS] = [0; runs::SOME_RUNS];
+        let mut ranked: [u32; runs::SOME_RUNS] = [0; runs::SOME_RUNS];
         return cuts_by_image(n, starts, images, d, &mut order, &mut ranked, working);
     }
     let mut order: [u32; runs::MAX_RUNS] = [0; runs::MAX_RUNS];

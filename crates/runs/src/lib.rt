@@ -92,8 +92,10 @@ pub enum Checked {
 // The most runs that a list may have.
 pub const MAX_RUNS: usize = 16384;
 
-// A list of so few runs gets smaller tables to work in: clearing the others would take longer than its check.
-const FEW_RUNS: usize = 1024;
+// A list of so few runs gets smaller tables to work in: clearing larger ones would take longer than its check.
+const FEW_RUNS: usize = 64;
+
+pub const SOME_RUNS: usize = 1024;
 
 // Tests 1 to 6. `order` is room for the order of the runs by image, and holds it if the list is accepted; `spare` is
 // room to work in.
@@ -139,6 +141,11 @@ pub fn check(n: u32, starts: &[u32], images: &[u32]) -> Checked
     if starts.len() <= FEW_RUNS {
         let mut order: [u32; FEW_RUNS] = [0; FEW_RUNS];
         let mut spare: [u32; FEW_RUNS] = [0; FEW_RUNS];
+        return check_into(n, starts, images, &mut order, &mut spare);
+    }
+    if starts.len() <= SOME_RUNS {
+        let mut order: [u32; SOME_RUNS] = [0; SOME_RUNS];
+        let mut spare: [u32; SOME_RUNS] = [0; SOME_RUNS];
         return check_into(n, starts, images, &mut order, &mut spare);
     }
     let mut order: [u32; MAX_RUNS] = [0; MAX_RUNS];
