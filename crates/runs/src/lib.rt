@@ -14,7 +14,7 @@ ghost use Rattle.runs.specs.Refusal.{numberOf, placeOf, checkedSays};
 ghost use Rattle.runs.specs.Runs.{runs};
 ghost use Rattle.runs.specs.Check.{checkOf};
 ghost use Rattle.runs.specs.Inverse.{InverseListed};
-ghost use Rattle.runs.specs.Parts.{Roomy, CheckedInto};
+ghost use Rattle.runs.specs.Parts.{Roomy, CheckedInto, butForRoom};
 
 // Why a call is refused. specs/Refusal.antt gives the paper's number and place of each.
 pub enum Refusal {
@@ -134,7 +134,24 @@ fn check_into(
     Checked::Accepted
 }
 
-// Whether the list is legal and has at most 16,384 runs. Tests 1 to 6; O(k log k) for every input.
+// An answer of `inverse_list` without test 8.
+fn but_for_room(checked: Checked) -> Checked
+    ensures { λ r. ⌜ checkedSays r ≡ butForRoom (checkedSays checked) ⌝ }
+{
+    match checked {
+        Checked::Accepted => Checked::Accepted,
+        Checked::Refused(refusal) => {
+            if refusal.number() == 8 {
+                return Checked::Accepted;
+            }
+            Checked::Refused(refusal)
+        }
+    }
+}
+
+// Whether the list is legal and has at most 16,384 runs. Tests 1 to 6; O(k log k) for every input. Many runs are checked
+// on the way to an inverse list that there is no room for: large tables here would cost every check, since a call touches
+// each page of its frame.
 pub fn check(n: u32, starts: &[u32], images: &[u32]) -> Checked
     ensures { λ r. ⌜ checkedSays r ≡ checkOf n (runs (now (starts .entry)) (now (images .entry))) ⌝ }
 {
@@ -143,14 +160,28 @@ pub fn check(n: u32, starts: &[u32], images: &[u32]) -> Checked
         let mut spare: [u32; FEW_RUNS] = [0; FEW_RUNS];
         return check_into(n, starts, images, &mut order, &mut spare);
     }
-    if starts.len() <= SOME_RUNS {
-        let mut order: [u32; SOME_RUNS] = [0; SOME_RUNS];
-        let mut spare: [u32; SOME_RUNS] = [0; SOME_RUNS];
-        return check_into(n, starts, images, &mut order, &mut spare);
+    but_for_room(inverse_list(n, starts, images, &mut [], &mut []))
+}
+
+// Tests 1 to 6 and 8, and the inverse list. `order` and `spare` are room to work in.
+fn invert_into(
+    n: u32,
+    starts: &[u32],
+    images: &[u32],
+    order: &mut [u32],
+    spare: &mut [u32],
+    to_starts: &mut [u32],
+    to_images: &mut [u32],
+) -> Checked
+    requires { ⌜ Roomy (now starts) (now order) × Roomy (now starts) (now spare) ⌝ }
+    ensures { λ r. ⌜ InverseListed n (runs (now (starts .entry)) (now (images .entry)))
+        (now («to_starts» .entry)) (now («to_images» .entry)) (now («to_starts» .exit)) (now («to_images» .exit)) r ⌝ }
+{
+    let checked = check_into(n, starts, images, order, spare);
+    match checked {
+        Checked::Refused(refusal) => Checked::Refused(refusal),
+        Checked::Accepted => inverse::write(starts, images, order, to_starts, to_images),
     }
-    let mut order: [u32; MAX_RUNS] = [0; MAX_RUNS];
-    let mut spare: [u32; MAX_RUNS] = [0; MAX_RUNS];
-    check_into(n, starts, images, &mut order, &mut spare)
 }
 
 // Writes the inverse list to the first k entries of two tables, and leaves the others. Tests 1 to 6 and 8.
@@ -164,13 +195,30 @@ pub fn inverse_list(
     ensures { λ r. ⌜ InverseListed n (runs (now (starts .entry)) (now (images .entry)))
         (now («to_starts» .entry)) (now («to_images» .entry)) (now («to_starts» .exit)) (now («to_images» .exit)) r ⌝ }
 {
+    if starts.len() <= SOME_RUNS {
+        let mut order: [u32; SOME_RUNS] = [0; SOME_RUNS];
+        let mut spare: [u32; SOME_RUNS] = [0; SOME_RUNS];
+        return invert_into(
+            n,
+            starts,
+            images,
+            &mut order,
+            &mut spare,
+            to_starts,
+            to_images,
+        );
+    }
     let mut order: [u32; MAX_RUNS] = [0; MAX_RUNS];
     let mut spare: [u32; MAX_RUNS] = [0; MAX_RUNS];
-    let checked = check_into(n, starts, images, &mut order, &mut spare);
-    match checked {
-        Checked::Refused(refusal) => Checked::Refused(refusal),
-        Checked::Accepted => inverse::write(starts, images, &order, to_starts, to_images),
-    }
+    invert_into(
+        n,
+        starts,
+        images,
+        &mut order,
+        &mut spare,
+        to_starts,
+        to_images,
+    )
 }
 
 // The shift of a run, its image minus its start.
