@@ -31,31 +31,26 @@ pub(crate) fn too_many() {
     );
 }
 
+// Asks for an inverse list in tables of six entries.
+fn invert_in_six(n: u32, starts: &[u32], images: &[u32]) {
+    let mut a = [7u32; 6];
+    let mut b = [7u32; 6];
+    out::checked(
+        b"inverse-list",
+        runs::inverse_list(n, starts, images, &mut a, &mut b),
+    );
+}
+
 // 1 to 8 of the inverse list but 2, and the document's list inverted.
 pub(crate) fn inverses() {
     let mut a = [7u32; 6];
     let mut b = [7u32; 6];
     let mut c = [7u32; 1];
-    out::checked(
-        b"inverse-list",
-        runs::inverse_list(4, &[], &[], &mut a, &mut b),
-    );
-    out::checked(
-        b"inverse-list",
-        runs::inverse_list(4, &[1, 2], &[2, 0], &mut a, &mut b),
-    );
-    out::checked(
-        b"inverse-list",
-        runs::inverse_list(4, &[0, 0], &[2, 0], &mut a, &mut b),
-    );
-    out::checked(
-        b"inverse-list",
-        runs::inverse_list(4, &[0, 2], &[0, 3], &mut a, &mut b),
-    );
-    out::checked(
-        b"inverse-list",
-        runs::inverse_list(4, &[0, 2], &[0, 1], &mut a, &mut b),
-    );
+    invert_in_six(4, &[], &[]);
+    invert_in_six(4, &[1, 2], &[2, 0]);
+    invert_in_six(4, &[0, 0], &[2, 0]);
+    invert_in_six(4, &[0, 2], &[0, 3]);
+    invert_in_six(4, &[0, 2], &[0, 1]);
     out::checked(
         b"inverse-list",
         runs::inverse_list(4, &[0, 2], &[2, 0], &mut a, &mut c),
@@ -68,40 +63,27 @@ pub(crate) fn inverses() {
     out::entries(&b);
 }
 
-// 1 to 8 of balancing.
-pub(crate) fn balances() {
+// Balances in tables of ten entries.
+fn balance_in_ten(n: u32, starts: &[u32], images: &[u32], d: u32) {
     let mut a = [7u32; 10];
     let mut b = [7u32; 10];
     let mut c = [7u32; 10];
     let mut w = [7u32; 10];
     out::balanced(
         b"balance",
-        balance::balance(0, &[0], &[0], 2, &mut a, &mut b, &mut c, &mut w),
+        balance::balance(n, starts, images, d, &mut a, &mut b, &mut c, &mut w),
     );
-    out::balanced(
-        b"balance",
-        balance::balance(4, &[1, 2], &[2, 0], 2, &mut a, &mut b, &mut c, &mut w),
-    );
-    out::balanced(
-        b"balance",
-        balance::balance(4, &[0, 0], &[2, 0], 2, &mut a, &mut b, &mut c, &mut w),
-    );
-    out::balanced(
-        b"balance",
-        balance::balance(4, &[0, 2], &[0, 3], 2, &mut a, &mut b, &mut c, &mut w),
-    );
-    out::balanced(
-        b"balance",
-        balance::balance(4, &[0, 2], &[0, 1], 2, &mut a, &mut b, &mut c, &mut w),
-    );
-    out::balanced(
-        b"balance",
-        balance::balance(4, &[0, 2], &[2, 0], 65, &mut a, &mut b, &mut c, &mut w),
-    );
-    out::balanced(
-        b"balance",
-        balance::balance(4, &[0, 2], &[2, 0], 1, &mut a, &mut b, &mut c, &mut w),
-    );
+}
+
+// 1 to 8 of balancing.
+pub(crate) fn balances() {
+    balance_in_ten(0, &[0], &[0], 2);
+    balance_in_ten(4, &[1, 2], &[2, 0], 2);
+    balance_in_ten(4, &[0, 0], &[2, 0], 2);
+    balance_in_ten(4, &[0, 2], &[0, 3], 2);
+    balance_in_ten(4, &[0, 2], &[0, 1], 2);
+    balance_in_ten(4, &[0, 2], &[2, 0], 65);
+    balance_in_ten(4, &[0, 2], &[2, 0], 1);
 }
 
 // Tables of 9 at d 2, though 6 would do.
