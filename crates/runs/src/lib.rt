@@ -92,9 +92,10 @@ pub enum Checked {
 // The most runs that a list may have.
 pub const MAX_RUNS: usize = 16384;
 
-// A list of so few runs gets smaller tables to work in: clearing larger ones would take longer than its check.
+// Lists of so few runs get smaller tables to work in: clearing larger ones would take longer than their check.
 const FEW_RUNS: usize = 64;
 
+// The same for lists between short and long ones.
 pub const SOME_RUNS: usize = 1024;
 
 // Tests 1 to 6. `order` is room for the order of the runs by image, and holds it if the list is accepted; `spare` is
