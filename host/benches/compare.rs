@@ -16,7 +16,7 @@ fn seconds<A, B>(mut library: impl FnMut() -> A, mut peer: impl FnMut() -> B) ->
         calls *= 2;
     }
     let mut fastest = [Duration::MAX; 2];
-    for _ in 0..20 {
+    for _ in 0..100 {
         fastest[0] = fastest[0].min(time(calls, &mut library));
         fastest[1] = fastest[1].min(time(calls, &mut peer));
     }
@@ -103,7 +103,7 @@ fn line(r: &mut Random, shape: &str, k: usize, d: u32) -> String {
 fn main() {
     println!("Times of the library, and each as a ratio to the peer in safe Rust (below 1: the library is faster).");
     println!(
-        "Release builds, the fastest of twenty rounds. No lent buffer is cleared between calls; the library clears"
+        "Release builds, the fastest of a hundred rounds. No lent buffer is cleared between calls; the library clears"
     );
     println!("its own arrays in each check and balance, where the peer takes vectors from the heap.");
     println!();
