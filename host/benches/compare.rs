@@ -31,8 +31,9 @@ fn time<T>(calls: u32, call: &mut impl FnMut() -> T) -> Duration {
     begun.elapsed()
 }
 
-/// A list of k runs of about 1,000 places each, by the order of their images; "cuts" has one run as long as all the
-/// others, whose image lies over their starts.
+/// A list of k runs of about 1,000 places each, by the order of their images; "cuts" has three runs as long as all the
+/// others together: the image of the first lies over the others' starts, and that of each next over the one before it,
+/// which is cut.
 fn list(r: &mut Random, shape: &str, k: usize) -> List {
     let mut lengths: Vec<u64> = (0..k).map(|_| r.from(500, 1500)).collect();
     let mut order: Vec<usize> = (0..k).collect();
@@ -40,9 +41,10 @@ fn list(r: &mut Random, shape: &str, k: usize) -> List {
         "shuffled" => r.shuffle(&mut order),
         "reversed" => order.reverse(),
         _ => {
-            lengths[k - 1] = lengths[..k - 1].iter().sum();
-            r.shuffle(&mut order[..k - 1]);
-            order.rotate_right(1);
+            let whole = lengths[..k - 3].iter().sum();
+            lengths[k - 3..].fill(whole);
+            r.shuffle(&mut order[..k - 3]);
+            order.rotate_right(3);
         }
     }
     list_of(&lengths, &order)
