@@ -14,4 +14,5 @@ pub mod Bijection
 pub mod Tiling
 pub mod Inversion
 mod Writing
+mod Roomless
 mod Shifting

@@ -1,20 +1,18 @@
 -- What `gather` and `write` leave in the lent tables: entry by entry, the inverse list in front of what was there.
 use Prim.Native.Nat.{ℕ, _+_, _-_, _≤_, _<_}
 use mathlib.Core.Path.{_≡_, refl, sym, ap, _∙_}
-use mathlib.Core.Bool.{Bool, true, false}
-use mathlib.Core.List.{List, [], _∷_, _++_, map}
+use mathlib.Core.List.{List, _++_, map}
 use native.Mathlib.Omega.{arith}
 use lib.ListN.{length, take, drop, length-map}
-use lib.Dec.{eqb}
-use borrow.Author.Tests.{lt-ltb, le-ltb, eq-eqb, ne-eqb}
+use borrow.Author.Tests.{lt-ltb, le-ltb}
 use Rattle.order.specs.Order.{keyOf, orderOf, Gathers}
 use Rattle.order.proofs.Laws.{order-length}
-use Rattle.runs.specs.Outcome.{Outcome, Test, done, refused, judge, andThen, mapDone, filled, _then_else_}
-use Rattle.runs.specs.Refusal.{refusalSays, checkedSays}
+use Rattle.runs.specs.Outcome.{done, refused, judge, andThen, mapDone, filled}
+use Rattle.runs.specs.Refusal.{refusalSays}
 use Rattle.runs.specs.Runs.{Runs, countOf, startOf, imageOf}
-use Rattle.runs.specs.Check.{listTests, checkTests, checkOf}
+use Rattle.runs.specs.Check.{checkTests, checkOf}
 use Rattle.runs.specs.Inverse.{inverseRuns, inverseListOf, InverseListed}
-use Rattle.runs.specs.Parts.{Ordered, Written, roomTest, writtenOf, butForRoom}
+use Rattle.runs.specs.Parts.{Ordered, Written, roomTest, writtenOf}
 use Rattle.runs.specs.declared.Refusal.{Refusal}
 use Rattle.runs.specs.declared.Refusal.the-variants.{ShortTable}
 use Rattle.runs.specs.declared.Checked.{Checked}
@@ -73,7 +71,7 @@ module _ (r : Runs) (a b : List ℕ) where
 
 -- the whole of `inverse_list`: tests 1 to 6, and then what is written
 module _ (n : ℕ) (r : Runs) (a b : List ℕ) where
-  listed-parts : inverseListOf n r a b ≡ andThen (checkOf n r) (λ _. writtenOf r a b)
+  pub listed-parts : inverseListOf n r a b ≡ andThen (checkOf n r) (λ _. writtenOf r a b)
   unfolding inverseListOf checkOf writtenOf
   listed-parts = judge-append (checkTests n r) (roomTest r a b) tt (inverseRuns r)
 
@@ -89,47 +87,3 @@ module _ (n : ℕ) (r : Runs) (a b : List ℕ) where
   listed-written a′ b′ o e w =
       let f : inverseListOf n r a b ≡ writtenOf r a b = listed-parts ∙ ap (λ c. andThen c (λ _. writtenOf r a b)) (sym e) in
       record { says = rw f (w .says); starts-at-exit = rw f (w .starts-at-exit); images-at-exit = rw f (w .images-at-exit) }
-
--- where there is no room for a run, 8 is the answer to a list that passes the tests before it, and to no other
-NotEight : List Test → Type 0
-NotEight [] = Unit {0}
-NotEight (t ∷ ts) = (eqb (t .number) 8 ≡ false) × NotEight ts
-
--- what the tests come to, with 8 after them and taken out again
-abbrev without : Outcome (Unit {0}) → ℕ → Outcome (Unit {0})
-without c k = butForRoom (mapDone (λ (q : Runs). tt) (andThen c (λ _. refused 8 k)))
-
-roomless : (ts : List Test) → NotEight ts → (k : ℕ) → without (judge ts tt) k ≡ judge ts tt
-unfolding NotEight butForRoom mapDone andThen judge
-roomless [] h k = refl
-roomless (t ∷ ts) h k = go (t .applies) (roomless ts (h .1) k)
-  where
-    go : (s : Bool) → without (judge ts tt) k ≡ judge ts tt
-        → without (s then refused (t .number) (t .place) else judge ts tt) k
-        ≡ (s then refused (t .number) (t .place) else judge ts tt)
-    go true i = rw (h .0)
-    go false i = i
-
-pub checked-roomless : (n : ℕ) (r : Runs) (a′ b′ : List ℕ) (o : Checked) → 0 < countOf r → InverseListed n r [] [] a′ b′ o
-    → butForRoom (checkedSays o) ≡ checkOf n r
-unfolding NotEight checkOf checkTests listTests writtenOf judge
-checked-roomless n r a′ b′ o h l =
-    let short : writtenOf r [] [] ≡ refused 8 (countOf r) = simp (lt-ltb 0 (countOf r) h) in
-    let f : inverseListOf n r [] [] ≡ andThen (checkOf n r) (λ _. refused 8 (countOf r)) =
-    listed-parts n r [] [] ∙ ap (λ (w : Outcome Runs). andThen (checkOf n r) (λ _. w)) short in
-    ap butForRoom (l .says ∙ ap (mapDone (λ q. tt)) f)
-    ∙ roomless (checkTests n r) (refl, (refl, (refl, (refl, (refl, (refl, tt)))))) (countOf r)
-
--- an answer by its number
-pub but-none : done tt ≡ butForRoom (done tt)
-unfolding butForRoom
-but-none = refl
-
-module _ (k p : ℕ) where
-  pub but-eight : k ≡ 8 → done tt ≡ butForRoom (refused k p)
-  unfolding butForRoom
-  but-eight e = simp (eq-eqb _ _ e)
-
-  pub but-other : (k ≡ 8 → ⊥) → refused k p ≡ butForRoom (refused k p)
-  unfolding butForRoom
-  but-other e = simp (ne-eqb _ _ e)

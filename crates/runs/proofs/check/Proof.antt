@@ -2,7 +2,7 @@
 -- tests before it passed.
 use mathlib.Core.Path.{_∙_}
 use native.Mathlib.Omega.{arith}
-use Rattle.runs.proofs.Writing.{checked-roomless}
+use Rattle.runs.proofs.Roomless.{checked-roomless}
 use borrow.Author.Needs.{needs}
 use Rattle.runs.proofs.check.Statement.{statement}
 use Rattle.runs.proofs.check.Tie as tie
