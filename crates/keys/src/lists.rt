@@ -75,7 +75,7 @@ fn balance_in_ten(n: u32, starts: &[u32], images: &[u32], d: u32) {
     );
 }
 
-// 1 to 8 of balancing.
+// 1 and 3 to 7 of balancing.
 pub(crate) fn balances() {
     balance_in_ten(0, &[0], &[0], 2);
     balance_in_ten(4, &[1, 2], &[2, 0], 2);
