@@ -11,7 +11,7 @@ use Rattle.tables.proofs.LegalTables.{legal-move}
 use Rattle.bookmarks.specs.Bookmark.{bookmarkOf}
 use Rattle.bookmarks.specs.Passed.{markOf}
 use Rattle.bookmarks.specs.declared.Bookmark.{Bookmark}
-use Rattle.bookmarks.proofs.Marks.{unspent, mark-on, bookmark-on}
+use Rattle.bookmarks.proofs.Marks.{no-overflow, mark-on, bookmark-on}
 
 module _ (n : ℕ) (r : Runs) (c : Legal n r) (few : countOf r ≤ maxIntervals) where
   -- a bookmark that stands in the run that has its place makes that move, but for 13
@@ -27,4 +27,4 @@ module _ (n : ℕ) (r : Runs) (c : Legal n r) (few : countOf r ≤ maxIntervals)
       → bookmarkOf n (tablesOf n r) b ≡ done (stepFrom n r (b .place))
   legal-bookmark-on b h e l m =
       let s = stepFrom n r (b .place) in
-      legal-bookmark b h e ∙ sym (mark-on b s _ refl (unspent b s l m))
+      legal-bookmark b h e ∙ sym (mark-on b s _ refl (no-overflow b s l m))

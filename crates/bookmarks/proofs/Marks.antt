@@ -11,7 +11,7 @@ use Rattle.runs.specs.Outcome.{Outcome, done, refused, judge, andThen}
 use Rattle.runs.proofs.Judging.{judge-append, judge-done}
 use Rattle.tables.specs.Tables.{Tables}
 use Rattle.tables.specs.Move.{movedSays, stepOf, moveOf, moveTests}
-use Rattle.bookmarks.specs.Bookmark.{spent, bookmarkOf, markAfter, Advances}
+use Rattle.bookmarks.specs.Bookmark.{overflows, bookmarkOf, markAfter, Advances}
 use Rattle.bookmarks.specs.Passed.{markOf}
 use Rattle.tables.specs.declared.Step.{Step}
 use Rattle.bookmarks.specs.declared.Bookmark.{Bookmark}
@@ -19,15 +19,15 @@ use Rattle.tables.specs.declared.Moved.{Moved}
 
 -- 13
 module _ (b : Bookmark) (s : Step) where
-  pub spent-moves : b .moves ≡ 4294967295 → true ≡ spent b s
-  unfolding spent
-  spent-moves e = simp (le-leb 4294967296 (b .moves + 1) (omega arith))
+  pub overflows-moves : b .moves ≡ 4294967295 → true ≡ overflows b s
+  unfolding overflows
+  overflows-moves e = simp (le-leb 4294967296 (b .moves + 1) (omega arith))
 
   -- the code asks whether the rest of 64 bits is too little, so that no sum wraps
-  pub spent-passed : b .moves < 4294967295 → s .count < 18446744073709551616
-      → ltb (18446744073709551615 - s .count) (b .passed) ≡ spent b s
-  unfolding spent
-  spent-passed l m =
+  pub overflows-passed : b .moves < 4294967295 → s .count < 18446744073709551616
+      → ltb (18446744073709551615 - s .count) (b .passed) ≡ overflows b s
+  unfolding overflows
+  overflows-passed l m =
       simp (lt-leb 4294967296 (b .moves + 1) (omega arith)) (go (lt-or-le (18446744073709551615 - s .count) (b .passed)))
     where
       go : (18446744073709551615 - s .count < b .passed) ⊎ (b .passed ≤ 18446744073709551615 - s .count)
@@ -35,20 +35,20 @@ module _ (b : Bookmark) (s : Step) where
       go (inl h) = rw (lt-ltb _ _ h, le-leb 18446744073709551616 (b .passed + s .count) (omega arith))
       go (inr h) = rw (le-ltb _ _ h, lt-leb 18446744073709551616 (b .passed + s .count) (omega arith))
 
-  pub unspent : b .moves + 1 < 2 ^ 32 → b .passed + s .count < 2 ^ 64 → spent b s ≡ false
-  unfolding spent
-  unspent l m = simp (lt-leb _ _ l, lt-leb _ _ m)
+  pub no-overflow : b .moves + 1 < 2 ^ 32 → b .passed + s .count < 2 ^ 64 → overflows b s ≡ false
+  unfolding overflows
+  no-overflow l m = simp (lt-leb _ _ l, lt-leb _ _ m)
 
-  module _ (t : Bool) (e : t ≡ spent b s) where
+  module _ (t : Bool) (e : t ≡ overflows b s) where
     pub room : t ≡ false → (b .moves + 1 < 4294967296) × (b .passed + s .count < 18446744073709551616)
-    unfolding spent
+    unfolding overflows
     room f =
         let a = or-false (leb 4294967296 (b .moves + 1)) _ (sym e ∙ f) in
         (leb-false 4294967296 (b .moves + 1) (a .0), leb-false 18446744073709551616 (b .passed + s .count) (a .1))
 
-    pub mark-spent : t ≡ true → refused 13 0 ≡ markOf b s
+    pub mark-overflow : t ≡ true → refused 13 0 ≡ markOf b s
     unfolding markOf judge
-    mark-spent f = simp (sym e ∙ f)
+    mark-overflow f = simp (sym e ∙ f)
 
     pub mark-on : t ≡ false → done s ≡ markOf b s
     unfolding markOf judge

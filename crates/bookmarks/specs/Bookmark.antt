@@ -17,13 +17,13 @@ abbrev pub fresh : ℕ → ℕ → Bookmark
 fresh p x = record { place = p; interval = x; moves = 0; passed = 0 }
 
 -- 13: "a bookmark counter would pass its width", 32 bits for the moves and 64 for the starts passed
-unfoldable pub spent : Bookmark → Step → Bool
-spent b s = leb (2 ^ 32) (b .moves + 1) || leb (2 ^ 64) (b .passed + s .count)
+unfoldable pub overflows : Bookmark → Step → Bool
+overflows b s = leb (2 ^ 32) (b .moves + 1) || leb (2 ^ 64) (b .passed + s .count)
 
 -- "moved on the spot, by one move": the answer is that move's
 abbrev pub bookmarkTests : ℕ → Tables → Bookmark → List Test
 bookmarkTests n t b =
-    moveTests n t (b .interval) (b .place) ++ (test 13 (spent b (stepOf t (b .interval) (b .place))) 0 ∷ [])
+    moveTests n t (b .interval) (b .place) ++ (test 13 (overflows b (stepOf t (b .interval) (b .place))) 0 ∷ [])
 
 unfoldable pub bookmarkOf : ℕ → Tables → Bookmark → Outcome Step
 bookmarkOf n t b = judge (bookmarkTests n t b) (stepOf t (b .interval) (b .place))

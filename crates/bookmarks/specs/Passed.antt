@@ -5,13 +5,13 @@ use mathlib.Core.List.{[], _∷_}
 use Rattle.runs.specs.Outcome.{Outcome, done, refused, test, judge}
 use Rattle.tables.specs.Move.{movedSays}
 use Rattle.tables.specs.declared.Step.{Step}
-use Rattle.bookmarks.specs.Bookmark.{spent, markAfter}
+use Rattle.bookmarks.specs.Bookmark.{overflows, markAfter}
 use Rattle.bookmarks.specs.declared.Bookmark.{Bookmark}
 use Rattle.bookmarks.specs.declared.Marked.{Marked}
 
 -- after 12: 13, the answer and the bookmark
 unfoldable pub markOf : Bookmark → Step → Outcome Step
-markOf b s = judge (test 13 (spent b s) 0 ∷ []) s
+markOf b s = judge (test 13 (overflows b s) 0 ∷ []) s
 
 pub record Marks (b : Bookmark) (s : Step) (m : Marked) : Type 0 where
   pub says : movedSays (m .moved) ≡ markOf b s

@@ -6,13 +6,13 @@ use tables::Moved;
 use tables::Step;
 ghost use mathlib.Core.Path.{_≡_};
 ghost use Rattle.tables.specs.Tables.{tables};
-ghost use Rattle.bookmarks.specs.Bookmark.{spent, Advances};
+ghost use Rattle.bookmarks.specs.Bookmark.{overflows, Advances};
 ghost use Rattle.tables.specs.Move.{movedSays};
 ghost use Rattle.bookmarks.specs.Passed.{Marks, isRefused};
 
 // Test 13: whether a counter would pass its width.
-fn is_spent(b: Bookmark, s: Step) -> bool
-    ensures { λ r. ⌜ r ≡ spent b s ⌝ }
+fn would_overflow(b: Bookmark, s: Step) -> bool
+    ensures { λ r. ⌜ r ≡ overflows b s ⌝ }
 {
     if b.moves == 4294967295 {
         return true;
@@ -24,7 +24,7 @@ fn is_spent(b: Bookmark, s: Step) -> bool
 pub(crate) fn mark(b: Bookmark, s: Step) -> Marked
     ensures { λ r. ⌜ Marks b s r ⌝ }
 {
-    if is_spent(b, s) {
+    if would_overflow(b, s) {
         return Marked {
             bookmark: b,
             moved: Moved::Refused(Refusal::CounterLimit),

@@ -14,7 +14,7 @@ use Rattle.runs.specs.Runs.{Runs, runAt, mapOf}
 use Rattle.runs.proofs.Judging.{judge-done, judge-on}
 use Rattle.tables.specs.Tables.{Tables}
 use Rattle.tables.specs.Move.{moveTests, stepOf, moveOf}
-use Rattle.bookmarks.specs.Bookmark.{spent, bookmarkOf, markAfter, Marking, marking, markedSays, markingOf, markingsOf}
+use Rattle.bookmarks.specs.Bookmark.{overflows, bookmarkOf, markAfter, Marking, marking, markedSays, markingOf, markingsOf}
 use Rattle.bookmarks.specs.declared.Bookmark.{Bookmark}
 use Rattle.bookmarks.specs.declared.Marked.{Marked}
 use Rattle.bookmarks.proofs.Markings.{advances-marking}
@@ -25,29 +25,29 @@ use Rattle.demands.proofs.Serving.{move-below}
 
 -- where the move is made, only 13 is left to test
 pub bookmark-judged : (n : ℕ) (τ : Tables) (b : Bookmark) (s : Step) → moveOf n τ (b .interval) (b .place) ≡ done s
-    → bookmarkOf n τ b ≡ judge (test 13 (spent b s) 0 ∷ []) s
+    → bookmarkOf n τ b ≡ judge (test 13 (overflows b s) 0 ∷ []) s
 unfolding bookmarkOf moveOf
 bookmark-judged n τ b s e =
     let q = judge-done (moveTests n τ (b .interval) (b .place)) (stepOf τ (b .interval) (b .place)) s e in
     judge-on (moveTests n τ (b .interval) (b .place)) _ (stepOf τ (b .interval) (b .place)) s e
-    ∙ ap (λ (u : Step). judge (test 13 (spent b u) 0 ∷ []) u) q
+    ∙ ap (λ (u : Step). judge (test 13 (overflows b u) 0 ∷ []) u) q
 
 module _ (n : ℕ) (τ : Tables) (b : Bookmark) (s : Step) (e : moveOf n τ (b .interval) (b .place) ≡ done s) where
-  pub bookmark-spent : 4294967295 ≤ b .moves → bookmarkOf n τ b ≡ refused 13 0
-  unfolding judge spent
-  bookmark-spent h = bookmark-judged n τ b s e ∙ simp (le-leb (2 ^ 32) (b .moves + 1) (omega arith))
+  pub bookmark-overflow : 4294967295 ≤ b .moves → bookmarkOf n τ b ≡ refused 13 0
+  unfolding judge overflows
+  bookmark-overflow h = bookmark-judged n τ b s e ∙ simp (le-leb (2 ^ 32) (b .moves + 1) (omega arith))
 
   pub bookmark-goes : b .moves < 4294967295 → b .passed + s .count < 2 ^ 64 → bookmarkOf n τ b ≡ done s
-  unfolding judge spent
+  unfolding judge overflows
   bookmark-goes h l =
       bookmark-judged n τ b s e
       ∙ simp (lt-leb (2 ^ 32) (b .moves + 1) (omega arith), lt-leb (2 ^ 64) (b .passed + s .count) l)
 
 -- one turn of each trail
 module _ (n : ℕ) (r t : Runs) (k p m c : ℕ) where
-  plain-spent : 4294967295 ≤ m → plainTrail n r t (suc k) p m c ≡ marking (refused 13 0) (standing n r t p m c) ∷ plainTrail n r t k p m c
+  plain-overflow : 4294967295 ≤ m → plainTrail n r t (suc k) p m c ≡ marking (refused 13 0) (standing n r t p m c) ∷ plainTrail n r t k p m c
   unfolding plainTrail
-  plain-spent h = rw (le-leb 4294967295 m h, plainTrail)
+  plain-overflow h = rw (le-leb 4294967295 m h, plainTrail)
 
   plain-goes : m < 4294967295 → plainTrail n r t (suc k) p m c
       ≡ marking (done (plainMove n r t p)) (standing n r t (plainMove n r t p .place) (m + 1) (c + plainMove n r t p .count))
@@ -98,10 +98,10 @@ module _ (n b : ℕ) (r t : Runs) (τ : Tables)
           ∙ sym (plain-goes n r t k p m c e)
       go (inr e) rest =
           served-turn n τ k (standing n r t p m c) _ _
-          (bookmark-spent n τ (standing n r t p m c) s (move-to p h) e)
+          (bookmark-overflow n τ (standing n r t p m c) s (move-to p h) e)
           (after-refusal p m c)
           ∙ ap (λ (l : List Marking). marking (refused 13 0) (standing n r t p m c) ∷ l) (rest p m c h l w)
-          ∙ sym (plain-spent n r t k p m c e)
+          ∙ sym (plain-overflow n r t k p m c e)
 
 -- calls of `advance` that meet its contract are served moves
 pub advancing-served : (n : ℕ) (τ : Tables) (ms : List Marked) (b : Bookmark) → Advancing n τ b ms

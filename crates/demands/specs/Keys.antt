@@ -6,7 +6,7 @@ use mathlib.Core.List.{List, [], _∷_, _++_, map}
 use lib.IntN.{ℤ, pos, negsuc}
 use Rattle.runs.specs.Outcome.{Outcome, done, refused, judge, mapDone, andThen}
 use Rattle.runs.specs.Runs.{Runs, runs, countOf, startOf, imageOf, shiftOf}
-use Rattle.runs.specs.Check.{unmatched, disordered, overruns, overlap, overlaps, listTests, checkTests, checkOf}
+use Rattle.runs.specs.Check.{unmatched, unordered, outOfRange, overlap, overlaps, listTests, checkTests, checkOf}
 use Rattle.tables.specs.Tables.{Tables, tablesOf, holderOf, misshapen, outside, unheld, broken}
 use Rattle.tables.specs.Move.{passed, stepOf, moveOf, onwards, movesOf}
 use Rattle.tables.specs.Inverse.{sends, sourceOf, inverseOf}
@@ -111,5 +111,5 @@ keys =
     []
 
 pub keys-hold : map computed keys ≡ map given keys
-unfolding judge mapDone andThen unmatched disordered overruns overlap overlaps listTests checkTests checkOf misshapen outside unheld broken passed stepOf moveOf onwards movesOf sends sourceOf inverseOf cutting balanced
+unfolding judge mapDone andThen unmatched unordered outOfRange overlap overlaps listTests checkTests checkOf misshapen outside unheld broken passed stepOf moveOf onwards movesOf sends sourceOf inverseOf cutting balanced
 keys-hold = refl

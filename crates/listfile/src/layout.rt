@@ -38,10 +38,10 @@ pub(crate) fn read_header(file: &[u8], most: u32) -> FileChecked
     let n = word(file, 0);
     let k = word(file, 1);
     if n == 0 {
-        return FileChecked::Refused(Refusal::Empty);
+        return FileChecked::Refused(Refusal::ListShape);
     }
     if k == 0 {
-        return FileChecked::Refused(Refusal::Empty);
+        return FileChecked::Refused(Refusal::ListShape);
     }
     if most < k {
         return FileChecked::Refused(Refusal::TooManyRuns);

@@ -13,11 +13,11 @@ use Rattle.runs.specs.Outcome.{done}
 use Rattle.runs.specs.Search.{firstBelow}
 use Rattle.runs.specs.Runs.{Runs, countOf, startOf, imageOf}
 use Rattle.runs.specs.Legal.{Legal}
-use Rattle.runs.specs.Check.{maxRuns, unmatched, disordered, overruns, overlaps, listTests, checkTests, checkOf}
+use Rattle.runs.specs.Check.{maxRuns, unmatched, unordered, outOfRange, overlaps, listTests, checkTests, checkOf}
 use Rattle.runs.proofs.Judging.{judge-first}
 use Rattle.runs.proofs.Searches.{any-none, any-false}
 use Rattle.runs.proofs.Legality.{homes}
-use Rattle.runs.proofs.Checking.{Within, matched, in-order-all, rises, none-true, overruns-false, overruns-within, check-accepts}
+use Rattle.runs.proofs.Checking.{Within, matched, in-order-all, rises, none-true, out-of-range-false, out-of-range-within, check-accepts}
 use Rattle.runs.proofs.Sharing.{Shared, overlaps-true, overlaps-false}
 
 -- two numbers are the same if they cannot differ
@@ -64,7 +64,7 @@ module _ (n : ℕ) (r : Runs) where
           first = c .begun .first;
           below = λ x l. in-order-all n r c x l .0;
           rising = rises n r c;
-          within = λ x l. overruns-within n r x (none-true (overruns n r) (countOf r) (a .0 .within) x l);
+          within = λ x l. out-of-range-within n r x (none-true (outOfRange n r) (countOf r) (a .0 .within) x l);
           apart = λ x y p h l b d f g. same x y (λ z. absurd (false≢true (sym (a .1 x h) ∙ overlaps-true n r x y l record { other = z; left = omega arith; right = omega arith })));
         },
         c .begun .few,
@@ -82,10 +82,10 @@ module _ (n : ℕ) (r : Runs) (c : Legal n r) where
         eq-eqb (countOf r) (length (r .images)) (sym (c .paired)),
       )
 
-  disordered-false : (x : ℕ) → x < countOf r → disordered n r x ≡ false
-  unfolding disordered
-  disordered-false zero l = simp (lt-leb n (startOf r 0) (c .below 0 l))
-  disordered-false (suc x) l =
+  unordered-false : (x : ℕ) → x < countOf r → unordered n r x ≡ false
+  unfolding unordered
+  unordered-false zero l = simp (lt-leb n (startOf r 0) (c .below 0 l))
+  unordered-false (suc x) l =
       let e : suc x - 1 ≡ x = omega arith in
       simp (
         lt-leb n (startOf r (suc x)) (c .below (suc x) l),
@@ -94,8 +94,8 @@ module _ (n : ℕ) (r : Runs) (c : Legal n r) where
         lt-leb (startOf r (suc x)) (startOf r x) (c .rising x l),
       )
 
-  overruns-none : (x : ℕ) → x < countOf r → overruns n r x ≡ false
-  overruns-none x l = overruns-false n r x (c .within x l)
+  out-of-range-none : (x : ℕ) → x < countOf r → outOfRange n r x ≡ false
+  out-of-range-none x l = out-of-range-false n r x (c .within x l)
 
   -- runs of a legal list share no place
   pub legal-unshared : (x y : ℕ) → x < countOf r → y < countOf r → Shared n r x y → ⊥
@@ -112,7 +112,7 @@ module _ (n : ℕ) (r : Runs) (c : Legal n r) where
   legal-accepted f = sym (check-accepts n r record {
     rising = record {
       begun = record { matched = unmatched-false; few = f; first = c .first };
-      in-order = true-none (disordered n r) (countOf r) disordered-false;
+      in-order = true-none (unordered n r) (countOf r) unordered-false;
     };
-    within = true-none (overruns n r) (countOf r) overruns-none;
+    within = true-none (outOfRange n r) (countOf r) out-of-range-none;
   } (true-none (overlaps n r) (countOf r) (λ x l. overlaps-false n r x (λ y m. legal-unshared x y l m))))

@@ -12,7 +12,7 @@ use Rattle.order.proofs.Laws.{lt-or-le, or-false}
 use Rattle.runs.specs.Outcome.{done, refused, judge}
 use Rattle.runs.specs.Search.{firstBelow}
 use Rattle.runs.specs.Runs.{Runs, countOf, startOf, endOf, imageEnd}
-use Rattle.runs.specs.Check.{maxRuns, unmatched, disordered, overruns, overlaps, listTests, checkTests, checkOf}
+use Rattle.runs.specs.Check.{maxRuns, unmatched, unordered, outOfRange, overlaps, listTests, checkTests, checkOf}
 use Rattle.runs.specs.Refusal.{refusalSays}
 use Rattle.runs.specs.Parts.{Lasting, CheckedInto}
 use Rattle.runs.specs.declared.Refusal.{Refusal}
@@ -22,17 +22,17 @@ use Rattle.runs.proofs.Searches.{any-false}
 use Rattle.runs.proofs.Legality.{end-next, end-last}
 
 module _ (n : ℕ) (r : Runs) (x : ℕ) where
-  pub overruns-true : n < imageEnd n r x → overruns n r x ≡ true
-  unfolding overruns
-  overruns-true h = lt-ltb _ _ h
+  pub out-of-range-true : n < imageEnd n r x → outOfRange n r x ≡ true
+  unfolding outOfRange
+  out-of-range-true h = lt-ltb _ _ h
 
-  pub overruns-false : imageEnd n r x ≤ n → overruns n r x ≡ false
-  unfolding overruns
-  overruns-false h = le-ltb _ _ h
+  pub out-of-range-false : imageEnd n r x ≤ n → outOfRange n r x ≡ false
+  unfolding outOfRange
+  out-of-range-false h = le-ltb _ _ h
 
-  pub overruns-within : overruns n r x ≡ false → imageEnd n r x ≤ n
-  unfolding overruns
-  overruns-within e = ltb-false _ _ e
+  pub out-of-range-within : outOfRange n r x ≡ false → imageEnd n r x ≤ n
+  unfolding outOfRange
+  out-of-range-within e = ltb-false _ _ e
 
 -- what test 1 shows where it does not apply
 pub record Matched (n : ℕ) (r : Runs) : Type 0 where
@@ -54,9 +54,9 @@ matched n r e =
     }
 
 -- what test 4 shows of run x
-pub in-order : (n : ℕ) (r : Runs) (x : ℕ) → disordered n r x ≡ false
+pub in-order : (n : ℕ) (r : Runs) (x : ℕ) → unordered n r x ≡ false
     → (startOf r x < n) × (0 < x → startOf r (x - 1) < startOf r x)
-unfolding disordered
+unfolding unordered
 in-order n r x e =
     let a = or-false (leb n (startOf r x)) _ e in
     (leb-false n (startOf r x) (a .0), λ h. leb-false _ _ (rw (lt-ltb 0 x h) at (a .1)))
@@ -69,11 +69,11 @@ pub record Begun (n : ℕ) (r : Runs) : Type 0 where
 
 pub record Rising (n : ℕ) (r : Runs) : Type 0 where
   pub begun : Begun n r
-  pub in-order : countOf r ≤ firstBelow (disordered n r) (countOf r)
+  pub in-order : countOf r ≤ firstBelow (unordered n r) (countOf r)
 
 pub record Within (n : ℕ) (r : Runs) : Type 0 where
   pub rising : Rising n r
-  pub within : countOf r ≤ firstBelow (overruns n r) (countOf r)
+  pub within : countOf r ≤ firstBelow (outOfRange n r) (countOf r)
 
 -- no run has the property
 pub none-true : (p : ℕ → Bool) (k : ℕ) → k ≤ firstBelow p k → (x : ℕ) → x < k → p x ≡ false
@@ -82,7 +82,7 @@ none-true p k h x l = any-false p k x (le-ltb (firstBelow p k) k h) l
 module _ (n : ℕ) (r : Runs) where
   pub in-order-all : Rising n r → (x : ℕ) → x < countOf r
       → (startOf r x < n) × (0 < x → startOf r (x - 1) < startOf r x)
-  in-order-all c x l = in-order n r x (none-true (disordered n r) (countOf r) (c .in-order) x l)
+  in-order-all c x l = in-order n r x (none-true (unordered n r) (countOf r) (c .in-order) x l)
 
   pub rises : Rising n r → (x : ℕ) → suc x < countOf r → startOf r x < startOf r (suc x)
   rises c x l =
@@ -112,13 +112,13 @@ module _ (n : ℕ) (r : Runs) where
   check-first-start m f h = simp (m, le-ltb _ _ f, ne-eqb _ _ h)
 
   module _ (x : ℕ) (h : x < countOf r) where
-    pub check-disordered : Begun n r → x ≡ firstBelow (disordered n r) (countOf r) → refused 4 x ≡ checkOf n r
+    pub check-unordered : Begun n r → x ≡ firstBelow (unordered n r) (countOf r) → refused 4 x ≡ checkOf n r
     unfolding checkOf checkTests listTests judge
-    check-disordered c e = simp (c .matched, le-ltb _ _ (c .few), eq-eqb _ _ (c .first), ← e, lt-ltb _ _ h)
+    check-unordered c e = simp (c .matched, le-ltb _ _ (c .few), eq-eqb _ _ (c .first), ← e, lt-ltb _ _ h)
 
-    pub check-overrun : Rising n r → x ≡ firstBelow (overruns n r) (countOf r) → refused 5 x ≡ checkOf n r
+    pub check-out-of-range : Rising n r → x ≡ firstBelow (outOfRange n r) (countOf r) → refused 5 x ≡ checkOf n r
     unfolding checkOf checkTests listTests judge
-    check-overrun c e =
+    check-out-of-range c e =
         simp (
           c .begun .matched,
           le-ltb _ _ (c .begun .few),

@@ -17,12 +17,12 @@ unfoldable pub unmatched : ℕ → Runs → Bool
 unmatched n r = eqb n 0 || (eqb (countOf r) 0 || not (eqb (countOf r) (length (r .images))))
 
 -- 4: "a start not above the one before, or not below n"
-unfoldable pub disordered : ℕ → Runs → ℕ → Bool
-disordered n r x = leb n (startOf r x) || (ltb 0 x && leb (startOf r x) (startOf r (x - 1)))
+unfoldable pub unordered : ℕ → Runs → ℕ → Bool
+unordered n r x = leb n (startOf r x) || (ltb 0 x && leb (startOf r x) (startOf r (x - 1)))
 
 -- 5: "image + length above n"
-unfoldable pub overruns : ℕ → Runs → ℕ → Bool
-overruns n r x = ltb n (imageEnd n r x)
+unfoldable pub outOfRange : ℕ → Runs → ℕ → Bool
+outOfRange n r x = ltb n (imageEnd n r x)
 
 -- 6: "an image shares a place with another run's", whichever of the two stands first
 unfoldable pub overlap : ℕ → Runs → ℕ → ℕ → Bool
@@ -39,8 +39,8 @@ lowest number p k = test number (anyBelow p k) (firstBelow p k)
 unfoldable pub listTests : ℕ → Runs → List Test
 listTests n r =
     test 3 (not (eqb (startOf r 0) 0)) 0 ∷
-    lowest 4 (disordered n r) (countOf r) ∷
-    lowest 5 (overruns n r) (countOf r) ∷
+    lowest 4 (unordered n r) (countOf r) ∷
+    lowest 5 (outOfRange n r) (countOf r) ∷
     lowest 6 (overlaps n r) (countOf r) ∷
     []
 

@@ -2,14 +2,14 @@
 use Prim.Native.Nat.{ℕ}
 use Rattle.runs.specs.Outcome.{Outcome, done, refused}
 use Rattle.runs.specs.declared.Refusal.{Refusal}
-use Rattle.runs.specs.declared.Refusal.the-variants.{Empty, TooManyRuns, FirstStart, StartOrder, ImageRange, ImageOverlap, Degree, ShortTable, TableShape, IntervalIndex, PlaceRange, BrokenInterval, CounterLimit, NoPreimage, FileHeader}
+use Rattle.runs.specs.declared.Refusal.the-variants.{ListShape, TooManyRuns, FirstStart, StartOrder, ImageRange, ImageOverlap, Degree, ShortTable, TableShape, IntervalIndex, PlaceRange, BrokenInterval, CounterLimit, NoPreimage, FileHeader}
 use Rattle.runs.specs.declared.Checked.{Checked}
 use Rattle.runs.specs.declared.Checked.the-variants.{Accepted, Refused}
 
 -- The trade's words: 1 empty, 2 crowded, 3 late, 4 disorder, 5 overrun, 6 clash, 7 degree, 8 short, 9 misfit,
 -- 10 stranger, 11 astray, 12 torn, 13 spent, 14 unlanded, 15 header.
 abbrev pub numberOf : Refusal → ℕ
-numberOf Empty = 1
+numberOf ListShape = 1
 numberOf TooManyRuns = 2
 numberOf FirstStart = 3
 numberOf (StartOrder x) = 4
@@ -26,7 +26,7 @@ numberOf (NoPreimage j) = 14
 numberOf (FileHeader b) = 15
 
 abbrev pub placeOf : Refusal → ℕ
-placeOf Empty = 0
+placeOf ListShape = 0
 placeOf TooManyRuns = 0
 placeOf FirstStart = 0
 placeOf (StartOrder x) = x

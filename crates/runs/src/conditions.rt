@@ -4,7 +4,7 @@ ghost use mathlib.Core.List.{List};
 ghost use Prim.Native.Nat.{ℕ, suc, _<_};
 ghost use lib.ListN.{length, getD};
 ghost use Rattle.runs.specs.Runs.{runs, imageEnd};
-ghost use Rattle.runs.specs.Check.{unmatched, disordered, overruns};
+ghost use Rattle.runs.specs.Check.{unmatched, unordered, outOfRange};
 ghost use Rattle.runs.specs.Parts.{Lasting, lowestOf};
 
 // A number at a wider type: the bound is for the sums it stands in.
@@ -48,9 +48,9 @@ pub(crate) fn is_unmatched(n: u32, starts: &[u32], images: &[u32]) -> bool
 }
 
 // Test 4 of run x, whatever the images are.
-fn is_disordered(n: u32, starts: &[u32], x: usize) -> bool
+fn is_unordered(n: u32, starts: &[u32], x: usize) -> bool
     requires { ⌜ x < length (now starts) ⌝ }
-    ensures { λ r. ⌜ ((images : List ℕ) → r ≡ disordered n (runs (now (starts .entry)) images) x) ⌝ }
+    ensures { λ r. ⌜ ((images : List ℕ) → r ≡ unordered n (runs (now (starts .entry)) images) x) ⌝ }
 {
     let start = starts[x];
     if n <= start {
@@ -63,12 +63,12 @@ fn is_disordered(n: u32, starts: &[u32], x: usize) -> bool
 }
 
 // The lowest run that test 4 refuses, or the number of runs.
-pub(crate) fn first_disordered(n: u32, starts: &[u32]) -> usize
-    ensures { λ r. ⌜ ((images : List ℕ) → r ≡ lowestOf (disordered n) (runs (now (starts .entry)) images)) ⌝ }
+pub(crate) fn first_unordered(n: u32, starts: &[u32]) -> usize
+    ensures { λ r. ⌜ ((images : List ℕ) → r ≡ lowestOf (unordered n) (runs (now (starts .entry)) images)) ⌝ }
 {
     let mut x = 0;
     while x < starts.len() {
-        if is_disordered(n, starts, x) {
+        if is_unordered(n, starts, x) {
             return x;
         }
         x += 1;
@@ -77,9 +77,9 @@ pub(crate) fn first_disordered(n: u32, starts: &[u32]) -> usize
 }
 
 // The lowest run that test 5 refuses, or the number of runs.
-pub(crate) fn first_overrun(n: u32, starts: &[u32], images: &[u32]) -> usize
+pub(crate) fn first_out_of_range(n: u32, starts: &[u32], images: &[u32]) -> usize
     requires { ⌜ Lasting n (runs (now starts) (now images)) ⌝ }
-    ensures { λ r. ⌜ r ≡ lowestOf (overruns n) (runs (now (starts .entry)) (now (images .entry))) ⌝ }
+    ensures { λ r. ⌜ r ≡ lowestOf (outOfRange n) (runs (now (starts .entry)) (now (images .entry))) ⌝ }
 {
     let mut x = 0;
     while x < starts.len() {

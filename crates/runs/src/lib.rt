@@ -18,7 +18,7 @@ ghost use Rattle.runs.specs.Parts.{Roomy, CheckedInto, butForRoom};
 
 // Why a call is refused. specs/Refusal.antt gives the paper's number and place of each.
 pub enum Refusal {
-    Empty,
+    ListShape,
     TooManyRuns,
     FirstStart,
     StartOrder(u32),
@@ -41,7 +41,7 @@ impl Refusal {
         ensures { λ r. ⌜ r ≡ numberOf self ⌝ }
     {
         match self {
-            Refusal::Empty => 1,
+            Refusal::ListShape => 1,
             Refusal::TooManyRuns => 2,
             Refusal::FirstStart => 3,
             Refusal::StartOrder(_) => 4,
@@ -64,7 +64,7 @@ impl Refusal {
         ensures { λ r. ⌜ r ≡ placeOf self ⌝ }
     {
         match self {
-            Refusal::Empty => 0,
+            Refusal::ListShape => 0,
             Refusal::TooManyRuns => 0,
             Refusal::FirstStart => 0,
             Refusal::StartOrder(x) => x,
@@ -111,7 +111,7 @@ fn check_into(
     ensures { λ r. ⌜ CheckedInto n (runs (now (starts .entry)) (now (images .entry))) (now (order .exit)) r ⌝ }
 {
     if conditions::is_unmatched(n, starts, images) {
-        return Checked::Refused(Refusal::Empty);
+        return Checked::Refused(Refusal::ListShape);
     }
     let k = starts.len();
     if MAX_RUNS < k {
@@ -120,13 +120,13 @@ fn check_into(
     if starts[0] != 0 {
         return Checked::Refused(Refusal::FirstStart);
     }
-    let disordered = conditions::first_disordered(n, starts);
-    if disordered < k {
-        return Checked::Refused(Refusal::StartOrder(disordered as u32));
+    let unordered = conditions::first_unordered(n, starts);
+    if unordered < k {
+        return Checked::Refused(Refusal::StartOrder(unordered as u32));
     }
-    let overrun = conditions::first_overrun(n, starts, images);
-    if overrun < k {
-        return Checked::Refused(Refusal::ImageRange(overrun as u32));
+    let out_of_range = conditions::first_out_of_range(n, starts, images);
+    if out_of_range < k {
+        return Checked::Refused(Refusal::ImageRange(out_of_range as u32));
     }
     let overlap = sweep::first_overlap(n, starts, images, order, spare);
     if overlap < k {

@@ -5,7 +5,7 @@ use native.Mathlib.Omega.{arith}
 use borrow.Author.Needs.{needs}
 use Rattle.runs.specs.Runs.{Runs, runs}
 use Rattle.runs.specs.Check.{unmatched}
-use Rattle.runs.proofs.Checking.{refused-into, Begun, Rising, Within, matched, lasting, check-unmatched, check-too-many, check-first-start, check-disordered, check-overrun, check-overlap, check-accepts}
+use Rattle.runs.proofs.Checking.{refused-into, Begun, Rising, Within, matched, lasting, check-unmatched, check-too-many, check-first-start, check-unordered, check-out-of-range, check-overlap, check-accepts}
 use Rattle.runs.proofs.check_into.Statement.{statement}
 use Rattle.runs.proofs.check_into.Tie as tie
 
@@ -35,13 +35,13 @@ begun c = record { matched = matched-here (c .before .before .before); few = ome
 rising : (c : tie.Else4) → Rising (start₄ c .args .n) (list-of (start₄ c))
 rising c = record {
   begun = begun (c .before .before);
-  in-order = rw (c .before .first-disordered .ensures (start₄ c .args .images .now)) at (c .if4 .left);
+  in-order = rw (c .before .first-unordered .ensures (start₄ c .args .images .now)) at (c .if4 .left);
 }
 
 within : (c : tie.Else5) → Within (start₅ c .args .n) (list-of (start₅ c))
 within c = record {
   rising = rising (c .before .before);
-  within = rw (c .before .first-overrun .ensures) at (c .if5 .left);
+  within = rw (c .before .first-out-of-range .ensures) at (c .if5 .left);
 }
 
 is-unmatched-requires : tie.Need-is-unmatched-requires
@@ -61,8 +61,8 @@ returns-3 c =
     refused-into _ _ _ _
     (check-first-start _ _ (matched-here (c .before .before .before)) (omega arith) (c .if3 .taken))
 
-first-disordered-requires : tie.Need-first-disordered-requires
-first-disordered-requires c κs = search needs
+first-unordered-requires : tie.Need-first-unordered-requires
+first-unordered-requires c κs = search needs
 
 cast-t17 : tie.Need-cast-t17
 cast-t17 c = search needs
@@ -70,10 +70,10 @@ cast-t17 c = search needs
 returns-4 : tie.Need-returns-4
 returns-4 c =
     refused-into _ _ _ _
-    (check-disordered _ _ _ (omega arith) (begun (c .before .before)) (c .before .first-disordered .ensures _))
+    (check-unordered _ _ _ (omega arith) (begun (c .before .before)) (c .before .first-unordered .ensures _))
 
-first-overrun-requires : tie.Need-first-overrun-requires
-first-overrun-requires c κs = lasting _ _ (rising c)
+first-out-of-range-requires : tie.Need-first-out-of-range-requires
+first-out-of-range-requires c κs = lasting _ _ (rising c)
 
 cast-t19 : tie.Need-cast-t19
 cast-t19 c = search needs
@@ -81,7 +81,7 @@ cast-t19 c = search needs
 returns-5 : tie.Need-returns-5
 returns-5 c =
     refused-into _ _ _ _
-    (check-overrun _ _ _ (omega arith) (rising (c .before .before)) (c .before .first-overrun .ensures))
+    (check-out-of-range _ _ _ (omega arith) (rising (c .before .before)) (c .before .first-out-of-range .ensures))
 
 first-overlap-requires : tie.Need-first-overlap-requires
 first-overlap-requires c κs =
@@ -126,10 +126,10 @@ check-into-spec =
     returns-2
     shared-slice-read-if3
     returns-3
-    first-disordered-requires
+    first-unordered-requires
     cast-t17
     returns-4
-    first-overrun-requires
+    first-out-of-range-requires
     cast-t19
     returns-5
     first-overlap-requires

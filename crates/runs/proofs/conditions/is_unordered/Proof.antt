@@ -1,10 +1,10 @@
--- `is_disordered` meets its contract: by cases, in the order of test 4.
+-- `is_unordered` meets its contract: by cases, in the order of test 4.
 use native.Mathlib.Omega.{arith}
 use borrow.Author.Tests.{le-leb, lt-leb, lt-ltb, le-ltb}
 use borrow.Author.Needs.{needs}
-use Rattle.runs.specs.Check.{disordered}
-use Rattle.runs.proofs.conditions.is_disordered.Statement.{statement}
-use Rattle.runs.proofs.conditions.is_disordered.Tie as tie
+use Rattle.runs.specs.Check.{unordered}
+use Rattle.runs.proofs.conditions.is_unordered.Statement.{statement}
+use Rattle.runs.proofs.conditions.is_unordered.Tie as tie
 
 mul-start : tie.Need-mul-start
 mul-start c = search needs
@@ -13,11 +13,11 @@ shared-slice-read-start : tie.Need-shared-slice-read-start
 shared-slice-read-start c = search needs
 
 returns : tie.Need-returns
-unfolding disordered
+unfolding unordered
 returns c = λ images. simp (le-leb _ _ (c .if1 .taken))
 
 returns-2 : tie.Need-returns-2
-unfolding disordered
+unfolding unordered
 returns-2 c =
     λ images. let a = c .before .before .before .args in simp (lt-leb _ _ (c .before .if1 .left), le-ltb 0 (a .x) (omega arith))
 
@@ -31,12 +31,12 @@ shared-slice-read-result : tie.Need-shared-slice-read-result
 shared-slice-read-result c = search needs
 
 returns-3 : tie.Need-returns-3
-unfolding disordered
+unfolding unordered
 returns-3 c =
     λ images. let a = c .before .before .before .before .args in simp (lt-leb _ _ (c .before .before .if1 .left), lt-ltb 0 (a .x) (omega arith))
 
-pub is-disordered-spec : {M : Type 1} → statement M
-is-disordered-spec =
+pub is-unordered-spec : {M : Type 1} → statement M
+is-unordered-spec =
     tie.close
     (tie.spec
     mul-start

@@ -1,17 +1,17 @@
--- `first_overrun` meets its contract: a search for the lowest index with a property.
+-- `first_out_of_range` meets its contract: a search for the lowest index with a property.
 use Prim.Native.Nat.{_-_}
 use native.Mathlib.Omega.{arith}
 use lib.ListN.{length}
 use borrow.Author.Needs.{needs}
 use Rattle.runs.specs.Runs.{runs}
-use Rattle.runs.specs.Check.{overruns}
-use Rattle.runs.proofs.Checking.{overruns-true, overruns-false}
+use Rattle.runs.specs.Check.{outOfRange}
+use Rattle.runs.proofs.Checking.{out-of-range-true, out-of-range-false}
 use Rattle.runs.proofs.Searching.{Searched, searched-none, searched-hit, searched-next, searched-end}
-use Rattle.runs.proofs.conditions.first_overrun.Statement.{statement}
-use Rattle.runs.proofs.conditions.first_overrun.Tie as tie
+use Rattle.runs.proofs.conditions.first_out_of_range.Statement.{statement}
+use Rattle.runs.proofs.conditions.first_out_of_range.Tie as tie
 
 abbrev Inv-loop : tie.InvT-loop
-Inv-loop n starts images x₀ x = Searched (overruns n (runs starts images)) (length starts) x
+Inv-loop n starts images x₀ x = Searched (outOfRange n (runs starts images)) (length starts) x
 
 abbrev μ-loop : tie.MeasureT-loop
 μ-loop n starts images x₀ x = length starts - x
@@ -27,7 +27,7 @@ image-end-requires c κs = (omega arith, c .before .before .before .before .befo
 
 returns : tie.Need-returns Inv-loop μ-loop
 returns c =
-    searched-hit _ _ _ (c .before .before .before .before .loop .inv) (omega arith) (overruns-true _ _ _ (omega arith))
+    searched-hit _ _ _ (c .before .before .before .before .loop .inv) (omega arith) (out-of-range-true _ _ _ (omega arith))
 
 add-x : tie.Need-add-x Inv-loop μ-loop
 add-x c = omega arith
@@ -38,13 +38,13 @@ loop-less c = omega arith
 loop-again : tie.Need-loop-again Inv-loop μ-loop
 loop-again c =
     searched-next _ _ _ (c .before .before .before .before .loop .inv) (omega arith)
-    (overruns-false _ _ _ (omega arith))
+    (out-of-range-false _ _ _ (omega arith))
 
 returns-2 : tie.Need-returns-2 Inv-loop μ-loop
 returns-2 c = searched-end _ _ _ (c .before .loop .inv) (omega arith)
 
-pub first-overrun-spec : {M : Type 1} → statement M
-first-overrun-spec =
+pub first-out-of-range-spec : {M : Type 1} → statement M
+first-out-of-range-spec =
     tie.close
     (tie.spec
     Inv-loop
