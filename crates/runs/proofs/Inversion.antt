@@ -10,7 +10,8 @@ use Rattle.order.specs.Order.{keyOf, orderOf}
 use Rattle.order.proofs.Laws.{lt-or-le, length-sort, length-up, order-length, pairwise-at, getD-map}
 use Rattle.runs.specs.Outcome.{done}
 use Rattle.runs.specs.Runs.{Runs, runs, countOf, startOf, imageOf, endOf, imageEnd, carry, mapOf}
-use Rattle.runs.specs.Legal.{Legal, ranked}
+use Rattle.runs.specs.Legal.{Legal}
+use Rattle.runs.specs.Parts.{ranked}
 use Rattle.runs.specs.Check.{checkOf}
 use Rattle.runs.specs.Inverse.{inverseRuns}
 use Rattle.runs.proofs.Legality.{homes, home, home-one, map-at, end-next, end-last}

@@ -34,12 +34,22 @@ pub record Parted (n : ℕ) (r : Runs) : Type 0 where
   pub lasting : (x : ℕ) → x < countOf r → startOf r x < endOf n r x
   pub ending : (x : ℕ) → x < countOf r → endOf n r x ≤ n
 
-pub homes : (n : ℕ) (r : Runs) → Legal n r → Parted n r
-homes n r c = record { some = c .some; first = c .first; up = strict-steps (r .starts) (c .rising); lasting = λ x h. at x h (lt-or-le (suc x) (countOf r)) .0; ending = λ x h. at x h (lt-or-le (suc x) (countOf r)) .1 }
+pub parted : (n : ℕ) (r : Runs) → 0 < countOf r → startOf r 0 ≡ 0
+    → ((x : ℕ) → suc x < countOf r → startOf r x < startOf r (suc x)) → ((x : ℕ) → x < countOf r → startOf r x < n) → Parted n r
+parted n r some first rising below = record {
+  some = some;
+  first = first;
+  up = strict-steps (r .starts) rising;
+  lasting = λ x h. at x h (lt-or-le (suc x) (countOf r)) .0;
+  ending = λ x h. at x h (lt-or-le (suc x) (countOf r)) .1;
+}
   where
     at : (x : ℕ) → x < countOf r → (suc x < countOf r) ⊎ (countOf r ≤ suc x) → (startOf r x < endOf n r x) × (endOf n r x ≤ n)
-    at x h (inl l) = omega (arith, end-next n r x l, c .rising x l, c .below (suc x) l)
-    at x h (inr l) = omega (arith, end-last n r x l, c .below x h)
+    at x h (inl l) = omega (arith, end-next n r x l, rising x l, below (suc x) l)
+    at x h (inr l) = omega (arith, end-last n r x l, below x h)
+
+pub homes : (n : ℕ) (r : Runs) → Legal n r → Parted n r
+homes n r c = parted n r (c .some) (c .first) (c .rising) (c .below)
 
 module _ (n : ℕ) (r : Runs) (c : Parted n r) where
   end-before : (x y : ℕ) → x < y → y < countOf r → endOf n r x ≤ startOf r y
@@ -88,6 +98,15 @@ length-sum n r c = omega (arith, lengths n (r .starts) (c .lasting), getD-defaul
 abbrev pub lands : ℕ → Runs → ℕ → ℕ → Bool
 lands n r p x = inside (imageOf r x) (imageEnd n r x) p
 
+-- the places below e, each counted for every image that it lies in, where no image reaches beyond e
+pub lands-total : (n : ℕ) (r : Runs) → Parted n r → (e : ℕ) → ((x : ℕ) → x < countOf r → imageEnd n r x ≤ e)
+    → sumTo e (λ p. tally (countOf r) (lands n r p)) ≡ n
+lands-total n r c e within =
+    sum-swap e (countOf r) (λ p x. bit (lands n r p x))
+    ∙ sum-same (countOf r) (λ x. tally e (λ p. lands n r p x)) (lengthOf n r)
+    (λ x h. omega (arith, tally-inside e (imageOf r x) (imageEnd n r x) (omega arith) (within x h)))
+    ∙ length-sum n r c
+
 module _ (n : ℕ) (r : Runs) (c : Legal n r) where
   -- no place lies in two images
   pub land-one : (p x y : ℕ) → x < countOf r → y < countOf r → lands n r p x ≡ true → lands n r p y ≡ true → x ≡ y
@@ -98,12 +117,9 @@ module _ (n : ℕ) (r : Runs) (c : Legal n r) where
 
   -- each place lies in one image
   pub landed : (p : ℕ) → p < n → tally (countOf r) (lands n r p) ≡ 1
-  landed = sum-full n (λ p. tally (countOf r) (lands n r p)) (λ p h. tally-one (countOf r) (lands n r p) (land-one p)) (omega (arith, total))
-    where
-      total : sumTo n (λ p. tally (countOf r) (lands n r p)) ≡ n
-      total = sum-swap n (countOf r) (λ p x. bit (lands n r p x))
-          ∙ sum-same (countOf r) (λ x. tally n (λ p. lands n r p x)) (lengthOf n r) (λ x h. omega (arith, tally-inside n (imageOf r x) (imageEnd n r x) (omega arith) (c .within x h)))
-          ∙ length-sum n r (homes n r c)
+  landed =
+      sum-full n (λ p. tally (countOf r) (lands n r p)) (λ p h. tally-one (countOf r) (lands n r p) (land-one p))
+      (omega (arith, lands-total n r (homes n r c) n (c .within)))
 
   pub land : (p : ℕ) → p < n → (x : ℕ) × (x < countOf r) × (imageOf r x ≤ p) × (p < imageEnd n r x)
   land p h =

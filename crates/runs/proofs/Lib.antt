@@ -12,7 +12,8 @@ pub mod Accepted
 pub mod Intervals
 pub mod Bijection
 pub mod Tiling
+pub mod Sequences
 pub mod Inversion
 mod Writing
 mod Roomless
-mod Shifting
+pub mod Shifting

@@ -9,8 +9,7 @@ use lib.Seq.{take-at, getD-take}
 use Rattle.order.specs.Order.{keyOf, orderOf}
 use Rattle.order.proofs.Laws.{order-length, order-below, order-keys, order-occurs, order-injective}
 use Rattle.runs.specs.Runs.{Runs, countOf, imageOf}
-use Rattle.runs.specs.Legal.{ranked}
-use Rattle.runs.specs.Parts.{Ordered}
+use Rattle.runs.specs.Parts.{ranked, Ordered}
 
 -- the order by image, over all runs
 module _ (r : Runs) (p : length (r .images) ≡ countOf r) where

@@ -5,10 +5,17 @@ use mathlib.Core.Logic.{_⊎_, inl, inr}
 use native.Mathlib.Omega.{arith}
 use Rattle.order.proofs.Laws.{lt-or-le}
 use Rattle.runs.specs.Runs.{Runs, countOf, imageOf, imageEnd}
-use Rattle.runs.specs.Legal.{Legal, Tiled, ranked}
+use Rattle.runs.specs.Legal.{Legal}
+use Rattle.runs.specs.Parts.{ranked}
 use Rattle.runs.proofs.Legality.{homes, land}
 use Rattle.runs.proofs.Ranking.{ranked-below, ranked-rises, ranked-occurs, ranked-one}
 use Rattle.runs.proofs.Intervals.{legal-disjoint}
+
+-- in the order by image each image ends where the next begins, from 0 to n
+pub record Tiled (n : ℕ) (r : Runs) : Type 0 where
+  pub from : imageOf r (ranked r 0) ≡ 0
+  pub next : (j : ℕ) → suc j < countOf r → imageOf r (ranked r (suc j)) ≡ imageEnd n r (ranked r j)
+  pub last : (j : ℕ) → suc j ≡ countOf r → imageEnd n r (ranked r j) ≡ n
 
 module _ (n : ℕ) (r : Runs) (c : Legal n r) where
   -- an image has a place

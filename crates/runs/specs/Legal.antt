@@ -1,15 +1,13 @@
--- A legal list as document 01 says it, the disjoint interval sequence as source document 002 does, and the tiling of
--- the places by images. That the three agree is proved (proofs/).
+-- A legal list as document 01 has it, and the disjoint interval sequence in the words of source document 002 and of
+-- Nishimoto and Tabei. That the three agree is proved (proofs/Intervals, proofs/Sequences).
 use Prim.Native.Nat.{ℕ, suc, _+_, _≤_, _<_}
 use mathlib.Core.Path.{_≡_}
 use mathlib.Core.Logic.{_⊎_, _≢_}
 use mathlib.Core.List.{List}
 use lib.ListN.{length, getD}
-use Rattle.order.specs.Order.{orderOf}
 use Rattle.runs.specs.Runs.{Runs, countOf, startOf, imageOf, lengthOf, imageEnd}
 
--- "A list is legal when the first start is 0, starts rise strictly and lie below n, each image plus length is at most
--- n, and no place lies in two images."
+-- Legal: starts rise strictly from 0 and stay below n, no image reaches beyond n, and images share no place.
 pub record Legal (n : ℕ) (r : Runs) : Type 0 where
   pub some : 0 < countOf r
   pub paired : length (r .images) ≡ countOf r
@@ -36,12 +34,18 @@ pub record DisjointIntervals (n : ℕ) (r : Runs) : Type 0 where
   pub disjoint : (x y : ℕ) → x < countOf r → y < countOf r → x ≢ y
       → (imageOf r x + getD lengths x 0 ≤ imageOf r y) ⊎ (imageOf r y + getD lengths y 0 ≤ imageOf r x)
 
--- Nishimoto and Tabei's own form: in rising order the output intervals follow on each other, from 0 to n. The order is
--- that of the runs by image.
-abbrev pub ranked : Runs → ℕ → ℕ
-ranked r j = getD (orderOf (r .images)) j 0
-
-pub record Tiled (n : ℕ) (r : Runs) : Type 0 where
-  pub from : imageOf r (ranked r 0) ≡ 0
-  pub next : (j : ℕ) → suc j < countOf r → imageOf r (ranked r (suc j)) ≡ imageEnd n r (ranked r j)
-  pub last : (j : ℕ) → suc j ≡ countOf r → imageEnd n r (ranked r j) ≡ n
+-- Nishimoto and Tabei, counted from 0: starts rise strictly from 0 and lie below n, and there is an order of the k runs,
+-- each once, in which the first image is 0 and each next image is the one before plus that run's length.
+pub record IntervalSequence (n : ℕ) (r : Runs) : Type 0 where
+  pub some : 0 < countOf r
+  pub paired : length (r .images) ≡ countOf r
+  pub first : startOf r 0 ≡ 0
+  pub rising : (x : ℕ) → suc x < countOf r → startOf r x < startOf r (suc x)
+  pub below : (x : ℕ) → x < countOf r → startOf r x < n
+  -- the run that stands at j in the order
+  pub order : ℕ → ℕ
+  pub runs-only : (j : ℕ) → j < countOf r → order j < countOf r
+  pub each : (x : ℕ) → x < countOf r → (j : ℕ) × (j < countOf r) × (order j ≡ x)
+  pub once : (i j : ℕ) → i < countOf r → j < countOf r → order i ≡ order j → i ≡ j
+  pub from : imageOf r (order 0) ≡ 0
+  pub next : (j : ℕ) → suc j < countOf r → imageOf r (order (suc j)) ≡ imageOf r (order j) + lengthOf n r (order j)

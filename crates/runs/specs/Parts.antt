@@ -3,14 +3,13 @@ use Prim.Native.Nat.{ℕ, suc, _≤_, _<_}
 use mathlib.Core.Path.{_≡_}
 use mathlib.Core.Bool.{Bool, _&&_, _||_}
 use mathlib.Core.List.{List, [], _∷_}
-use lib.ListN.{length, take}
+use lib.ListN.{length, getD, take}
 use lib.Dec.{ltb, eqb}
 use Rattle.order.specs.Order.{orderOf}
 use Rattle.runs.specs.Outcome.{Outcome, Test, done, refused, test, judge, mapDone, filled, _then_else_}
 use Rattle.runs.specs.Refusal.{checkedSays}
 use Rattle.runs.specs.Search.{firstBelow}
 use Rattle.runs.specs.Runs.{Runs, countOf, startOf, imageOf, endOf}
-use Rattle.runs.specs.Legal.{ranked}
 use Rattle.runs.specs.Check.{maxRuns, overlaps, checkOf}
 use Rattle.runs.specs.Inverse.{inverseRuns}
 use Rattle.runs.specs.declared.Checked.{Checked}
@@ -18,6 +17,10 @@ use Rattle.runs.specs.declared.Checked.{Checked}
 -- the lowest run with the property, or the number of runs
 abbrev pub lowestOf : (Runs → ℕ → Bool) → Runs → ℕ
 lowestOf p r = firstBelow (p r) (countOf r)
+
+-- the run at j in the order by image
+abbrev pub ranked : Runs → ℕ → ℕ
+ranked r j = getD (orderOf (r .images)) j 0
 
 -- each run has a length, and an image
 pub record Lasting (n : ℕ) (r : Runs) : Type 0 where

@@ -4,6 +4,6 @@ mod Passing
 mod Steps
 pub mod Moves
 mod Sources
-mod Stretches
+pub mod Stretches
 pub mod Walks
 pub mod LegalTables

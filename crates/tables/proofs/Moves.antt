@@ -17,13 +17,13 @@ use Rattle.runs.specs.Outcome.{Outcome, done, refused, judge, mapDone, andThen,
 use Rattle.runs.specs.Search.{leading}
 use Rattle.runs.specs.Runs.{carry}
 use Rattle.tables.specs.Tables.{Tables, holderOf, maxIntervals, unheld, broken, brokenTest}
-use Rattle.tables.specs.Move.{passed, stepOf, moveOf, movesOf, counted, onwards}
+use Rattle.tables.specs.Move.{passed, stepOf, moveOf, movesOf, counted, onwards, Stopped}
 use Rattle.tables.specs.Passed.{Shaped, Located, advanceOf}
 use Rattle.tables.specs.declared.Step.{Step}
 use Rattle.runs.proofs.Judging.{done-refused, judge-first}
 use Rattle.tables.proofs.Leading.{leading-within, leading-last, leading-next}
 use Rattle.tables.proofs.Passing.{whole-is, held-is}
-use Rattle.tables.proofs.Steps.{locate-in, located, move-is, move-located}
+use Rattle.tables.proofs.Steps.{locate-in, located, move-is, move-located, advance-broken}
 
 -- where the walk from interval h to place j ends
 module _ (l : List ℕ) (h j : ℕ) (i : h < length l) where
@@ -154,16 +154,6 @@ module _ (n : ℕ) (t : Tables) (x i m place interval count made : ℕ)
   pub walking-end : m ≤ made → done (record { place = place; interval = interval; count = count }) ≡ movesOf n t m x i
   walking-end l = let z : made ≡ m = omega (arith, w .within) in rw z at (w .said)
 
--- where a repeated move stopped: after some moves, at an interval that is broken, with 12 and that interval
-pub record Stopped (n : ℕ) (t : Tables) (m x i number place : ℕ) : Type 0 where
-  pub made : ℕ
-  pub fewer : made < m
-  pub step : Step
-  pub so-far : movesOf n t made x i ≡ done step
-  pub twelve : number ≡ 12
-  pub there : place ≡ step .interval
-  pub cause : broken n t (step .interval) (step .place) ≡ true
-
 module _ (n : ℕ) (t : Tables) (x i : ℕ) (l : Located n t x i) where
   -- on the way the place lies in its interval
   pub moves-located : (m : ℕ) (s : Step) → movesOf n t m x i ≡ done s → Located n t (s .interval) (s .place)
@@ -200,7 +190,17 @@ module _ (n : ℕ) (t : Tables) (x i : ℕ) (l : Located n t x i) where
           → Stopped n t (suc m) x i p q
       at a f true g h =
           let z : refused 12 (a .interval) ≡ refused p q = h in
-          record { made = m; fewer = omega arith; step = a; so-far = f; twelve = cc; there = cc; cause = g }
+          record {
+            made = m;
+            fewer = omega arith;
+            step = a;
+            so-far = f;
+            stuck =
+                move-located n t (a .interval) (a .place) (moves-located m a f)
+                ∙ sym (advance-broken n t (a .interval) (a .place) g);
+            twelve = cc;
+            there = cc;
+          }
       at a f false g h = absurd (done-refused _ p q h)
 
       go : (o : Outcome Step) → movesOf n t m x i ≡ o → andThen o (onwards n t) ≡ refused p q
@@ -215,16 +215,16 @@ module _ (n : ℕ) (t : Tables) (x i : ℕ) (l : Located n t x i) where
             fewer = omega arith;
             step = s .step;
             so-far = s .so-far;
+            stuck = s .stuck;
             twelve = s .twelve;
             there = s .there;
-            cause = s .cause;
           }
 
--- so a refused repeated move is refused by its first tests, or with 12
+-- so a refused repeated move is refused by its first tests, or stopped on the way
 pub moves-order : (n : ℕ) (t : Tables) (m x i p q : ℕ) → movesOf n t m x i ≡ refused p q
-    → (movesOf n t 0 x i ≡ refused p q) ⊎ (p ≡ 12)
+    → (movesOf n t 0 x i ≡ refused p q) ⊎ Stopped n t m x i p q
 moves-order n t m x i p q e = go (movesOf n t 0 x i) refl
   where
-    go : (o : Outcome Step) → movesOf n t 0 x i ≡ o → (movesOf n t 0 x i ≡ refused p q) ⊎ (p ≡ 12)
-    go (done s) f = inr (moves-stopped n t x i (located n t x i s (sym f)) m p q e .twelve)
+    go : (o : Outcome Step) → movesOf n t 0 x i ≡ o → (movesOf n t 0 x i ≡ refused p q) ⊎ Stopped n t m x i p q
+    go (done s) f = inr (moves-stopped n t x i (located n t x i s (sym f)) m p q e)
     go (refused v w) f = inl (f ∙ moves-refused n t 0 m x i v w (omega arith) (sym f) ∙ e)

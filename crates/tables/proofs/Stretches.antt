@@ -5,7 +5,7 @@ use mathlib.Core.Bool.{Bool, true, false}
 use mathlib.Core.Logic.{_≢_}
 use mathlib.Core.List.{[]}
 use native.Mathlib.Omega.{arith}
-use lib.ListN.{take, drop}
+use lib.ListN.{length, take, drop, length-take, length-drop}
 use lib.Dec.{ltb, leb, eqb, leb·suc-suc}
 use borrow.Author.Tests.{lt-ltb, le-ltb, le-leb, lt-leb, leb-false, eq-eqb, ne-eqb}
 use Rattle.order.proofs.Laws.{or-false}
@@ -123,6 +123,18 @@ module _ (n : ℕ) (t : Tables) (x : ℕ) where
     pub under-part : (f : ℕ) → f ≡ underFirst t x → take (f + w - f) (drop f (t .list .starts)) ≡ startsUnderOf n t x
     unfolding startsUnderOf stretch
     under-part f p = let z : f + w - f ≡ w = omega arith in rw (← e, z, p)
+
+    -- the part handed back has as many starts as the weight says
+    pub under-length : length (startsUnderOf n t x) ≡ w
+    unfolding startsUnderOf stretch
+    under-length =
+        rw (← e)
+        (omega (
+          arith,
+          length-take w (drop (underFirst t x) (t .list .starts)),
+          length-drop (underFirst t x) (t .list .starts),
+          stretch-within (underFirst t x) refl,
+        ))
 
   pub under-none : (k p : ℕ) → refused k p ≡ weightOf n t x → [] ≡ startsUnderOf n t x
   unfolding startsUnderOf stretch

@@ -1,10 +1,11 @@
 -- Find, move and repeated move (document 01, "Walking"), on any tables.
-use Prim.Native.Nat.{ℕ, zero, suc, _+_}
+use Prim.Native.Nat.{ℕ, zero, suc, _+_, _<_}
+use mathlib.Core.Path.{_≡_}
 use mathlib.Core.Bool.{_||_}
 use mathlib.Core.List.{List, [], _∷_}
 use lib.ListN.{drop}
 use lib.Dec.{ltb, leb}
-use Rattle.runs.specs.Outcome.{Outcome, done, Test, test, judge, mapDone, andThen}
+use Rattle.runs.specs.Outcome.{Outcome, done, refused, Test, test, judge, mapDone, andThen}
 use Rattle.runs.specs.Refusal.{refusalSays}
 use Rattle.runs.specs.Search.{leading}
 use Rattle.runs.specs.Runs.{startOf, carry}
@@ -63,3 +64,14 @@ onwards n t s = mapDone (counted (s .count)) (moveOf n t (s .interval) (s .place
 unfoldable pub movesOf : ℕ → Tables → ℕ → ℕ → ℕ → Outcome Step
 movesOf n t zero x i = judge (locateTests n t x i) (record { place = i; interval = x; count = 0 })
 movesOf n t (suc m) x i = andThen (movesOf n t m x i) (onwards n t)
+
+-- Where a repeated move stopped on the way: after fewer moves than it was asked for, it stood in an interval that it
+-- could not leave. It gives 12 and that interval, and no part of what it had walked.
+pub record Stopped (n : ℕ) (t : Tables) (m x i number place : ℕ) : Type 0 where
+  pub made : ℕ
+  pub fewer : made < m
+  pub step : Step
+  pub so-far : movesOf n t made x i ≡ done step
+  pub stuck : moveOf n t (step .interval) (step .place) ≡ refused 12 (step .interval)
+  pub twelve : number ≡ 12
+  pub there : place ≡ step .interval
