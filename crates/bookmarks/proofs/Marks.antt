@@ -1,6 +1,6 @@
 -- A bookmark's move is a move with test 13 after it; a refusal leaves the bookmark as it was.
 use Prim.Native.Nat.{ℕ, _+_, _-_, _^_, _≤_, _<_}
-use mathlib.Core.Path.{_≡_, sym, ap, _∙_}
+use mathlib.Core.Path.{_≡_, refl, sym, ap, _∙_}
 use mathlib.Core.Bool.{Bool, true, false}
 use mathlib.Core.Logic.{_⊎_, inl, inr}
 use native.Mathlib.Omega.{arith}
@@ -86,3 +86,13 @@ module _ (n : ℕ) (t : Tables) (b : Bookmark) where
   bookmark-on s e =
       let z = judge-done (moveTests n t (b .interval) (b .place)) (stepOf t (b .interval) (b .place)) s (sym e) in
       rw (bookmark-is, ← e) (ap (markOf b) (sym z))
+
+  -- where the move is made, the counters decide
+  pub bookmark-overflow : (s : Step) → moveOf n t (b .interval) (b .place) ≡ done s → 4294967295 ≤ b .moves
+      → bookmarkOf n t b ≡ refused 13 0
+  unfolding markOf judge overflows
+  bookmark-overflow s e h = sym (bookmark-on s (sym e)) ∙ simp (le-leb (2 ^ 32) (b .moves + 1) (omega arith))
+
+  pub bookmark-goes : (s : Step) → moveOf n t (b .interval) (b .place) ≡ done s → b .moves + 1 < 2 ^ 32
+      → b .passed + s .count < 2 ^ 64 → bookmarkOf n t b ≡ done s
+  bookmark-goes s e l m = sym (bookmark-on s (sym e)) ∙ sym (mark-on b s _ refl (no-overflow b s l m))

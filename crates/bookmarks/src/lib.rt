@@ -1,7 +1,7 @@
 // Bookmarks: walks through the tables of a run list that their owners keep and move on.
 //
 // Each operation's contract gives the answer and the bookmark after it by their definitions in specs/, for any bookmark
-// and any tables. On the tables of a legal list a bookmark follows the list's function (proofs/LegalMarks).
+// and any tables. On the tables of a legal list a bookmark follows the list's function (demand 2).
 mod marking;
 
 use tables::Moved;

@@ -3,24 +3,30 @@
 use Prim.Native.Nat.{ℕ, zero, suc, suc-le-suc}
 use mathlib.Core.Path.{_≡_, refl, sym, _∙_}
 use mathlib.Core.Bool.{Bool, true, false}
-use mathlib.Core.List.{List, [], _∷_}
+use mathlib.Core.List.{List, [], _∷_, map}
 use native.Mathlib.Nat.{not-suc-le-zero, le-of-suc-le-suc}
 use native.Mathlib.Omega.{arith}
 use lib.ListN.{length}
 use Rattle.runs.specs.Outcome.{Outcome, done, refused, Test, test, judge, mapDone, filled, _then_else_}
 use Rattle.runs.specs.Refusal.{checkedSays}
 use Rattle.runs.specs.Runs.{Runs}
-use Rattle.runs.specs.Check.{listTests, checkTests}
+use Rattle.runs.specs.Check.{listTests, checkTests, checkOf}
 use Rattle.runs.specs.Inverse.{inverseListOf, InverseListed}
 use Rattle.runs.specs.declared.Checked.{Checked}
 use Rattle.runs.proofs.Judging.{done-refused}
 use Rattle.tables.specs.Tables.{sizeOf}
+use Rattle.tables.specs.Move.{findOf, moveOf, movesOf}
+use Rattle.tables.specs.Inverse.{inverseOf}
+use Rattle.tables.specs.Under.{weightOf}
 use Rattle.tables.proofs.Moves.{moves-order}
+use Rattle.tables.proofs.Stretches.{under-length, under-none}
+use Rattle.bookmarks.specs.Bookmark.{bookmarkOf}
 use Rattle.bookmarks.proofs.Marks.{bookmark-kept}
 use Rattle.balance.specs.Lent.{Lent, balancedSays, balanceOf, Balances}
 use Rattle.balance.specs.declared.Balanced.{Balanced}
-use Rattle.listfile.specs.File.{countTests, layoutTests, headerTests, bodyTests, fileTests}
-use Rattle.demands.specs.Demands.{NoneOf, RefusedBy, Demand1}
+use Rattle.listfile.specs.File.{countTests, layoutTests, headerTests, bodyTests, fileTests, fileOf}
+use Rattle.demands.specs.Judged.{NoneOf, RefusedBy, Judged}
+use Rattle.demands.specs.Demands.{Demand1}
 
 -- the first test decides, or the others do
 none-first : (t : Test) (ts : List Test) (i : ℕ) → t .applies ≡ false → NoneOf i ts → NoneOf (suc i) (t ∷ ts)
@@ -89,21 +95,26 @@ balance-kept n r d entry exit o c k p e =
     let w = c .working ∙ filled-refused _ _ k p (entry .working) q in
     λ j. record { starts = s j; images = i j; holders = h j; working = w j }
 
+-- what `judge` gives is judged
+judged : {A : Type 0} (order : List ℕ) (ts : List Test) (a : A) → map (λ t. t .number) ts ≡ order → Judged order ts a (judge ts a)
+judged order ts a e = record { in-order = e; when-done = judge-passes a ts; when-refused = judge-refuses a ts }
+
 pub demand1 : Demand1
-unfolding listTests checkTests countTests layoutTests headerTests bodyTests fileTests
+unfolding listTests checkTests countTests layoutTests headerTests bodyTests fileTests checkOf inverseListOf balanceOf findOf moveOf movesOf inverseOf weightOf bookmarkOf fileOf
 demand1 = record {
-  judged = λ A ts a. record { when-done = judge-passes a ts; when-refused = judge-refuses a ts };
-  check-order = λ n r. refl;
-  inverse-list-order = λ n r a b. refl;
-  balance-order = λ n r d l. refl;
-  find-order = λ n t i. refl;
-  move-order = λ n t x i. refl;
-  no-move-order = λ n t x i. refl;
-  inverse-order = λ n t j. refl;
-  under-order = λ n t x. refl;
-  bookmark-order = λ n t b. refl;
-  file-order = λ most bytes. refl;
-  moves-order = moves-order;
+  check = λ n r. judged _ _ _ refl;
+  inverse-list = λ n r a b. judged _ _ _ refl;
+  balance = λ n r d l. judged _ _ _ refl;
+  find = λ n t i. judged _ _ _ refl;
+  move = λ n t x i. judged _ _ _ refl;
+  no-move = λ n t x i. judged _ _ _ refl;
+  moves = moves-order;
+  inverse = λ n t j. judged _ _ _ refl;
+  weight = λ n t x. judged _ _ _ refl;
+  under-refused = λ n t x k p e. sym (under-none n t x k p (sym e));
+  under-size = λ n t x w e. under-length n t x w (sym e);
+  bookmark = λ n t b. judged _ _ _ refl;
+  file = λ most bytes. judged _ _ _ refl;
   inverse-list-kept = inverse-list-kept;
   balance-kept = balance-kept;
   bookmark-kept = bookmark-kept;

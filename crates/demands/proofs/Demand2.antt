@@ -1,4 +1,4 @@
--- Demand 2: acceptance is `check`'s own theorem (runs/proofs/Intervals), and the walks through a list's own tables and
+-- Demand 2: acceptance is `check`'s own theorem (runs/proofs/Sequences, Intervals), and the walks through a list's own tables and
 -- through those of its balanced list are one theorem (Through), since both lists are legal and have one function.
 use Prim.Native.Nat.{ℕ, _≤_}
 use mathlib.Core.Path.{refl}
@@ -7,6 +7,7 @@ use Rattle.runs.specs.Runs.{Runs, countOf}
 use Rattle.runs.specs.Legal.{Legal}
 use Rattle.runs.specs.Check.{maxRuns}
 use Rattle.runs.proofs.Accepted.{accepted-legal}
+use Rattle.runs.proofs.Sequences.{accepted-sequence, sequence-accepted}
 use Rattle.runs.proofs.Intervals.{accepted-intervals, intervals-accepted}
 use Rattle.tables.specs.Tables.{maxIntervals}
 use Rattle.balance.specs.Balance.{balanced}
@@ -24,7 +25,8 @@ module _ (n : ℕ) (r : Runs) (c : Legal n r) (k : countOf r ≤ maxRuns) (d : �
 
 pub demand2 : Demand2
 demand2 = record {
-  accepted = λ n r. (accepted-intervals n r, λ h. intervals-accepted n r (h .0) (h .1));
+  accepted = λ n r. (accepted-sequence n r, λ h. sequence-accepted n r (h .0) (h .1));
+  accepted-disjoint = λ n r. (accepted-intervals n r, λ h. intervals-accepted n r (h .0) (h .1));
   own-tables = λ n r a. let l = accepted-legal n r a in through n r r (l .0) (l .0) (omega (arith, l .1)) (λ p h. refl);
   balanced-tables = λ n r d a many few. let l = accepted-legal n r a in through-balanced n r (l .0) (l .1) d many;
 }

@@ -1,12 +1,13 @@
 -- Demand 3. What `balance` promises puts the tables of the balanced list at the head of the lent ones; through these the
 -- single calls are the plain walk's, so whole lists of calls are (Serving, Marking); and since no interval is heavy, no
 -- move passes more than 2d − 1 starts (Counting).
-use Prim.Native.Nat.{ℕ, suc, _-_, _*_, _≤_, _<_}
+use Prim.Native.Nat.{ℕ, zero, suc, _-_, _*_, _≤_, _<_}
 use mathlib.Core.Path.{_≡_, sym, ap, _∙_}
-use mathlib.Core.List.{List, [], _∷_, _++_}
+use mathlib.Core.List.{List, [], _∷_, _++_, map}
 use native.Mathlib.Omega.{arith}
 use lib.ListN.{length}
 use borrow.Author.Tests.{le-ltb}
+use Rattle.order.specs.Order.{All}
 use Rattle.runs.specs.Outcome.{done, refused, judge, andThen}
 use Rattle.runs.specs.Runs.{Runs, countOf, startOf, imageOf, endOf, runAt, carry, mapOf}
 use Rattle.runs.specs.Legal.{Legal}
@@ -14,23 +15,24 @@ use Rattle.runs.specs.Check.{maxRuns, checkTests, checkOf}
 use Rattle.runs.proofs.Judging.{judge-append}
 use Rattle.runs.proofs.Accepted.{accepted-legal}
 use Rattle.runs.proofs.Legality.{homes, home, run-at}
-use Rattle.tables.specs.Tables.{Tables, tablesOf}
+use Rattle.tables.specs.Tables.{tablesOf, maxIntervals}
 use Rattle.tables.specs.Under.{weight}
 use Rattle.bookmarks.specs.Bookmark.{fresh, Marking, markingsOf}
 use Rattle.tables.proofs.Walks.{above-to, walk-bound}
 use Rattle.tables.proofs.LegalTables.{legal-find-beyond}
 use Rattle.tables.specs.Move.{findOf}
 use Rattle.balance.specs.Balance.{balanced, boundOf}
-use Rattle.balance.specs.Lent.{Lent, firstOf, balanceOf, tooShort}
+use Rattle.balance.specs.Lent.{Lent, balanceOf, tooShort}
 use Rattle.balance.proofs.Heads.{answer-is, head-is}
 use Rattle.balance.proofs.Balancing.{balanced-legal, balanced-map, balanced-light, balanced-count}
-use Rattle.demands.specs.PlainWalk.{plainMove, walkCounts, plainTrail}
-use Rattle.demands.specs.Served.{servedTrail}
+use Rattle.demands.specs.Calls.{Call, total, countIn, Bounded}
+use Rattle.demands.specs.PlainWalk.{plainMove, plainMoves, walkCounts, plainTrail}
+use Rattle.demands.specs.Served.{served, servedTrail}
 use Rattle.demands.specs.Demands.{Through, Roomy, Serves, Demand3}
 use Rattle.demands.proofs.Demand2.{balanced-few, through-balanced}
 use Rattle.demands.proofs.Serving.{same-replies}
-use Rattle.demands.proofs.Counting.{counts-length, counts-sum, counts-most, sum-most}
-use Rattle.demands.proofs.Marking.{same-trail, advancing-served, trail-last}
+use Rattle.demands.proofs.Counting.{counts-length, counts-sum, counts-most, all-most}
+use Rattle.demands.proofs.Marking.{fresh-stands, same-trail, trail-bounds, end-bounds, advance-bounds, advancing-served, trail-last}
 
 -- balancing an accepted list into roomy tables is not refused
 balance-done : (n : ℕ) (r : Runs) (d : ℕ) (l : Lent) → checkOf n r ≡ done tt → 2 ≤ d → d ≤ 64 → Roomy (boundOf d (countOf r)) l
@@ -72,10 +74,12 @@ module _ (n : ℕ) (r : Runs) (d : ℕ) (c : Legal n r) (k : countOf r ≤ maxRu
   most : (p : ℕ) → p < n → plainMove n r t p .count ≤ 2 * d - 1
   most = move-most n d r t (balanced-legal d n many r c) (balanced-map d n many r c) (balanced-light d n many r c)
 
+  small : 2 * d - 1 ≤ maxIntervals
+  small = omega arith
+
   fresh-trail : (m p : ℕ) → p < n → servedTrail n (tablesOf n t) m (fresh p (runAt n t p)) ≡ plainTrail n r t m p 0 0
   fresh-trail m p h =
-      same-trail n (2 * d - 1) r t (tablesOf n t) (walks .move) (walks .inside) most (omega arith)
-      m p 0 0 h (omega arith) (omega arith)
+      same-trail n (2 * d - 1) r t (tablesOf n t) (walks .move) (walks .inside) most small m p 0 0 h (omega arith) (omega arith)
 
   fresh-end : (m p : ℕ) → p < n → plainTrail n r t (suc m) p 0 0
       ≡ plainTrail n r t m p 0 0 ++ (markingsOf n (tablesOf n t) (suc m) (fresh p (runAt n t p)) ∷ [])
@@ -85,24 +89,40 @@ module _ (n : ℕ) (r : Runs) (d : ℕ) (c : Legal n r) (k : countOf r ≤ maxRu
       ∙ trail-last n (tablesOf n t) m b
       ∙ ap (λ (l : List Marking). l ++ (markingsOf n (tablesOf n t) (suc m) b ∷ [])) (fresh-trail m p h)
 
+  bounds-at : (m p : ℕ) → p < n → Bounded (2 * d - 1) (markingsOf n (tablesOf n t) m (fresh p (runAt n t p)))
+  unfolding markingsOf plainMoves
+  bounds-at zero p h = record { move = rw (walks .moves 0 p h .0) (omega arith); sum = omega arith }
+  bounds-at (suc m) p h =
+      end-bounds n (2 * d - 1) r t (tablesOf n t) (walks .move) (walks .inside) most small m (fresh p (runAt n t p))
+      (fresh-stands n (2 * d - 1) r t p h)
+
   -- the tables of the balanced list serve the plain walk
-  tables-serve : (l : Lent) → firstOf (countOf t) l ≡ tablesOf n t → Serves n r d (countOf t) l
-  tables-serve l e = record {
-    fits = balanced-count d n many r c;
-    same-permutation = λ p h. ap (λ (τ : Tables). mapOf n (τ .list) p) e ∙ balanced-map d n many r c p h;
-    same-replies = λ p h cs. rw e
-        (same-replies n r t (tablesOf n t) (walks .find) not-found (walks .move) (λ m q i. walks .moves m q i .0) (walks .inside) cs p h);
-    each-move = λ p h cs. counts-most n (2 * d - 1) r t (walks .inside) most cs p h;
-    all-moves = λ p h cs. (
-      counts-length n r t cs p,
-      counts-sum n r t cs p,
-      rw (counts-sum n r t cs p, ← counts-length n r t cs p)
-          (sum-most (2 * d - 1) (walkCounts n r t p cs) (counts-most n (2 * d - 1) r t (walks .inside) most cs p h)),
-    );
-    same-trail = λ p h m. rw e (fresh-trail m p h);
-    same-advances = λ p h ms a. advancing-served n (firstOf (countOf t) l) ms _ a ∙ rw e (fresh-trail (length ms) p h);
-    same-end = λ p h m. rw e (fresh-end m p h);
-  }
+  pub tables-serve : Serves n r t d (tablesOf n t)
+  tables-serve =
+      let b = 2 * d - 1 in
+      let replies = same-replies n r t (tablesOf n t) (walks .find) not-found (walks .move) (λ m q i. walks .moves m q i .0) (walks .inside) in
+      let each : (p : ℕ) → p < n → (cs : List Call) → All (All (λ c. c ≤ b)) (walkCounts n r t p cs) =
+          λ p h cs. counts-most n b r t (walks .inside) most cs p h in
+      let replied : (p : ℕ) → p < n → (cs : List Call)
+          → map countIn (served n (tablesOf n t) p (runAt n t p) cs) ≡ map total (walkCounts n r t p cs) =
+          λ p h cs. ap (map countIn) (replies cs p h) ∙ counts-sum n r t cs p in
+      record {
+        same-permutation = balanced-map d n many r c;
+        same-replies = λ p h cs. replies cs p h;
+        move-counts = λ p h cs. counts-length n r t cs p;
+        reply-counts = replied;
+        each-move = each;
+        all-moves = λ p h cs.
+            rw (replied p h cs, ← counts-length n r t cs p) (all-most b (walkCounts n r t p cs) (each p h cs));
+        same-trail = λ p h m. fresh-trail m p h;
+        trail-bounds = λ p h m.
+            trail-bounds n b r t (tablesOf n t) (walks .move) (walks .inside) most small m _ (fresh-stands n b r t p h);
+        same-advances = λ p h ms a. advancing-served n (tablesOf n t) ms _ a ∙ fresh-trail (length ms) p h;
+        advance-bounds = λ p h ms a.
+            advance-bounds n b r t (tablesOf n t) (walks .move) (walks .inside) most small ms _ (fresh-stands n b r t p h) a;
+        same-end = λ p h m. fresh-end m p h;
+        end-bounds = λ p h m. bounds-at m p h;
+      }
 
 pub demand3 : Demand3
 demand3 n r d entry exit answer b a many few room =
@@ -111,5 +131,6 @@ demand3 n r d entry exit answer b a many few room =
     let paired = balanced-legal d n many r (l .0) .paired in (
       countOf (balanced d n r),
       answer-is n r d entry exit answer b e paired,
-      tables-serve n r d (l .0) (l .1) many few exit (head-is n r d entry exit answer b e paired),
+      balanced-count d n many r (l .0),
+      rw (head-is n r d entry exit answer b e paired) (tables-serve n r d (l .0) (l .1) many few),
     )

@@ -1,5 +1,5 @@
 -- The moves of one bookmark are served as the plain walk answers them, and leave its four numbers. The counter of starts
--- passed never gets near its width: at most b starts for each of fewer than 2^32 moves.
+-- passed never gets near its width: at most b starts for each of fewer than 2^32 moves, and b is no more than a table has.
 use Prim.Native.Nat.{ℕ, zero, suc, _+_, _*_, _^_, _≤_, _<_}
 use mathlib.Core.Path.{_≡_, refl, sym, ap, _∙_}
 use mathlib.Core.Logic.{_⊎_, inl, inr}
@@ -8,40 +8,21 @@ use native.Mathlib.Omega.{arith}
 use lib.ListN.{length}
 use native.Mathlib.Nat.{mul-le-mul-left}
 use borrow.Author.Tests.{le-leb, lt-leb}
+use Rattle.order.specs.Order.{All}
 use Rattle.order.proofs.Laws.{lt-or-le}
-use Rattle.runs.specs.Outcome.{Outcome, done, refused, judge, test}
+use Rattle.runs.specs.Outcome.{Outcome, done, refused}
 use Rattle.runs.specs.Runs.{Runs, runAt, mapOf}
-use Rattle.runs.proofs.Judging.{judge-done, judge-on}
-use Rattle.tables.specs.Tables.{Tables}
-use Rattle.tables.specs.Move.{moveTests, stepOf, moveOf}
-use Rattle.bookmarks.specs.Bookmark.{overflows, bookmarkOf, markAfter, Marking, marking, markedSays, markingOf, markingsOf}
+use Rattle.tables.specs.Tables.{Tables, maxIntervals}
+use Rattle.tables.specs.Move.{moveOf}
+use Rattle.bookmarks.specs.Bookmark.{bookmarkOf, fresh, markAfter, Marking, marking, markedSays, markingOf, markingsOf}
 use Rattle.bookmarks.specs.declared.Bookmark.{Bookmark}
 use Rattle.bookmarks.specs.declared.Marked.{Marked}
+use Rattle.bookmarks.proofs.Marks.{bookmark-overflow, bookmark-goes}
 use Rattle.bookmarks.proofs.Markings.{advances-marking}
 use Rattle.tables.specs.declared.Step.{Step}
+use Rattle.demands.specs.Calls.{Bounded}
 use Rattle.demands.specs.PlainWalk.{plainMove, plainTrail, standing}
 use Rattle.demands.specs.Served.{servedTrail, Advancing}
-use Rattle.demands.proofs.Serving.{move-below}
-
--- where the move is made, only 13 is left to test
-pub bookmark-judged : (n : ℕ) (τ : Tables) (b : Bookmark) (s : Step) → moveOf n τ (b .interval) (b .place) ≡ done s
-    → bookmarkOf n τ b ≡ judge (test 13 (overflows b s) 0 ∷ []) s
-unfolding bookmarkOf moveOf
-bookmark-judged n τ b s e =
-    let q = judge-done (moveTests n τ (b .interval) (b .place)) (stepOf τ (b .interval) (b .place)) s e in
-    judge-on (moveTests n τ (b .interval) (b .place)) _ (stepOf τ (b .interval) (b .place)) s e
-    ∙ ap (λ (u : Step). judge (test 13 (overflows b u) 0 ∷ []) u) q
-
-module _ (n : ℕ) (τ : Tables) (b : Bookmark) (s : Step) (e : moveOf n τ (b .interval) (b .place) ≡ done s) where
-  pub bookmark-overflow : 4294967295 ≤ b .moves → bookmarkOf n τ b ≡ refused 13 0
-  unfolding judge overflows
-  bookmark-overflow h = bookmark-judged n τ b s e ∙ simp (le-leb (2 ^ 32) (b .moves + 1) (omega arith))
-
-  pub bookmark-goes : b .moves < 4294967295 → b .passed + s .count < 2 ^ 64 → bookmarkOf n τ b ≡ done s
-  unfolding judge overflows
-  bookmark-goes h l =
-      bookmark-judged n τ b s e
-      ∙ simp (lt-leb (2 ^ 32) (b .moves + 1) (omega arith), lt-leb (2 ^ 64) (b .passed + s .count) l)
 
 -- one turn of each trail
 module _ (n : ℕ) (r t : Runs) (k p m c : ℕ) where
@@ -50,31 +31,48 @@ module _ (n : ℕ) (r t : Runs) (k p m c : ℕ) where
   plain-overflow h = rw (le-leb 4294967295 m h, plainTrail)
 
   plain-goes : m < 4294967295 → plainTrail n r t (suc k) p m c
-      ≡ marking (done (plainMove n r t p)) (standing n r t (plainMove n r t p .place) (m + 1) (c + plainMove n r t p .count))
-      ∷ plainTrail n r t k (plainMove n r t p .place) (m + 1) (c + plainMove n r t p .count)
-  unfolding plainTrail
+      ≡ marking (done (plainMove n r t p)) (standing n r t (mapOf n r p) (m + 1) (c + plainMove n r t p .count))
+      ∷ plainTrail n r t k (mapOf n r p) (m + 1) (c + plainMove n r t p .count)
+  unfolding plainTrail plainMove
   plain-goes h = rw (lt-leb 4294967295 m h, plainTrail)
 
-module _ (n : ℕ) (τ : Tables) (k : ℕ) (b : Bookmark) where
-  served-turn : (a : Outcome Step) (b′ : Bookmark) → bookmarkOf n τ b ≡ a → markAfter b a ≡ b′
-      → servedTrail n τ (suc k) b ≡ marking a b′ ∷ servedTrail n τ k b′
-  unfolding servedTrail markingOf
-  served-turn a b′ e f = rw (e, f)
+-- a bookmark that the plain walk may stand at, its counters within the bound
+pub record Stands (n b : ℕ) (r t : Runs) (w : Bookmark) : Type 0 where
+  pub place : ℕ
+  pub moves : ℕ
+  pub passed : ℕ
+  pub is : w ≡ standing n r t place moves passed
+  pub inside : place < n
+  pub few : moves ≤ 4294967295
+  pub bounded : passed ≤ moves * b
+
+pub fresh-stands : (n b : ℕ) (r t : Runs) (p : ℕ) → p < n → Stands n b r t (fresh p (runAt n t p))
+fresh-stands n b r t p h =
+    record { place = p; moves = 0; passed = 0; is = refl; inside = h; few = omega arith; bounded = omega arith }
+
+-- one move of a bookmark that stands so
+module _ (n : ℕ) (r t : Runs) (τ : Tables)
+    (move-to : (p : ℕ) → p < n → moveOf n τ (runAt n t p) p ≡ done (plainMove n r t p)) where
+  pub mark-goes : (p m c : ℕ) → p < n → m + 1 < 2 ^ 32 → c + plainMove n r t p .count < 2 ^ 64
+      → markingOf n τ (standing n r t p m c)
+      ≡ marking (done (plainMove n r t p)) (standing n r t (mapOf n r p) (m + 1) (c + plainMove n r t p .count))
+  unfolding markingOf markAfter plainMove
+  mark-goes p m c h l w = rw (bookmark-goes n τ (standing n r t p m c) (plainMove n r t p) (move-to p h) l w)
+
+  mark-stays : (p m c : ℕ) → p < n → 4294967295 ≤ m
+      → markingOf n τ (standing n r t p m c) ≡ marking (refused 13 0) (standing n r t p m c)
+  unfolding markingOf markAfter
+  mark-stays p m c h l = rw (bookmark-overflow n τ (standing n r t p m c) (plainMove n r t p) (move-to p h) l)
 
 module _ (n b : ℕ) (r t : Runs) (τ : Tables)
     (move-to : (p : ℕ) → p < n → moveOf n τ (runAt n t p) p ≡ done (plainMove n r t p))
     (below : (p : ℕ) → p < n → mapOf n r p < n)
     (most : (p : ℕ) → p < n → plainMove n r t p .count ≤ b)
-    (small : b ≤ 127) where
-  after-move : (p m c : ℕ)
-      → markAfter (standing n r t p m c) (done (plainMove n r t p))
-      ≡ standing n r t (plainMove n r t p .place) (m + 1) (c + plainMove n r t p .count)
-  unfolding markAfter plainMove
-  after-move p m c = refl
-
-  after-refusal : (p m c : ℕ) → markAfter (standing n r t p m c) (refused 13 0) ≡ standing n r t p m c
-  unfolding markAfter
-  after-refusal p m c = refl
+    (small : b ≤ maxIntervals) where
+  -- the next bound, far below the counter's width
+  sum-next : (p m c : ℕ) → p < n → m < 4294967295 → c ≤ m * b
+      → (c + plainMove n r t p .count < 2 ^ 64) × (c + plainMove n r t p .count ≤ (m + 1) * b)
+  sum-next p m c h l w = let f = mul-le-mul-left m small in (omega (arith, most p h), omega (arith, most p h))
 
   pub same-trail : (k p m c : ℕ) → p < n → m ≤ 4294967295 → c ≤ m * b
       → servedTrail n τ k (standing n r t p m c) ≡ plainTrail n r t k p m c
@@ -82,26 +80,64 @@ module _ (n b : ℕ) (r t : Runs) (τ : Tables)
   same-trail zero p m c h l w = refl
   same-trail (suc k) p m c h l w = go (lt-or-le m 4294967295) (same-trail k)
     where
-      s : Step
-      s = plainMove n r t p
-
       go : (m < 4294967295) ⊎ (4294967295 ≤ m)
           → ((p m c : ℕ) → p < n → m ≤ 4294967295 → c ≤ m * b → servedTrail n τ k (standing n r t p m c) ≡ plainTrail n r t k p m c)
           → servedTrail n τ (suc k) (standing n r t p m c) ≡ plainTrail n r t (suc k) p m c
       go (inl e) rest =
-          let f = mul-le-mul-left m small in
-          served-turn n τ k (standing n r t p m c) _ _
-          (bookmark-goes n τ (standing n r t p m c) s (move-to p h) e (omega (arith, most p h)))
-          (after-move p m c)
-          ∙ ap (λ (l : List Marking). marking (done s) (standing n r t (s .place) (m + 1) (c + s .count)) ∷ l)
-          (rest (s .place) (m + 1) (c + s .count) (move-below n r t below p h) (omega arith) (omega (arith, most p h)))
-          ∙ sym (plain-goes n r t k p m c e)
+          let f = sum-next p m c h e w in
+          rw (mark-goes n r t τ move-to p m c h (omega arith) (f .0))
+          (ap (λ (l : List Marking). marking (done (plainMove n r t p)) (standing n r t (mapOf n r p) (m + 1) (c + plainMove n r t p .count)) ∷ l)
+          (rest (mapOf n r p) (m + 1) (c + plainMove n r t p .count) (below p h) (omega arith) (f .1))
+          ∙ sym (plain-goes n r t k p m c e))
       go (inr e) rest =
-          served-turn n τ k (standing n r t p m c) _ _
-          (bookmark-overflow n τ (standing n r t p m c) s (move-to p h) e)
-          (after-refusal p m c)
-          ∙ ap (λ (l : List Marking). marking (refused 13 0) (standing n r t p m c) ∷ l) (rest p m c h l w)
-          ∙ sym (plain-overflow n r t k p m c e)
+          rw (mark-stays n r t τ move-to p m c h e)
+          (ap (λ (l : List Marking). marking (refused 13 0) (standing n r t p m c) ∷ l) (rest p m c h l w)
+          ∙ sym (plain-overflow n r t k p m c e))
+
+  -- a move's count and the bookmark after it keep to the bound
+  turn : (w : Bookmark) → Stands n b r t w → Bounded b (markingOf n τ w) × Stands n b r t (markingOf n τ w .bookmark)
+  turn w s =
+      rw (s .is) (go (s .place) (s .moves) (s .passed) (s .inside) (s .few) (s .bounded) (lt-or-le (s .moves) 4294967295))
+    where
+      go : (p m c : ℕ) → p < n → m ≤ 4294967295 → c ≤ m * b → (m < 4294967295) ⊎ (4294967295 ≤ m)
+          → Bounded b (markingOf n τ (standing n r t p m c)) × Stands n b r t (markingOf n τ (standing n r t p m c) .bookmark)
+      go p m c h l w (inl e) =
+          let f = sum-next p m c h e w in
+          rw (mark-goes n r t τ move-to p m c h (omega arith) (f .0))
+          (
+            record { move = most p h; sum = f .1 },
+            record { place = mapOf n r p; moves = m + 1; passed = c + plainMove n r t p .count; is = refl; inside = below p h; few = omega arith; bounded = f .1 },
+          )
+      go p m c h l w (inr e) =
+          rw (mark-stays n r t τ move-to p m c h e)
+          (
+            record { move = omega arith; sum = w },
+            record { place = p; moves = m; passed = c; is = refl; inside = h; few = l; bounded = w },
+          )
+
+  pub trail-bounds : (k : ℕ) (w : Bookmark) → Stands n b r t w → All (Bounded b) (servedTrail n τ k w)
+  unfolding servedTrail
+  trail-bounds zero w s = tt
+  trail-bounds (suc k) w s = (turn w s .0, trail-bounds k (markingOf n τ w .bookmark) (turn w s .1))
+
+  marks-stand : (m : ℕ) (w : Bookmark) → Stands n b r t w → Stands n b r t (markingsOf n τ m w .bookmark)
+  unfolding markingsOf
+  marks-stand zero w s = s
+  marks-stand (suc m) w s = turn (markingsOf n τ m w .bookmark) (marks-stand m w s) .1
+
+  pub end-bounds : (m : ℕ) (w : Bookmark) → Stands n b r t w → Bounded b (markingsOf n τ (suc m) w)
+  unfolding markingsOf
+  end-bounds m w s = turn (markingsOf n τ m w .bookmark) (marks-stand m w s) .0
+
+  pub advance-bounds : (ms : List Marked) (w : Bookmark) → Stands n b r t w → Advancing n τ w ms
+      → All (λ m. Bounded b (markedSays m)) ms
+  advance-bounds [] w s a = tt
+  advance-bounds (m ∷ ms) w s a =
+      let e = advances-marking n τ w (m .moved) (m .bookmark) (a .0) in
+      (
+        rw e (turn w s .0),
+        advance-bounds ms (m .bookmark) (rw (ap (λ (k : Marking). k .bookmark) e) (turn w s .1)) (a .1),
+      )
 
 -- calls of `advance` that meet its contract are served moves
 pub advancing-served : (n : ℕ) (τ : Tables) (ms : List Marked) (b : Bookmark) → Advancing n τ b ms

@@ -1,35 +1,41 @@
 -- Through the tables of a legal list t the walks give the function of any list r that has the same one: the walks on t's
 -- own tables (tables/proofs/LegalTables), said as the plain walk says them.
-use Prim.Native.Nat.{ℕ, zero, suc, _+_, _≤_, _<_}
+use Prim.Native.Nat.{ℕ, zero, suc, _+_, _*_, _^_, _≤_, _<_}
 use mathlib.Core.Path.{_≡_, refl, sym, ap, _∙_}
+use mathlib.Core.Bool.{Bool}
+use mathlib.Core.List.{List}
+use lib.ListN.{length}
+use native.Mathlib.Numerals.{add-one}
 use native.Mathlib.Omega.{arith}
+use Rattle.order.proofs.Laws.{count-le}
 use Rattle.runs.specs.Outcome.{done}
+use Rattle.runs.specs.Search.{keep}
 use Rattle.runs.specs.Runs.{Runs, countOf, runAt, mapOf, powerOf}
 use Rattle.runs.specs.Legal.{Legal}
-use Rattle.runs.proofs.Bijection.{map-below, map-injective, map-onto}
+use Rattle.runs.proofs.Sums.{length-keep}
+use Rattle.runs.proofs.Bijection.{map-below, power-below, map-injective, map-onto}
 use Rattle.tables.specs.Tables.{tablesOf, maxIntervals}
-use Rattle.tables.specs.Function.{stepFrom, passedIn, stepsFrom}
+use Rattle.tables.specs.Move.{moveOf}
+use Rattle.tables.specs.Inverse.{inverseOf}
+use Rattle.tables.specs.Function.{passedFrom, stepFrom, passedIn, stepsFrom}
 use Rattle.tables.specs.declared.Step.{Step}
 use Rattle.tables.proofs.LegalTables.{legal-find, legal-move, legal-moves, legal-inverse}
-use Rattle.bookmarks.proofs.LegalMarks.{legal-bookmark-on}
-use Rattle.demands.specs.PlainWalk.{plainMove, plainMoves}
+use Rattle.bookmarks.specs.declared.Bookmark.{Bookmark}
+use Rattle.bookmarks.specs.Bookmark.{fresh, Marking, marking, markingOf, markingsOf}
+use Rattle.demands.specs.PlainWalk.{plainMove, plainMoves, standing}
 use Rattle.demands.specs.Demands.{Through}
+use Rattle.demands.proofs.Marking.{mark-goes}
 
-module _ (n : ℕ) (r t : Runs) (same : (p : ℕ) → p < n → mapOf n t p ≡ mapOf n r p) (below : (p : ℕ) → p < n → mapOf n t p < n) where
+module _ (n : ℕ) (r t : Runs) (c : Legal n t) (same : (p : ℕ) → p < n → mapOf n t p ≡ mapOf n r p) where
   -- one step of both
   step-plain : (p : ℕ) → p < n → stepFrom n t p ≡ plainMove n r t p
   unfolding plainMove
   step-plain p h = rw (same p h)
 
-  power-in : (m p : ℕ) → p < n → powerOf n t m p < n
-  unfolding powerOf
-  power-in zero p h = h
-  power-in (suc m) p h = below _ (power-in m p h)
-
   power-same : (m p : ℕ) → p < n → powerOf n t m p ≡ powerOf n r m p
   unfolding powerOf
   power-same zero p h = refl
-  power-same (suc m) p h = same _ (power-in m p h) ∙ ap (mapOf n r) (power-same m p h)
+  power-same (suc m) p h = same _ (power-below n t c m p h) ∙ ap (mapOf n r) (power-same m p h)
 
   steps-plain : (m p : ℕ) → p < n → stepsFrom n t m p ≡ plainMoves n r t m p
   unfolding powerOf passedIn plainMoves
@@ -37,27 +43,78 @@ module _ (n : ℕ) (r t : Runs) (same : (p : ℕ) → p < n → mapOf n t p ≡ 
   steps-plain (suc m) p h =
       let s = plainMoves n r t m p in
       let e : powerOf n t m p ≡ s .place = ap (λ (u : Step). u .place) (steps-plain m p h) in
-      let c : passedIn n t m p ≡ s .count = ap (λ (u : Step). u .count) (steps-plain m p h) in
-      let f : stepFrom n t (powerOf n t m p) ≡ plainMove n r t (s .place) = step-plain _ (power-in m p h) ∙ ap (plainMove n r t) e in
-      λ i. record { place = f i .place; interval = f i .interval; count = c i + f i .count }
+      let q : passedIn n t m p ≡ s .count = ap (λ (u : Step). u .count) (steps-plain m p h) in
+      let f : stepFrom n t (powerOf n t m p) ≡ plainMove n r t (s .place) = step-plain _ (power-below n t c m p h) ∙ ap (plainMove n r t) e in
+      λ i. record { place = f i .place; interval = f i .interval; count = q i + f i .count }
+
+-- a walk passes no more starts than there are
+keep-few : (f : ℕ → Bool) (l : List ℕ) → length (keep f l) ≤ length l
+keep-few f l = omega (arith, length-keep f l, count-le f l)
+
+passed-few : (n : ℕ) (t : Runs) (p q : ℕ) → passedFrom n t p q ≤ countOf t
+passed-few n t p q = keep-few _ (t .starts)
+
+-- m moves of a bookmark that is fresh at p, by the moves of the list
+module _ (n : ℕ) (r t : Runs) (few : countOf t ≤ maxIntervals)
+    (move-to : (p : ℕ) → p < n → moveOf n (tablesOf n t) (runAt n t p) p ≡ done (plainMove n r t p))
+    (place-is : (m p : ℕ) → p < n → plainMoves n r t m p .place ≡ powerOf n r m p)
+    (power-below : (m p : ℕ) → p < n → powerOf n r m p < n) where
+  count-few : (p : ℕ) → plainMove n r t p .count ≤ maxIntervals
+  unfolding plainMove
+  count-few p = omega (arith, passed-few n t p (mapOf n r p))
+
+  counts-few : (m p : ℕ) → plainMoves n r t m p .count ≤ m * maxIntervals
+  unfolding plainMoves
+  counts-few zero p = omega arith
+  counts-few (suc m) p = omega (arith, counts-few m p, count-few (plainMoves n r t m p .place))
+
+  counts-next : (m p : ℕ) → p < n
+      → plainMoves n r t m p .count + plainMove n r t (powerOf n r m p) .count ≡ plainMoves n r t (suc m) p .count
+  unfolding plainMoves
+  counts-next m p h = ap (λ (q : ℕ). plainMoves n r t m p .count + plainMove n r t q .count) (sym (place-is m p h))
+
+  next : (m p : ℕ) → p < n → suc m < 2 ^ 32
+      → markingOf n (tablesOf n t) (standing n r t (powerOf n r m p) m (plainMoves n r t m p .count))
+      ≡ marking (done (plainMove n r t (powerOf n r m p)))
+        (standing n r t (powerOf n r (suc m) p) (suc m) (plainMoves n r t (suc m) p .count))
+  unfolding powerOf
+  next m p h l =
+      let q = powerOf n r m p in
+      let c = plainMoves n r t m p .count in
+      mark-goes n r t (tablesOf n t) move-to q m c (power-below m p h) (omega arith)
+      (omega (arith, counts-few m p, count-few q))
+      ∙ rw (add-one, ← counts-next m p h)
+
+  marks-lead : (m p : ℕ) → p < n → m < 2 ^ 32
+      → markingsOf n (tablesOf n t) m (fresh p (runAt n t p)) .bookmark
+      ≡ standing n r t (powerOf n r m p) m (plainMoves n r t m p .count)
+  unfolding markingsOf powerOf plainMoves
+  marks-lead zero p h l = refl
+  marks-lead (suc m) p h l =
+      ap (λ (b : Bookmark). markingOf n (tablesOf n t) b .bookmark) (marks-lead m p h (omega arith))
+      ∙ ap (λ (w : Marking). w .bookmark) (next m p h l)
+
+  pub marks-are : (m p : ℕ) → p < n → suc m < 2 ^ 32
+      → markingsOf n (tablesOf n t) (suc m) (fresh p (runAt n t p))
+      ≡ marking (done (plainMove n r t (powerOf n r m p)))
+        (standing n r t (powerOf n r (suc m) p) (suc m) (plainMoves n r t (suc m) p .count))
+  unfolding markingsOf
+  marks-are m p h l = ap (markingOf n (tablesOf n t)) (marks-lead m p h (omega arith)) ∙ next m p h l
 
 pub through : (n : ℕ) (r t : Runs) → Legal n r → Legal n t → countOf t ≤ maxIntervals → ((p : ℕ) → p < n → mapOf n t p ≡ mapOf n r p)
     → Through n r t
 through n r t l c few same =
-    let below : (p : ℕ) → p < n → mapOf n t p < n = map-below n t c in
+    let move-to : (p : ℕ) → p < n → moveOf n (tablesOf n t) (runAt n t p) p ≡ done (plainMove n r t p) =
+        λ p h. legal-move n t c few p h ∙ ap done (step-plain n r t c same p h) in
+    let place-is : (m p : ℕ) → p < n → plainMoves n r t m p .place ≡ powerOf n r m p =
+        λ m p h. sym (ap (λ (u : Step). u .place) (steps-plain n r t c same m p h)) ∙ power-same n r t c same m p h in
     record {
       find = legal-find n t c few;
-      move = λ p h. legal-move n t c few p h ∙ ap done (step-plain n r t same below p h);
-      moves = λ m p h. (
-        legal-moves n t c few m p h ∙ ap done (steps-plain n r t same below m p h),
-        sym (ap (λ (u : Step). u .place) (steps-plain n r t same below m p h)) ∙ power-same n r t same below m p h,
-      );
-      bookmark = λ p m k h i j.
-          let e = step-plain n r t same below p h in
-          legal-bookmark-on n t c few (record { place = p; interval = runAt n t p; moves = m; passed = k }) h refl (omega arith)
-          (omega (arith, ap (λ (u : Step). u .count) e))
-          ∙ ap done e;
-      inverse = λ p h. ap (λ (q : ℕ). Rattle.tables.specs.Inverse.inverseOf n (tablesOf n t) q) (sym (same p h)) ∙ legal-inverse n t c few p h;
+      move = move-to;
+      moves = λ m p h. (legal-moves n t c few m p h ∙ ap done (steps-plain n r t c same m p h), place-is m p h);
+      bookmark = mark-goes n r t (tablesOf n t) move-to;
+      bookmark-moves = marks-are n r t few move-to place-is (power-below n r l);
+      inverse = λ p h. ap (inverseOf n (tablesOf n t)) (sym (same p h)) ∙ legal-inverse n t c few p h;
       onto = map-onto n r l;
       inside = map-below n r l;
       one-to-one = map-injective n r l;

@@ -1,8 +1,10 @@
--- The calls of a walk and their replies (document 01, "The plain walk").
-use Prim.Native.Nat.{ℕ, _+_}
-use mathlib.Core.List.{List, [], _∷_}
+-- The calls of a walk, their replies, and what these count.
+use Prim.Native.Nat.{ℕ, _*_, _≤_}
+use mathlib.Core.List.{List, map}
+use Rattle.order.specs.Order.{sumOf}
 use Rattle.runs.specs.Outcome.{Outcome, done, refused}
 use Rattle.tables.specs.declared.Step.{Step}
+use Rattle.bookmarks.specs.Bookmark.{Marking}
 
 pub data Call : Type 0 where
   find : ℕ → Call
@@ -13,6 +15,9 @@ pub data Reply : Type 0 where
   found : Outcome ℕ → Reply
   moved : Outcome Step → Reply
 
+abbrev pub total : List ℕ → ℕ
+total l = sumOf (λ v. v) l
+
 -- the moves that a call asks for, and the moves of the whole list
 abbrev pub movesIn : Call → ℕ
 movesIn (find i) = 0
@@ -20,15 +25,21 @@ movesIn move = 1
 movesIn (moves m) = m
 
 abbrev pub allMoves : List Call → ℕ
-allMoves [] = 0
-allMoves (c ∷ cs) = movesIn c + allMoves cs
+allMoves cs = total (map movesIn cs)
 
--- the starts that a reply counts, and all counts together
+-- the starts that an answer and a reply count, and all counts together
+abbrev pub countOfMove : Outcome Step → ℕ
+countOfMove (done s) = s .count
+countOfMove (refused k p) = 0
+
 abbrev pub countIn : Reply → ℕ
 countIn (found o) = 0
-countIn (moved (done s)) = s .count
-countIn (moved (refused k p)) = 0
+countIn (moved o) = countOfMove o
 
 abbrev pub allCounts : List Reply → ℕ
-allCounts [] = 0
-allCounts (a ∷ as′) = countIn a + allCounts as′
+allCounts replies = total (map countIn replies)
+
+-- A bookmark's move counts at most b starts, and the bookmark after it has passed at most b for each move it has made.
+pub record Bounded (b : ℕ) (m : Marking) : Type 0 where
+  pub move : countOfMove (m .answer) ≤ b
+  pub sum : m .bookmark .passed ≤ m .bookmark .moves * b

@@ -1,5 +1,5 @@
--- The keys that document 01 gives and marks to be proved about the definitions: one table, one statement. Its rows are
--- written from the paper: on the left what is asked of a definition, on the right the paper's numbers.
+-- The keys that are proved about the definitions: one table, one statement. Its rows are written from document 01, which
+-- marks these keys: on the left what is asked of a definition, on the right the numbers that the document gives.
 use Prim.Native.Nat.{ℕ, suc}
 use mathlib.Core.Path.{_≡_, refl}
 use mathlib.Core.List.{List, [], _∷_, _++_, map}
@@ -58,8 +58,12 @@ single = runs (0 ∷ []) (0 ∷ [])
 abbrev pub halves : List ℕ → Runs
 halves images = runs (0 ∷ 2 ∷ []) images
 
-abbrev pub largest : Runs
-largest = runs (0 ∷ 4294967294 ∷ []) (1 ∷ 0 ∷ [])
+-- the run that goes furthest down, and the one that goes furthest up
+abbrev pub furthestDown : Runs
+furthestDown = runs (0 ∷ 4294967294 ∷ []) (1 ∷ 0 ∷ [])
+
+abbrev pub furthestUp : Runs
+furthestUp = runs (0 ∷ 1 ∷ []) (4294967294 ∷ 0 ∷ [])
 
 -- source document 001's ψ
 abbrev pub psi : Runs
@@ -104,7 +108,9 @@ keys =
     (checkedRow (checkOf 4 (halves (2 ∷ 0 ∷ []))) is 0 ∷ []) ∷
     (checkedRow (checkOf 4 (halves (0 ∷ 1 ∷ []))) is 6 ∷ 0 ∷ []) ∷
     (checkedRow (checkOf 4 (halves (0 ∷ 3 ∷ []))) is 5 ∷ 1 ∷ []) ∷
-    (checkedRow (checkOf 4294967295 largest) ++ signedRow (shiftOf largest 1) is 0 ∷ 1 ∷ 4294967294 ∷ []) ∷
+    -- both ends of a shift's range
+    (checkedRow (checkOf 4294967295 furthestDown) ++ signedRow (shiftOf furthestDown 1) is 0 ∷ 1 ∷ 4294967294 ∷ []) ∷
+    (checkedRow (checkOf 4294967295 furthestUp) ++ signedRow (shiftOf furthestUp 0) is 0 ∷ 0 ∷ 4294967294 ∷ []) ∷
     -- ψ: no cut at d 2; place 15, interval 4
     (countOf (balanced 2 45 psi) ∷ [] is 13 ∷ []) ∷
     (movedRow (moveOf 45 (tablesOf 45 (balanced 2 45 psi)) 4 15) is 0 ∷ 35 ∷ 10 ∷ 1 ∷ []) ∷

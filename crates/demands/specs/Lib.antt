@@ -1,4 +1,5 @@
 -- The plain walk, the calls served by tables, the three demands, and the known keys.
+pub mod Judged
 pub mod Calls
 pub mod PlainWalk
 pub mod Served

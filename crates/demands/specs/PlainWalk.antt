@@ -1,4 +1,5 @@
--- The plain walk (document 01): by the run list's function and the starts of the balanced list, with no holders.
+-- The plain walk: what calls are to be answered, by the run list's function and the starts of the balanced list, with no
+-- holders.
 use Prim.Native.Nat.{ℕ, zero, suc, _+_}
 use mathlib.Core.Bool.{true, false}
 use mathlib.Core.List.{List, [], _∷_, _++_}
@@ -11,15 +12,15 @@ use Rattle.tables.specs.declared.Step.{Step}
 use Rattle.bookmarks.specs.declared.Bookmark.{Bookmark}
 use Rattle.demands.specs.Calls.{Call, find, move, moves, Reply, found, moved}
 
--- r is the accepted run list, t the balanced list T. The walk stands at p; "x is always T's interval that has p".
+-- r is the accepted run list, t the balanced list. The walk stands at a place p, in the interval of t that has it.
 module _ (n : ℕ) (r t : Runs) where
-  -- A move takes p to q; "it answers q, T's interval that has q, and as count the number of T's starts above x's image
-  -- and not above q" (passedFrom).
+  -- A move goes from p to q, the place that r sends it to, and answers q, the interval of t that has q, and how many starts
+  -- of t lie above the image of p's interval and not above q (passedFrom).
   unfoldable pub plainMove : ℕ → Step
   plainMove p =
       record { place = mapOf n r p; interval = runAt n t (mapOf n r p); count = passedFrom n t p (mapOf n r p) }
 
-  -- "A repeated move makes m such moves. It answers the last place, its interval and the sum of the counts."
+  -- m such moves answer where the last one leads, and the sum of the counts; none answer where the walk stands.
   unfoldable pub plainMoves : ℕ → ℕ → Step
   plainMoves zero p = record { place = p; interval = runAt n t p; count = 0 }
   plainMoves (suc m) p =
@@ -27,33 +28,35 @@ module _ (n : ℕ) (r t : Runs) where
       let q = plainMove (s .place) in
       record { place = q .place; interval = q .interval; count = s .count + q .count }
 
-  -- "A find at i below n answers T's interval that has i. Any other find is refused with 11 and place i."
+  -- A find at i answers the interval of t that has i; where i is not below n it is refused with 11 and i.
   unfoldable pub plainFind : ℕ → Outcome ℕ
   plainFind i = judge (test 11 (leb n i) i ∷ []) (runAt n t i)
 
-  -- the replies to a list of calls; after a find at i below n, "p becomes i"
+  -- The replies to a list of calls. A find that is answered takes the walk to its place; moves take it on; a refused find
+  -- leaves it where it stood.
   unfoldable pub plainWalk : ℕ → List Call → List Reply
   plainWalk p [] = []
   plainWalk p (find i ∷ cs) = found (plainFind i) ∷ plainWalk (ltb i n then i else p) cs
   plainWalk p (move ∷ cs) = moved (done (plainMove p)) ∷ plainWalk (plainMove p .place) cs
   plainWalk p (moves m ∷ cs) = moved (done (plainMoves m p)) ∷ plainWalk (plainMoves m p .place) cs
 
-  -- the count of every single move, those inside a repeated move too
+  -- the counts of m moves from p, one by one
   unfoldable pub movesCounts : ℕ → ℕ → List ℕ
   movesCounts zero p = []
   movesCounts (suc m) p = movesCounts m p ++ (plainMove (plainMoves m p .place) .count ∷ [])
 
-  unfoldable pub walkCounts : ℕ → List Call → List ℕ
+  -- for each call of a list, the counts of its single moves
+  unfoldable pub walkCounts : ℕ → List Call → List (List ℕ)
   walkCounts p [] = []
-  walkCounts p (find i ∷ cs) = walkCounts (ltb i n then i else p) cs
-  walkCounts p (move ∷ cs) = plainMove p .count ∷ walkCounts (plainMove p .place) cs
-  walkCounts p (moves m ∷ cs) = movesCounts m p ++ walkCounts (plainMoves m p .place) cs
+  walkCounts p (find i ∷ cs) = [] ∷ walkCounts (ltb i n then i else p) cs
+  walkCounts p (move ∷ cs) = (plainMove p .count ∷ []) ∷ walkCounts (plainMove p .place) cs
+  walkCounts p (moves m ∷ cs) = movesCounts m p ∷ walkCounts (plainMoves m p .place) cs
 
   -- where the walk stands, as a bookmark: with the moves made and the sum of their counts
   abbrev pub standing : ℕ → ℕ → ℕ → Bookmark
   standing p m c = record { place = p; interval = runAt n t p; moves = m; passed = c }
 
-  -- k moves of a bookmark: "at 4,294,967,295 moves it is refused with 13 and place 0, and nothing changes"
+  -- k moves of a bookmark. With 4,294,967,295 moves made, one more is refused with 13 and place 0, and nothing changes.
   unfoldable pub plainTrail : ℕ → ℕ → ℕ → ℕ → List Marking
   plainTrail zero p m c = []
   plainTrail (suc k) p m c =

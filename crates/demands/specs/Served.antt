@@ -1,4 +1,4 @@
--- The same calls served by tables (document 01, "Demand 3 is a single claim about the whole list of calls").
+-- The same calls served by tables, each from where the one before left off.
 use Prim.Native.Nat.{ℕ, zero, suc}
 use mathlib.Core.List.{List, [], _∷_}
 use Rattle.runs.specs.Outcome.{Outcome, done, refused}
@@ -10,8 +10,8 @@ use Rattle.bookmarks.specs.declared.Bookmark.{Bookmark}
 use Rattle.bookmarks.specs.declared.Marked.{Marked}
 use Rattle.demands.specs.Calls.{Call, find, move, moves, Reply, found, moved}
 
--- What a call leaves to the next: the place and the interval that it gave, "a find's place with the interval found, or
--- after a refusal the ones before".
+-- What a call leaves to the next: the place and the interval that it gave, a find its own place with the interval found,
+-- a refused call those before it.
 abbrev pub placeAfter : Outcome Step → ℕ → ℕ
 placeAfter (done s) p = s .place
 placeAfter (refused k q) p = p
@@ -38,13 +38,13 @@ module _ (n : ℕ) (t : Tables) where
   served p x (moves m ∷ cs) =
       let a = movesOf n t m x p in moved a ∷ served (placeAfter a p) (intervalAfter a x) cs
 
-  -- "A bookmark's moves stand in a list of their own": k of them
+  -- the moves of a bookmark stand in a list of their own: k of them
   unfoldable pub servedTrail : ℕ → Bookmark → List Marking
   servedTrail zero b = []
   servedTrail (suc k) b = markingOf n t b ∷ servedTrail k (markingOf n t b .bookmark)
 
   -- Calls of `advance` on one lent bookmark: each meets its contract from the bookmark that the one before left, since
-  -- "only they write the bookmark". Of each call, the answer and the bookmark at its exit.
+  -- nobody else writes it. Of each call, the answer and the bookmark at its exit.
   abbrev pub Advancing : Bookmark → List Marked → Type 0
   Advancing b [] = Unit {0}
   Advancing b (m ∷ ms) = Advances n t b (m .moved) (m .bookmark) × Advancing (m .bookmark) ms

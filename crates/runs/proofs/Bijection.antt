@@ -1,8 +1,8 @@
 -- A legal list's function maps the places below n one to one onto themselves: a place lies in one run, and in one image.
-use Prim.Native.Nat.{ℕ, _+_, _-_, _<_}
+use Prim.Native.Nat.{ℕ, zero, suc, _+_, _-_, _<_}
 use mathlib.Core.Path.{_≡_, ap}
 use native.Mathlib.Omega.{arith}
-use Rattle.runs.specs.Runs.{Runs, startOf, imageOf, endOf, carry, mapOf}
+use Rattle.runs.specs.Runs.{Runs, startOf, imageOf, endOf, carry, mapOf, powerOf}
 use Rattle.runs.specs.Legal.{Legal}
 use Rattle.runs.proofs.Legality.{homes, home, map-at, land}
 
@@ -11,6 +11,11 @@ module _ (n : ℕ) (r : Runs) (c : Legal n r) where
   map-below p h =
       let x = home n r (homes n r c) p h in
       omega (arith, map-at n r (homes n r c) (x .0) p (x .1) (x .2) (x .3), c .within (x .0) (x .1), x .2, x .3)
+
+  pub power-below : (m p : ℕ) → p < n → powerOf n r m p < n
+  unfolding powerOf
+  power-below zero p h = h
+  power-below (suc m) p h = map-below (powerOf n r m p) (power-below m p h)
 
   pub map-injective : (p q : ℕ) → p < n → q < n → mapOf n r p ≡ mapOf n r q → p ≡ q
   map-injective p q h l e =

@@ -17,7 +17,7 @@ use Rattle.runs.specs.Runs.{Runs, countOf, startOf, imageOf, endOf, runAt, mapO
 use Rattle.runs.specs.Legal.{Legal}
 use Rattle.runs.proofs.Searches.{getD-default, first-only}
 use Rattle.runs.proofs.Legality.{homes, home, run-at}
-use Rattle.runs.proofs.Bijection.{map-below, map-onto}
+use Rattle.runs.proofs.Bijection.{map-below, power-below, map-onto}
 use Rattle.tables.specs.Tables.{tablesOf, holderOf, unheld, maxIntervals}
 use Rattle.tables.specs.Move.{passed, findOf, moveOf, movesOf, onwards}
 use Rattle.tables.specs.Inverse.{carryBack, sends, sourceOf, inverseOf}
@@ -100,15 +100,10 @@ module _ (n : ℕ) (r : Runs) (c : Legal n r) (few : countOf r ≤ maxIntervals)
     legal-move = move-located n (tablesOf n r) (runAt n r p) p (legal-located p h) ∙ legal-advance
 
   -- repeated moves give the m-fold function, the run that has its value, and the sum of the counts
-  pub power-below : (m p : ℕ) → p < n → powerOf n r m p < n
-  unfolding powerOf
-  power-below zero p h = h
-  power-below (suc m) p h = map-below n r c (powerOf n r m p) (power-below m p h)
-
   pub legal-moves : (m p : ℕ) → p < n → movesOf n (tablesOf n r) m (runAt n r p) p ≡ done (stepsFrom n r m p)
   unfolding movesOf onwards andThen mapDone powerOf passedIn
   legal-moves zero p h = sym (locate-in n (tablesOf n r) (runAt n r p) p (legal-located p h))
-  legal-moves (suc m) p h = rw (legal-moves m p h, legal-move (powerOf n r m p) (power-below m p h))
+  legal-moves (suc m) p h = rw (legal-moves m p h, legal-move (powerOf n r m p) (power-below n r c m p h))
 
   -- inverse gives the place that comes to j, and the run that has it
   sends-own : (p : ℕ) → p < n → sends n r (mapOf n r p) (runAt n r p) ≡ true
