@@ -9,8 +9,8 @@ use native.Mathlib.Omega.{arith}
 use lib.ListN.{getD}
 use lib.Dec.{ltb}
 use borrow.Author.Tests.{le-leb, leb-true, lt-ltb, le-ltb, ltb-true, not-true}
-use Rattle.runs.specs.Search.{firstBelow, anyBelow}
-use Rattle.runs.proofs.Searches.{first-true, first-least, first-only, any-false, any-none}
+use Rattle.outcomes.specs.Search.{firstBelow, anyBelow}
+use Rattle.outcomes.proofs.Searches.{first-true, first-least, first-only, any-false, any-none}
 use Rattle.order.proofs.Laws.{lt-or-le}
 use Rattle.runs.proofs.Sums.{and-true}
 use Rattle.runs.specs.Legal.{Legal}

@@ -5,7 +5,7 @@ use mathlib.Core.Logic.{_⊎_, inl, inr}
 use native.Mathlib.Omega.{arith}
 use lib.ListN.{length, getD}
 use Rattle.order.proofs.Laws.{lt-or-le}
-use Rattle.runs.proofs.Searches.{length-insert, insert-before, insert-at, insert-after}
+use Rattle.outcomes.proofs.Searches.{length-insert, insert-before, insert-at, insert-after}
 use Rattle.runs.specs.Legal.{Legal}
 use Rattle.runs.specs.Runs.{Runs, countOf, startOf, imageOf, endOf, imageEnd}
 use Rattle.tables.specs.Inverse.{carryBack}

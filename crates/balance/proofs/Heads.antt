@@ -5,7 +5,7 @@ use mathlib.Core.List.{List, [], _∷_}
 use native.Mathlib.Omega.{arith}
 use lib.ListN.{length, take, drop, length-map}
 use lib.Seq.{take-append-seam}
-use Rattle.runs.specs.Outcome.{Outcome, done, mapDone, filled}
+use Rattle.outcomes.specs.Outcome.{Outcome, done, mapDone, filled}
 use Rattle.runs.specs.Runs.{Runs, countOf, runAt}
 use Rattle.tables.specs.Tables.{Tables, tables, tablesOf, sizeOf}
 use Rattle.balance.specs.Balance.{balanced}

@@ -8,7 +8,7 @@ use lib.ListN.{length, getD, length-append, List·getD-eq-default}
 use lib.Dec.{ltb, eqb}
 use Rattle.order.specs.Order.{Sorted, Strict, bit, countBelow, occurrences, insertSorted}
 use Rattle.order.proofs.Laws.{lt-or-le, all-at, sum-sort, sum-append, length-sort, sorted-sort, sort-insert, sort-sorted, strict-sorted, count-one, count-index, count-found, count-mono, count-lt, count-ge, count-gt, count-at, count-after, count-all, count-le-length, pairwise-at}
-use Rattle.runs.proofs.Searches.{getD-default}
+use Rattle.outcomes.proofs.Searches.{getD-default}
 use Rattle.balance.specs.Cuts.{merged, Starts, At}
 use Rattle.balance.specs.declared.Mark.{Mark}
 

@@ -9,13 +9,13 @@ use lib.Seq.{drop-drop}
 use lib.Dec.{ltb}
 use borrow.Author.Tests.{lt-ltb, le-ltb, ltb-false}
 use Rattle.order.proofs.Laws.{or-false}
-use Rattle.runs.specs.Outcome.{done, refused, Test, test, judge, andThen, mapDone, filled}
-use Rattle.runs.specs.Refusal.{refusalSays}
+use Rattle.outcomes.specs.Outcome.{done, refused, Test, test, judge, andThen, mapDone, filled}
+use Rattle.outcomes.specs.Refusal.{refusalSays}
 use Rattle.runs.specs.Runs.{Runs, countOf}
 use Rattle.runs.specs.Check.{checkTests, checkOf}
-use Rattle.runs.specs.declared.Refusal.{Refusal}
-use Rattle.runs.specs.declared.Refusal.the-variants.{Degree, ShortTable}
-use Rattle.runs.proofs.Judging.{judge-append}
+use Rattle.outcomes.specs.declared.Refusal.{Refusal}
+use Rattle.outcomes.specs.declared.Refusal.the-variants.{Degree, ShortTable}
+use Rattle.outcomes.proofs.Judging.{judge-append}
 use Rattle.runs.proofs.Accepted.{accepted-legal}
 use Rattle.tables.specs.Tables.{tablesOf}
 use Rattle.balance.specs.Balance.{balanced, boundOf}

@@ -13,7 +13,7 @@ use Rattle.order.proofs.Laws.{lt-or-le, at-all, strict-sorted, strict-insert, c
 use Rattle.runs.specs.Legal.{Legal}
 use Rattle.runs.specs.Runs.{Runs, countOf, startOf, imageOf, endOf, imageEnd}
 use Rattle.runs.proofs.Sums.{count-inside}
-use Rattle.runs.proofs.Searches.{getD-default}
+use Rattle.outcomes.proofs.Searches.{getD-default}
 use Rattle.runs.proofs.Legality.{homes, run-at, end-next}
 use Rattle.tables.specs.Under.{weight}
 use Rattle.tables.proofs.Walks.{weight-is, run-below, under-at, weight-less}

@@ -9,9 +9,9 @@ use native.Mathlib.Omega.{arith}
 use lib.ListN.{length}
 use lib.Dec.{leb, ltb}
 use borrow.Author.Tests.{lt-ltb, le-ltb, lt-leb, le-leb}
-use Rattle.runs.specs.Outcome.{_then_else_}
-use Rattle.runs.specs.Search.{firstBelow}
-use Rattle.runs.proofs.Searches.{first-only}
+use Rattle.outcomes.specs.Outcome.{_then_else_}
+use Rattle.outcomes.specs.Search.{firstBelow}
+use Rattle.outcomes.proofs.Searches.{first-only}
 use Rattle.order.specs.Order.{bit}
 use Rattle.order.proofs.Laws.{lt-or-le, bit-le}
 use Rattle.runs.proofs.Sums.{bit-leb, inside-true, inside-is, tally, sum-cut, sum-less}

@@ -3,7 +3,7 @@ use Prim.Native.Nat.{ℕ, zero, suc, _-_, _*_, _/_}
 use mathlib.Core.Bool.{Bool, true, false, not, _&&_}
 use lib.ListN.{getD}
 use lib.Dec.{ltb, leb}
-use Rattle.runs.specs.Search.{firstBelow, anyBelow, insertAt}
+use Rattle.outcomes.specs.Search.{firstBelow, anyBelow, insertAt}
 use Rattle.runs.specs.Runs.{Runs, runs, countOf, imageOf}
 use Rattle.tables.specs.Inverse.{carryBack}
 use Rattle.tables.specs.Under.{under, weight}

@@ -5,8 +5,8 @@ use mathlib.Core.Bool.{Bool, _||_}
 use mathlib.Core.List.{List, [], _∷_, _++_}
 use lib.ListN.{length, take, replicate}
 use lib.Dec.{ltb}
-use Rattle.runs.specs.Outcome.{Outcome, done, Test, test, judge, mapDone, filled}
-use Rattle.runs.specs.Refusal.{refusalSays}
+use Rattle.outcomes.specs.Outcome.{Outcome, done, Test, test, judge, mapDone, filled}
+use Rattle.outcomes.specs.Refusal.{refusalSays}
 use Rattle.runs.specs.Runs.{Runs, countOf}
 use Rattle.runs.specs.Check.{checkTests}
 use Rattle.tables.specs.Tables.{Tables, tables, tablesOf, sizeOf}

@@ -13,7 +13,7 @@ ghost use mathlib.Core.Path.{_≡_};
 ghost use Prim.Native.Nat.{_≤_};
 ghost use Rattle.runs.specs.Runs.{runs};
 ghost use Rattle.runs.specs.Check.{maxRuns, checkOf};
-ghost use Rattle.runs.specs.Outcome.{done};
+ghost use Rattle.outcomes.specs.Outcome.{done};
 ghost use Rattle.tables.specs.Tables.{tablesOf};
 ghost use Rattle.balance.specs.Balance.{balanced, boundOf};
 ghost use Rattle.balance.specs.Lent.{lent, tooShort, Balances};
@@ -22,7 +22,7 @@ ghost use Rattle.balance.specs.Cuts.{Fillable, Filled};
 // How many intervals the balanced list has.
 pub enum Balanced {
     Intervals(u32),
-    Refused(runs::Refusal),
+    Refused(outcomes::Refusal),
 }
 
 // A mark in the list's starts and the cuts, merged: how many of each come before it.
@@ -119,14 +119,14 @@ fn balance_accepted(
         (lent (now («to_starts» .exit)) (now («to_images» .exit)) (now («to_holders» .exit)) (now (working .exit))) r ⌝ }
 {
     if d < 2 {
-        return Balanced::Refused(runs::Refusal::Degree(d));
+        return Balanced::Refused(outcomes::Refusal::Degree(d));
     }
     if 64 < d {
-        return Balanced::Refused(runs::Refusal::Degree(d));
+        return Balanced::Refused(outcomes::Refusal::Degree(d));
     }
     let b = bound_of(d, starts.len());
     if is_short(b, to_starts, to_images, to_holders, working) {
-        return Balanced::Refused(runs::Refusal::ShortTable(b as u32));
+        return Balanced::Refused(outcomes::Refusal::ShortTable(b as u32));
     }
     Balanced::Intervals(fill_tables(
         n,
@@ -159,8 +159,8 @@ pub fn balance(
 {
     let checked = runs::check(n, starts, images);
     match checked {
-        runs::Checked::Refused(refusal) => Balanced::Refused(refusal),
-        runs::Checked::Accepted => balance_accepted(
+        outcomes::Checked::Refused(refusal) => Balanced::Refused(refusal),
+        outcomes::Checked::Accepted => balance_accepted(
             n,
             starts,
             images,

@@ -7,7 +7,7 @@ use mathlib.Core.Logic.{_⊎_, inl, inr}
 use native.Mathlib.Numerals.{add-one}
 use native.Mathlib.Omega.{arith}
 use Rattle.order.proofs.Laws.{lt-or-le}
-use Rattle.runs.specs.Outcome.{Outcome, done, refused}
+use Rattle.outcomes.specs.Outcome.{Outcome, done, refused}
 use Rattle.tables.specs.Tables.{Tables}
 use Rattle.tables.specs.Move.{movedSays, movesOf}
 use Rattle.bookmarks.specs.Bookmark.{bookmarkOf, markAfter, Advances, Marking, marking, markingOf, markingsOf}

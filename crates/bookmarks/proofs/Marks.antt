@@ -7,8 +7,8 @@ use native.Mathlib.Omega.{arith}
 use lib.Dec.{leb, ltb}
 use borrow.Author.Tests.{lt-ltb, le-ltb, le-leb, lt-leb, leb-false}
 use Rattle.order.proofs.Laws.{lt-or-le, or-false}
-use Rattle.runs.specs.Outcome.{Outcome, done, refused, judge, andThen}
-use Rattle.runs.proofs.Judging.{judge-append, judge-done}
+use Rattle.outcomes.specs.Outcome.{Outcome, done, refused, judge, andThen}
+use Rattle.outcomes.proofs.Judging.{judge-append, judge-done}
 use Rattle.tables.specs.Tables.{Tables}
 use Rattle.tables.specs.Move.{movedSays, stepOf, moveOf, moveTests}
 use Rattle.bookmarks.specs.Bookmark.{overflows, bookmarkOf, markAfter, Advances}

@@ -4,7 +4,7 @@ use mathlib.Core.Path.{_≡_}
 use mathlib.Core.Bool.{Bool, _||_}
 use mathlib.Core.List.{List, [], _∷_, _++_}
 use lib.Dec.{leb}
-use Rattle.runs.specs.Outcome.{Outcome, done, refused, Test, test, judge}
+use Rattle.outcomes.specs.Outcome.{Outcome, done, refused, Test, test, judge}
 use Rattle.tables.specs.Tables.{Tables}
 use Rattle.tables.specs.Move.{movedSays, stepOf, moveTests, movesOf}
 use Rattle.tables.specs.declared.Step.{Step}

@@ -2,7 +2,7 @@
 use mathlib.Core.Path.{_≡_}
 use mathlib.Core.Bool.{Bool, true, false}
 use mathlib.Core.List.{[], _∷_}
-use Rattle.runs.specs.Outcome.{Outcome, done, refused, test, judge}
+use Rattle.outcomes.specs.Outcome.{Outcome, done, refused, test, judge}
 use Rattle.tables.specs.Move.{movedSays}
 use Rattle.tables.specs.declared.Step.{Step}
 use Rattle.bookmarks.specs.Bookmark.{overflows, markAfter}

@@ -1,7 +1,7 @@
 // A bookmark after a step, and lent for one move.
 use super::Bookmark;
 use super::Marked;
-use runs::Refusal;
+use outcomes::Refusal;
 use tables::Moved;
 use tables::Step;
 ghost use mathlib.Core.Path.{_≡_};

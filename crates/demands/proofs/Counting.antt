@@ -10,7 +10,7 @@ use lib.Dec.{ltb}
 use borrow.Author.Tests.{ltb-true}
 use Rattle.order.specs.Order.{All}
 use Rattle.order.proofs.Laws.{all-append, sum-append}
-use Rattle.runs.specs.Outcome.{_then_else_}
+use Rattle.outcomes.specs.Outcome.{_then_else_}
 use Rattle.runs.specs.Runs.{Runs, mapOf}
 use Rattle.demands.specs.Calls.{Call, find, move, moves, total, movesIn, countIn}
 use Rattle.demands.specs.PlainWalk.{plainMove, plainMoves, plainWalk, movesCounts, walkCounts}

@@ -7,13 +7,13 @@ use mathlib.Core.List.{List, [], _∷_, map}
 use native.Mathlib.Nat.{not-suc-le-zero, le-of-suc-le-suc}
 use native.Mathlib.Omega.{arith}
 use lib.ListN.{length}
-use Rattle.runs.specs.Outcome.{Outcome, done, refused, Test, test, judge, mapDone, filled, _then_else_}
-use Rattle.runs.specs.Refusal.{checkedSays}
+use Rattle.outcomes.specs.Outcome.{Outcome, done, refused, Test, test, judge, mapDone, filled, _then_else_}
+use Rattle.outcomes.specs.Refusal.{checkedSays}
 use Rattle.runs.specs.Runs.{Runs}
 use Rattle.runs.specs.Check.{listTests, checkTests, checkOf}
 use Rattle.runs.specs.Inverse.{inverseListOf, InverseListed}
-use Rattle.runs.specs.declared.Checked.{Checked}
-use Rattle.runs.proofs.Judging.{done-refused}
+use Rattle.outcomes.specs.declared.Checked.{Checked}
+use Rattle.outcomes.proofs.Judging.{done-refused}
 use Rattle.tables.specs.Tables.{sizeOf}
 use Rattle.tables.specs.Move.{findOf, moveOf, movesOf}
 use Rattle.tables.specs.Inverse.{inverseOf}

@@ -8,11 +8,11 @@ use native.Mathlib.Omega.{arith}
 use lib.ListN.{length}
 use borrow.Author.Tests.{le-ltb}
 use Rattle.order.specs.Order.{All}
-use Rattle.runs.specs.Outcome.{done, refused, judge, andThen}
+use Rattle.outcomes.specs.Outcome.{done, refused, judge, andThen}
 use Rattle.runs.specs.Runs.{Runs, countOf, startOf, imageOf, endOf, runAt, carry, mapOf}
 use Rattle.runs.specs.Legal.{Legal}
 use Rattle.runs.specs.Check.{maxRuns, checkTests, checkOf}
-use Rattle.runs.proofs.Judging.{judge-append}
+use Rattle.outcomes.proofs.Judging.{judge-append}
 use Rattle.runs.proofs.Accepted.{accepted-legal}
 use Rattle.runs.proofs.Legality.{homes, home, run-at}
 use Rattle.tables.specs.Tables.{tablesOf, maxIntervals}
@@ -102,10 +102,10 @@ module _ (n : ℕ) (r : Runs) (d : ℕ) (c : Legal n r) (k : countOf r ≤ maxRu
       let b = 2 * d - 1 in
       let replies = same-replies n r t (tablesOf n t) (walks .find) not-found (walks .move) (λ m q i. walks .moves m q i .0) (walks .inside) in
       let each : (p : ℕ) → p < n → (cs : List Call) → All (All (λ c. c ≤ b)) (walkCounts n r t p cs) =
-          λ p h cs. counts-most n b r t (walks .inside) most cs p h in
+      λ p h cs. counts-most n b r t (walks .inside) most cs p h in
       let replied : (p : ℕ) → p < n → (cs : List Call)
-          → map countIn (served n (tablesOf n t) p (runAt n t p) cs) ≡ map total (walkCounts n r t p cs) =
-          λ p h cs. ap (map countIn) (replies cs p h) ∙ counts-sum n r t cs p in
+      → map countIn (served n (tablesOf n t) p (runAt n t p) cs) ≡ map total (walkCounts n r t p cs) =
+      λ p h cs. ap (map countIn) (replies cs p h) ∙ counts-sum n r t cs p in
       record {
         same-permutation = balanced-map d n many r c;
         same-replies = λ p h cs. replies cs p h;

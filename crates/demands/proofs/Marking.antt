@@ -10,7 +10,7 @@ use native.Mathlib.Nat.{mul-le-mul-left}
 use borrow.Author.Tests.{le-leb, lt-leb}
 use Rattle.order.specs.Order.{All}
 use Rattle.order.proofs.Laws.{lt-or-le}
-use Rattle.runs.specs.Outcome.{Outcome, done, refused}
+use Rattle.outcomes.specs.Outcome.{Outcome, done, refused}
 use Rattle.runs.specs.Runs.{Runs, runAt, mapOf}
 use Rattle.tables.specs.Tables.{Tables, maxIntervals}
 use Rattle.tables.specs.Move.{moveOf}
@@ -103,14 +103,12 @@ module _ (n b : ℕ) (r t : Runs) (τ : Tables)
           → Bounded b (markingOf n τ (standing n r t p m c)) × Stands n b r t (markingOf n τ (standing n r t p m c) .bookmark)
       go p m c h l w (inl e) =
           let f = sum-next p m c h e w in
-          rw (mark-goes n r t τ move-to p m c h (omega arith) (f .0))
-          (
+          rw (mark-goes n r t τ move-to p m c h (omega arith) (f .0)) (
             record { move = most p h; sum = f .1 },
             record { place = mapOf n r p; moves = m + 1; passed = c + plainMove n r t p .count; is = refl; inside = below p h; few = omega arith; bounded = f .1 },
           )
       go p m c h l w (inr e) =
-          rw (mark-stays n r t τ move-to p m c h e)
-          (
+          rw (mark-stays n r t τ move-to p m c h e) (
             record { move = omega arith; sum = w },
             record { place = p; moves = m; passed = c; is = refl; inside = h; few = l; bounded = w },
           )
@@ -133,8 +131,7 @@ module _ (n b : ℕ) (r t : Runs) (τ : Tables)
       → All (λ m. Bounded b (markedSays m)) ms
   advance-bounds [] w s a = tt
   advance-bounds (m ∷ ms) w s a =
-      let e = advances-marking n τ w (m .moved) (m .bookmark) (a .0) in
-      (
+      let e = advances-marking n τ w (m .moved) (m .bookmark) (a .0) in (
         rw e (turn w s .0),
         advance-bounds ms (m .bookmark) (rw (ap (λ (k : Marking). k .bookmark) e) (turn w s .1)) (a .1),
       )

@@ -6,7 +6,7 @@ use mathlib.Core.Bool.{Bool, true, false}
 use mathlib.Core.List.{List, [], _∷_}
 use lib.Dec.{ltb}
 use borrow.Author.Tests.{ltb-true, ltb-false, lt-leb, le-leb}
-use Rattle.runs.specs.Outcome.{done, refused, judge}
+use Rattle.outcomes.specs.Outcome.{done, refused, judge}
 use Rattle.runs.specs.Runs.{Runs, runAt, mapOf}
 use Rattle.tables.specs.Tables.{Tables}
 use Rattle.tables.specs.Move.{findOf, moveOf, movesOf}

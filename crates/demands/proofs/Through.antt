@@ -8,8 +8,8 @@ use lib.ListN.{length}
 use native.Mathlib.Numerals.{add-one}
 use native.Mathlib.Omega.{arith}
 use Rattle.order.proofs.Laws.{count-le}
-use Rattle.runs.specs.Outcome.{done}
-use Rattle.runs.specs.Search.{keep}
+use Rattle.outcomes.specs.Outcome.{done}
+use Rattle.outcomes.specs.Search.{keep}
 use Rattle.runs.specs.Runs.{Runs, countOf, runAt, mapOf, powerOf}
 use Rattle.runs.specs.Legal.{Legal}
 use Rattle.runs.proofs.Sums.{length-keep}
@@ -76,7 +76,7 @@ module _ (n : ℕ) (r t : Runs) (few : countOf t ≤ maxIntervals)
   next : (m p : ℕ) → p < n → suc m < 2 ^ 32
       → markingOf n (tablesOf n t) (standing n r t (powerOf n r m p) m (plainMoves n r t m p .count))
       ≡ marking (done (plainMove n r t (powerOf n r m p)))
-        (standing n r t (powerOf n r (suc m) p) (suc m) (plainMoves n r t (suc m) p .count))
+      (standing n r t (powerOf n r (suc m) p) (suc m) (plainMoves n r t (suc m) p .count))
   unfolding powerOf
   next m p h l =
       let q = powerOf n r m p in
@@ -97,7 +97,7 @@ module _ (n : ℕ) (r t : Runs) (few : countOf t ≤ maxIntervals)
   pub marks-are : (m p : ℕ) → p < n → suc m < 2 ^ 32
       → markingsOf n (tablesOf n t) (suc m) (fresh p (runAt n t p))
       ≡ marking (done (plainMove n r t (powerOf n r m p)))
-        (standing n r t (powerOf n r (suc m) p) (suc m) (plainMoves n r t (suc m) p .count))
+      (standing n r t (powerOf n r (suc m) p) (suc m) (plainMoves n r t (suc m) p .count))
   unfolding markingsOf
   marks-are m p h l = ap (markingOf n (tablesOf n t)) (marks-lead m p h (omega arith)) ∙ next m p h l
 
@@ -105,9 +105,9 @@ pub through : (n : ℕ) (r t : Runs) → Legal n r → Legal n t → countOf t �
     → Through n r t
 through n r t l c few same =
     let move-to : (p : ℕ) → p < n → moveOf n (tablesOf n t) (runAt n t p) p ≡ done (plainMove n r t p) =
-        λ p h. legal-move n t c few p h ∙ ap done (step-plain n r t c same p h) in
+    λ p h. legal-move n t c few p h ∙ ap done (step-plain n r t c same p h) in
     let place-is : (m p : ℕ) → p < n → plainMoves n r t m p .place ≡ powerOf n r m p =
-        λ m p h. sym (ap (λ (u : Step). u .place) (steps-plain n r t c same m p h)) ∙ power-same n r t c same m p h in
+    λ m p h. sym (ap (λ (u : Step). u .place) (steps-plain n r t c same m p h)) ∙ power-same n r t c same m p h in
     record {
       find = legal-find n t c few;
       move = move-to;

@@ -6,13 +6,13 @@ use mathlib.Core.Logic.{_↔_, _⊎_}
 use mathlib.Core.List.{List, [], _∷_, _++_, map}
 use lib.ListN.{length}
 use Rattle.order.specs.Order.{All}
-use Rattle.runs.specs.Outcome.{done, refused}
-use Rattle.runs.specs.Refusal.{checkedSays}
+use Rattle.outcomes.specs.Outcome.{done, refused}
+use Rattle.outcomes.specs.Refusal.{checkedSays}
 use Rattle.runs.specs.Runs.{Runs, countOf, runAt, mapOf, powerOf}
 use Rattle.runs.specs.Legal.{DisjointIntervals, IntervalSequence}
 use Rattle.runs.specs.Check.{maxRuns, checkTests, checkOf}
 use Rattle.runs.specs.Inverse.{inverseRuns, inverseListTests, inverseListOf, InverseListed}
-use Rattle.runs.specs.declared.Checked.{Checked}
+use Rattle.outcomes.specs.declared.Checked.{Checked}
 use Rattle.tables.specs.Tables.{Tables, tablesOf}
 use Rattle.tables.specs.Move.{movedSays, findTests, locateTests, moveTests, passed, stepOf, findOf, moveOf, movesOf, Stopped}
 use Rattle.tables.specs.Inverse.{carryBack, sourceOf, inverseTests, inverseOf}
@@ -49,7 +49,7 @@ pub record Demand1 : Type 0 where
       → (movesOf n t 0 x i ≡ refused k p) ⊎ Stopped n t m x i k p
   pub inverse : (n : ℕ) (t : Tables) (j : ℕ)
       → Judged (9 ∷ 11 ∷ 14 ∷ []) (inverseTests n t j)
-        (record { place = carryBack (t .list) (sourceOf n (t .list) j) j; interval = sourceOf n (t .list) j }) (inverseOf n t j)
+      (record { place = carryBack (t .list) (sourceOf n (t .list) j) j; interval = sourceOf n (t .list) j }) (inverseOf n t j)
   pub weight : (n : ℕ) (t : Tables) (x : ℕ)
       → Judged (9 ∷ 10 ∷ 12 ∷ []) (underTests n t x) (underCount n t x) (weightOf n t x)
   -- starts under: none where the weight is refused, else as many as it says
@@ -85,7 +85,7 @@ pub record Through (n : ℕ) (r t : Runs) : Type 0 where
   pub bookmark-moves : (m p : ℕ) → p < n → suc m < 2 ^ 32
       → markingsOf n (tablesOf n t) (suc m) (fresh p (runAt n t p))
       ≡ marking (done (plainMove n r t (powerOf n r m p)))
-        (standing n r t (powerOf n r (suc m) p) (suc m) (plainMoves n r t (suc m) p .count))
+      (standing n r t (powerOf n r (suc m) p) (suc m) (plainMoves n r t (suc m) p .count))
   pub inverse : (p : ℕ) → p < n
       → inverseOf n (tablesOf n t) (mapOf n r p) ≡ done (record { place = p; interval = runAt n t p })
   -- the function maps the places one to one onto themselves

@@ -4,7 +4,7 @@ use mathlib.Core.Path.{_≡_}
 use mathlib.Core.Bool.{true, false}
 use mathlib.Core.List.{List, map}
 use lib.ListN.{length, getD}
-use Rattle.runs.specs.Outcome.{Outcome, done, refused, Test, test}
+use Rattle.outcomes.specs.Outcome.{Outcome, done, refused, Test, test}
 
 -- the first i tests do not apply
 abbrev pub NoneOf : ℕ → List Test → Type 0

@@ -4,7 +4,7 @@ use Prim.Native.Nat.{ℕ, suc}
 use mathlib.Core.Path.{_≡_, refl}
 use mathlib.Core.List.{List, [], _∷_, _++_, map}
 use lib.IntN.{ℤ, pos, negsuc}
-use Rattle.runs.specs.Outcome.{Outcome, done, refused, judge, mapDone, andThen}
+use Rattle.outcomes.specs.Outcome.{Outcome, done, refused, judge, mapDone, andThen}
 use Rattle.runs.specs.Runs.{Runs, runs, countOf, startOf, imageOf, shiftOf}
 use Rattle.runs.specs.Check.{unmatched, unordered, outOfRange, overlap, overlaps, listTests, checkTests, checkOf}
 use Rattle.tables.specs.Tables.{Tables, tablesOf, holderOf, misshapen, outside, unheld, broken}

@@ -4,7 +4,7 @@ use Prim.Native.Nat.{ℕ, zero, suc, _+_}
 use mathlib.Core.Bool.{true, false}
 use mathlib.Core.List.{List, [], _∷_, _++_}
 use lib.Dec.{ltb, leb}
-use Rattle.runs.specs.Outcome.{Outcome, done, refused, test, judge, _then_else_}
+use Rattle.outcomes.specs.Outcome.{Outcome, done, refused, test, judge, _then_else_}
 use Rattle.runs.specs.Runs.{Runs, runAt, mapOf}
 use Rattle.bookmarks.specs.Bookmark.{Marking, marking}
 use Rattle.tables.specs.Function.{passedFrom}

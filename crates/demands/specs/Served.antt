@@ -1,7 +1,7 @@
 -- The same calls served by tables, each from where the one before left off.
 use Prim.Native.Nat.{ℕ, zero, suc}
 use mathlib.Core.List.{List, [], _∷_}
-use Rattle.runs.specs.Outcome.{Outcome, done, refused}
+use Rattle.outcomes.specs.Outcome.{Outcome, done, refused}
 use Rattle.tables.specs.Tables.{Tables}
 use Rattle.tables.specs.Move.{findOf, moveOf, movesOf}
 use Rattle.bookmarks.specs.Bookmark.{Advances, Marking, markingOf}

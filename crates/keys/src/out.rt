@@ -2,8 +2,8 @@
 use balance::Balanced;
 use bookmarks::Marked;
 use listfile::FileChecked;
-use runs::Checked;
-use runs::Refusal;
+use outcomes::Checked;
+use outcomes::Refusal;
 use tables::Found;
 use tables::Inverted;
 use tables::Moved;

@@ -9,12 +9,12 @@ use native.Mathlib.Nat.{div-le-of-le-mul}
 use lib.ListN.{length}
 use borrow.Author.Tests.{lt-ltb, le-ltb}
 use Rattle.order.proofs.Laws.{lt-or-le}
-use Rattle.runs.specs.Outcome.{Outcome, done, refused, judge, mapDone, andThen, test}
-use Rattle.runs.specs.Refusal.{numberOf, placeOf}
+use Rattle.outcomes.specs.Outcome.{Outcome, done, refused, judge, mapDone, andThen, test}
+use Rattle.outcomes.specs.Refusal.{numberOf, placeOf}
 use Rattle.runs.specs.Runs.{Runs, countOf}
 use Rattle.runs.specs.Check.{checkTests, checkOf}
-use Rattle.runs.specs.declared.Refusal.{Refusal}
-use Rattle.runs.proofs.Judging.{done-refused, judge-append}
+use Rattle.outcomes.specs.declared.Refusal.{Refusal}
+use Rattle.outcomes.proofs.Judging.{done-refused, judge-append}
 use Rattle.runs.proofs.Accepted.{accepted-legal}
 use Rattle.tables.specs.Tables.{Tables, tablesOf, sizeOf}
 use Rattle.balance.specs.Balance.{balanced, boundOf}

@@ -7,10 +7,10 @@ use lib.ListN.{length}
 use lib.Dec.{ltb}
 use borrow.Author.Tests.{lt-ltb, le-ltb, ne-eqb, eq-eqb, ltb-false}
 use Rattle.order.proofs.Laws.{or-false}
-use Rattle.runs.specs.Outcome.{Outcome, done, refused, judge, andThen}
+use Rattle.outcomes.specs.Outcome.{Outcome, done, refused, judge, andThen}
 use Rattle.runs.specs.Runs.{Runs, countOf}
 use Rattle.runs.specs.Check.{unmatched, listTests, checkTests, checkOf}
-use Rattle.runs.proofs.Judging.{done-refused, judge-append, judge-first, judge-done}
+use Rattle.outcomes.proofs.Judging.{done-refused, judge-append, judge-first, judge-done}
 use Rattle.listfile.specs.File.{wordOf, headerOf, headerTests, headingOf, runsAt, runsOf, Laid, degreeOf, bodyTests, bodyOf, fileTests, fileOf}
 use Rattle.listfile.specs.declared.Header.{Header}
 

@@ -8,8 +8,8 @@ use lib.ListN.{length}
 use lib.Dec.{eqb}
 use borrow.Author.Tests.{lt-ltb, le-ltb, eq-eqb, ne-eqb, ltb-false, eqb-true, eqb-false, not-false}
 use Rattle.order.proofs.Laws.{or-false}
-use Rattle.runs.specs.Outcome.{done, refused, judge, andThen}
-use Rattle.runs.proofs.Judging.{judge-append, judge-first, judge-done}
+use Rattle.outcomes.specs.Outcome.{done, refused, judge, andThen}
+use Rattle.outcomes.proofs.Judging.{judge-append, judge-first, judge-done}
 use Rattle.listfile.specs.File.{wordOf, headerOf, countTests, layoutTests, layoutOf, headerTests, headingOf, Laid}
 use Rattle.listfile.specs.declared.Header.{Header}
 

@@ -8,7 +8,7 @@ use lib.ListN.{length, take, drop, length-append}
 use lib.Seq.{take-append-seam, take-length}
 use borrow.Author.Tests.{lt-ltb, le-ltb}
 use Rattle.order.proofs.Laws.{lt-or-le}
-use Rattle.runs.specs.Outcome.{done, refused}
+use Rattle.outcomes.specs.Outcome.{done, refused}
 use Rattle.listfile.specs.File.{headingOf, bodyOf}
 use Rattle.listfile.specs.Listing.{refusalText, textOf, listingOf}
 use Rattle.listfile.specs.Page.{overlaid, Wrote, FileListed}

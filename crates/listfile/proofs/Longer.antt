@@ -11,7 +11,7 @@ use lib.Seq.{length-take-le, getD-take}
 use lib.Dec.{ltb, eqb}
 use borrow.Author.Tests.{lt-ltb, le-ltb, ne-eqb}
 use Rattle.order.proofs.Laws.{lt-or-le}
-use Rattle.runs.specs.Outcome.{Outcome, Test, test, judge, andThen}
+use Rattle.outcomes.specs.Outcome.{Outcome, Test, test, judge, andThen}
 use Rattle.listfile.specs.File.{wordOf, headerOf, countTests, layoutTests, headerTests, headingOf, bodyOf}
 use Rattle.listfile.specs.Listing.{textOf, listingOf}
 use Rattle.listfile.specs.declared.Header.{Header}

@@ -13,9 +13,9 @@ use mir.Val.{SFits, toZ, ofZ}
 use borrow.Author.Tests.{lt-ltb, le-ltb}
 use Rattle.order.specs.Order.{upTo}
 use Rattle.order.proofs.Laws.{lt-or-le, count-le, up-snoc}
-use Rattle.runs.specs.Outcome.{done, refused, _then_else_}
+use Rattle.outcomes.specs.Outcome.{done, refused, _then_else_}
 use Rattle.runs.specs.Runs.{startOf, imageOf, imageEnd, shiftOf, runAt}
-use Rattle.runs.proofs.Judging.{done-refused}
+use Rattle.outcomes.proofs.Judging.{done-refused}
 use Rattle.runs.proofs.Sums.{inside, length-keep}
 use Rattle.runs.proofs.Legality.{homes, home, run-at}
 use Rattle.tables.specs.Tables.{Tables, sizeOf, holderOf}

@@ -5,8 +5,8 @@ use mathlib.Core.Bool.{not, _||_}
 use mathlib.Core.List.{List, [], _∷_, _++_}
 use lib.ListN.{length, getD, take, drop}
 use lib.Dec.{ltb, eqb}
-use Rattle.runs.specs.Outcome.{Outcome, done, Test, test, judge}
-use Rattle.runs.specs.Refusal.{refusalSays}
+use Rattle.outcomes.specs.Outcome.{Outcome, done, Test, test, judge}
+use Rattle.outcomes.specs.Refusal.{refusalSays}
 use Rattle.runs.specs.Runs.{Runs, runs}
 use Rattle.runs.specs.Check.{listTests}
 use Rattle.balance.specs.Lent.{degreeTest}

@@ -3,7 +3,7 @@ use Prim.Native.Nat.{ℕ}
 use mathlib.Core.List.{List, [], _∷_, _++_}
 use lib.IntN.{ℤ}
 use Rattle.order.specs.Order.{upTo}
-use Rattle.runs.specs.Outcome.{Outcome, done, refused}
+use Rattle.outcomes.specs.Outcome.{Outcome, done, refused}
 use Rattle.runs.specs.Runs.{Runs, countOf, startOf, imageOf, shiftOf, runAt}
 use Rattle.tables.specs.Under.{weight}
 use Rattle.balance.specs.Balance.{balanced}

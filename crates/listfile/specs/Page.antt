@@ -4,11 +4,11 @@ use mathlib.Core.Path.{_≡_}
 use mathlib.Core.List.{List, _++_}
 use lib.ListN.{length, take, drop}
 use lib.Dec.{ltb}
-use Rattle.runs.specs.Outcome.{_then_else_}
+use Rattle.outcomes.specs.Outcome.{_then_else_}
 use Rattle.runs.specs.Runs.{runs}
 use Rattle.runs.specs.Legal.{Legal}
-use Rattle.runs.specs.Refusal.{numberOf, placeOf}
-use Rattle.runs.specs.declared.Refusal.{Refusal}
+use Rattle.outcomes.specs.Refusal.{numberOf, placeOf}
+use Rattle.outcomes.specs.declared.Refusal.{Refusal}
 use Rattle.tables.specs.Tables.{Tables, tables, tablesOf, sizeOf}
 use Rattle.balance.specs.Lent.{Lent}
 use Rattle.balance.specs.declared.Balanced.{Balanced}

@@ -4,7 +4,7 @@ use mathlib.Core.Bool.{Bool, true, false}
 use mathlib.Core.List.{List, [], _∷_, _++_}
 use lib.Dec.{ltb}
 use lib.IntN.{ℤ, pos, negsuc, natAbs}
-use Rattle.runs.specs.Outcome.{_then_else_}
+use Rattle.outcomes.specs.Outcome.{_then_else_}
 
 -- the last `places` or fewer digits of a number, with no 0 in front but that of 0 itself
 abbrev pub digits : ℕ → ℕ → List ℕ

@@ -2,12 +2,12 @@
 use super::FileChecked;
 use super::Header;
 use super::words::word;
-use runs::Checked;
-use runs::Refusal;
+use outcomes::Checked;
+use outcomes::Refusal;
 ghost use mathlib.Core.Path.{_≡_};
 ghost use Prim.Native.Nat.{_≤_};
 ghost use lib.ListN.{length};
-ghost use Rattle.runs.specs.Refusal.{checkedSays};
+ghost use Rattle.outcomes.specs.Refusal.{checkedSays};
 ghost use Rattle.listfile.specs.File.{layoutOf, headingOf, fileSays};
 
 // Whether the file has its k starts and k images where they belong, and nothing more.

@@ -6,8 +6,8 @@ mod words;
 
 use layout::read_header;
 pub use listing::list_file;
-use runs::Checked;
-use runs::Refusal;
+use outcomes::Checked;
+use outcomes::Refusal;
 use words::read_words;
 ghost use mathlib.Core.Path.{_≡_};
 ghost use Rattle.listfile.specs.File.{Laid, ListRoom, runsAt, degreeOf, bodyOf, fileOf, fileSays};
@@ -24,7 +24,7 @@ pub struct Header {
 
 pub enum FileChecked {
     Read(Header),
-    Refused(runs::Refusal),
+    Refused(outcomes::Refusal),
 }
 
 // Test 7 of a header.

@@ -9,13 +9,13 @@ use native.Mathlib.Omega.{arith}
 use lib.ListN.{length}
 use borrow.Author.Tests.{ltb-false, lt-ltb, lt-leb, eq-eqb, ne-eqb, eqb-true, not-false}
 use Rattle.order.proofs.Laws.{lt-or-le}
-use Rattle.runs.specs.Outcome.{done}
-use Rattle.runs.specs.Search.{firstBelow}
+use Rattle.outcomes.specs.Outcome.{done}
+use Rattle.outcomes.specs.Search.{firstBelow}
 use Rattle.runs.specs.Runs.{Runs, countOf, startOf, imageOf}
 use Rattle.runs.specs.Legal.{Legal}
 use Rattle.runs.specs.Check.{maxRuns, unmatched, unordered, outOfRange, overlaps, listTests, checkTests, checkOf}
-use Rattle.runs.proofs.Judging.{judge-first}
-use Rattle.runs.proofs.Searches.{any-none, any-false}
+use Rattle.outcomes.proofs.Judging.{judge-first}
+use Rattle.outcomes.proofs.Searches.{any-none, any-false}
 use Rattle.runs.proofs.Legality.{homes}
 use Rattle.runs.proofs.Checking.{Within, matched, in-order-all, rises, none-true, out-of-range-false, out-of-range-within, check-accepts}
 use Rattle.runs.proofs.Sharing.{Shared, overlaps-true, overlaps-false}

@@ -9,16 +9,16 @@ use lib.ListN.{length}
 use lib.Dec.{leb, eqb}
 use borrow.Author.Tests.{ltb-false, lt-ltb, le-ltb, eq-eqb, ne-eqb, leb-false, eqb-true, eqb-false, not-false}
 use Rattle.order.proofs.Laws.{lt-or-le, or-false}
-use Rattle.runs.specs.Outcome.{done, refused, judge}
-use Rattle.runs.specs.Search.{firstBelow}
+use Rattle.outcomes.specs.Outcome.{done, refused, judge}
+use Rattle.outcomes.specs.Search.{firstBelow}
 use Rattle.runs.specs.Runs.{Runs, countOf, startOf, endOf, imageEnd}
 use Rattle.runs.specs.Check.{maxRuns, unmatched, unordered, outOfRange, overlaps, listTests, checkTests, checkOf}
-use Rattle.runs.specs.Refusal.{refusalSays}
+use Rattle.outcomes.specs.Refusal.{refusalSays}
 use Rattle.runs.specs.Parts.{Lasting, CheckedInto}
-use Rattle.runs.specs.declared.Refusal.{Refusal}
-use Rattle.runs.specs.declared.Checked.the-variants.{Refused}
-use Rattle.runs.proofs.Judging.{done-refused}
-use Rattle.runs.proofs.Searches.{any-false}
+use Rattle.outcomes.specs.declared.Refusal.{Refusal}
+use Rattle.outcomes.specs.declared.Checked.the-variants.{Refused}
+use Rattle.outcomes.proofs.Judging.{done-refused}
+use Rattle.outcomes.proofs.Searches.{any-false}
 use Rattle.runs.proofs.Legality.{end-next, end-last}
 
 module _ (n : ℕ) (r : Runs) (x : ℕ) where

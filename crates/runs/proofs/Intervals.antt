@@ -8,7 +8,7 @@ use native.Mathlib.Omega.{arith}
 use lib.ListN.{length, getD}
 use Rattle.order.specs.Order.{upTo}
 use Rattle.order.proofs.Laws.{lt-or-le, length-up, getD-up, getD-map}
-use Rattle.runs.specs.Outcome.{done}
+use Rattle.outcomes.specs.Outcome.{done}
 use Rattle.runs.specs.Runs.{Runs, countOf, startOf, imageOf, endOf, lengthOf, imageEnd}
 use Rattle.runs.specs.Legal.{Legal, DisjointIntervals}
 use Rattle.runs.specs.Check.{maxRuns, checkOf}

@@ -8,7 +8,7 @@ use lib.ListN.{length, length-map}
 use lib.Seq.{ext-getD}
 use Rattle.order.specs.Order.{keyOf, orderOf}
 use Rattle.order.proofs.Laws.{lt-or-le, length-sort, length-up, order-length, pairwise-at, getD-map}
-use Rattle.runs.specs.Outcome.{done}
+use Rattle.outcomes.specs.Outcome.{done}
 use Rattle.runs.specs.Runs.{Runs, runs, countOf, startOf, imageOf, endOf, imageEnd, carry, mapOf}
 use Rattle.runs.specs.Legal.{Legal}
 use Rattle.runs.specs.Parts.{ranked}

@@ -13,7 +13,7 @@ use Rattle.order.proofs.Laws.{lt-or-le, pairwise-at, pairwise-steps, strict-sor
 use Rattle.runs.specs.Legal.{Legal}
 use Rattle.runs.specs.Runs.{Runs, countOf, startOf, imageOf, endOf, lengthOf, imageEnd, has, runAt, carry, mapOf}
 use Rattle.runs.proofs.Sums.{inside, inside-true, inside-is, sumTo, sum-swap, sum-same, sum-full, tally, tally-one, tally-inside, tally-some}
-use Rattle.runs.proofs.Searches.{getD-default, first-only}
+use Rattle.outcomes.proofs.Searches.{getD-default, first-only}
 
 -- the end of a run is the next start, where there is one
 pub end-next : (n : ℕ) (r : Runs) (x : ℕ) → suc x < countOf r → endOf n r x ≡ startOf r (suc x)

@@ -1,9 +1,6 @@
 -- The laws that callers cite, and what the proofs of this crate's functions do.
-pub mod Judging
 pub mod Sums
-pub mod Searches
 pub mod Legality
-mod Searching
 mod Checking
 mod Sharing
 mod Ranking

@@ -6,13 +6,13 @@ use mathlib.Core.Bool.{Bool, true, false}
 use mathlib.Core.List.{List, [], _∷_}
 use lib.Dec.{eqb}
 use borrow.Author.Tests.{lt-ltb, eq-eqb, ne-eqb}
-use Rattle.runs.specs.Outcome.{Outcome, Test, done, refused, judge, andThen, mapDone, _then_else_}
-use Rattle.runs.specs.Refusal.{checkedSays}
+use Rattle.outcomes.specs.Outcome.{Outcome, Test, done, refused, judge, andThen, mapDone, _then_else_}
+use Rattle.outcomes.specs.Refusal.{checkedSays}
 use Rattle.runs.specs.Runs.{Runs, countOf}
 use Rattle.runs.specs.Check.{listTests, checkTests, checkOf}
 use Rattle.runs.specs.Inverse.{inverseListOf, InverseListed}
 use Rattle.runs.specs.Parts.{writtenOf, butForRoom}
-use Rattle.runs.specs.declared.Checked.{Checked}
+use Rattle.outcomes.specs.declared.Checked.{Checked}
 use Rattle.runs.proofs.Writing.{listed-parts}
 
 -- tests that give other numbers than 8

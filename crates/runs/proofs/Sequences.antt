@@ -7,7 +7,7 @@ use mathlib.Core.Logic.{_⊎_, inl, inr}
 use native.Mathlib.Omega.{arith}
 use Rattle.order.specs.Order.{bit}
 use Rattle.order.proofs.Laws.{lt-or-le}
-use Rattle.runs.specs.Outcome.{done}
+use Rattle.outcomes.specs.Outcome.{done}
 use Rattle.runs.specs.Runs.{Runs, countOf, imageOf, lengthOf, imageEnd}
 use Rattle.runs.specs.Legal.{Legal, IntervalSequence}
 use Rattle.runs.specs.Parts.{ranked}

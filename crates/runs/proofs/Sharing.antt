@@ -8,7 +8,7 @@ use borrow.Author.Tests.{ltb-true, lt-ltb, ne-eqb, eqb-false, not-true}
 use Rattle.runs.specs.Runs.{Runs, countOf, imageOf, imageEnd}
 use Rattle.runs.specs.Check.{overlap, overlaps}
 use Rattle.runs.proofs.Sums.{and-true}
-use Rattle.runs.proofs.Searches.{any-true, any-none}
+use Rattle.outcomes.proofs.Searches.{any-true, any-none}
 
 -- two runs whose images share a place
 pub record Shared (n : ℕ) (r : Runs) (x y : ℕ) : Type 0 where

@@ -8,8 +8,8 @@ use native.Mathlib.Nat.{not-suc-le-zero, le-of-suc-le-suc}
 use native.Mathlib.Omega.{arith}
 use lib.ListN.{length, getD, take, drop, take-append-drop}
 use lib.Seq.{getD-take, getD-drop}
-use Rattle.runs.specs.Outcome.{_then_else_}
-use Rattle.runs.specs.Search.{keep, insertAt}
+use Rattle.outcomes.specs.Outcome.{_then_else_}
+use Rattle.outcomes.specs.Search.{keep, insertAt}
 use lib.Dec.{ltb, leb, leb·suc-suc}
 use borrow.Author.Tests.{ltb-true, leb-true, lt-ltb, le-ltb, le-leb, lt-leb}
 use Rattle.order.specs.Order.{All, Strict, bit, count, countBelow}

@@ -10,10 +10,10 @@ use lib.Dec.{ltb}
 use borrow.Author.Tests.{lt-ltb, le-ltb}
 use Rattle.order.proofs.Laws.{lt-or-le}
 use Rattle.runs.specs.Runs.{Runs, countOf, imageOf, imageEnd}
-use Rattle.runs.specs.Search.{firstBelow}
+use Rattle.outcomes.specs.Search.{firstBelow}
 use Rattle.runs.specs.Check.{overlaps}
 use Rattle.runs.specs.Parts.{ranked, Lasting, meets}
-use Rattle.runs.proofs.Searches.{first-le, first-true, first-least}
+use Rattle.outcomes.proofs.Searches.{first-le, first-true, first-least}
 use Rattle.runs.proofs.Sharing.{Shared, overlaps-true, overlaps-false}
 use Rattle.runs.proofs.Ranking.{ranked-below, ranked-rises, ranked-occurs, ranked-one}
 

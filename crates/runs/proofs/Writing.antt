@@ -7,17 +7,17 @@ use lib.ListN.{length, take, drop, length-map}
 use borrow.Author.Tests.{lt-ltb, le-ltb}
 use Rattle.order.specs.Order.{keyOf, orderOf, Gathers}
 use Rattle.order.proofs.Laws.{order-length}
-use Rattle.runs.specs.Outcome.{done, refused, judge, andThen, mapDone, filled}
-use Rattle.runs.specs.Refusal.{refusalSays}
+use Rattle.outcomes.specs.Outcome.{done, refused, judge, andThen, mapDone, filled}
+use Rattle.outcomes.specs.Refusal.{refusalSays}
 use Rattle.runs.specs.Runs.{Runs, countOf, startOf, imageOf}
 use Rattle.runs.specs.Check.{checkTests, checkOf}
 use Rattle.runs.specs.Inverse.{inverseRuns, inverseListOf, InverseListed}
 use Rattle.runs.specs.Parts.{Ordered, Written, roomTest, writtenOf}
-use Rattle.runs.specs.declared.Refusal.{Refusal}
-use Rattle.runs.specs.declared.Refusal.the-variants.{ShortTable}
-use Rattle.runs.specs.declared.Checked.{Checked}
-use Rattle.runs.specs.declared.Checked.the-variants.{Accepted, Refused}
-use Rattle.runs.proofs.Judging.{judge-append}
+use Rattle.outcomes.specs.declared.Refusal.{Refusal}
+use Rattle.outcomes.specs.declared.Refusal.the-variants.{ShortTable}
+use Rattle.outcomes.specs.declared.Checked.{Checked}
+use Rattle.outcomes.specs.declared.Checked.the-variants.{Accepted, Refused}
+use Rattle.outcomes.proofs.Judging.{judge-append}
 use Rattle.runs.proofs.Ranking.{ordered-room, entry-below}
 
 -- the order by image serves to gather as many numbers as there are runs

@@ -4,8 +4,8 @@ use mathlib.Core.Bool.{Bool, not, _&&_, _||_}
 use mathlib.Core.List.{List, [], _∷_}
 use lib.ListN.{length}
 use lib.Dec.{ltb, leb, eqb}
-use Rattle.runs.specs.Outcome.{Outcome, Test, test, judge}
-use Rattle.runs.specs.Search.{firstBelow, anyBelow}
+use Rattle.outcomes.specs.Outcome.{Outcome, Test, test, judge}
+use Rattle.outcomes.specs.Search.{firstBelow, anyBelow}
 use Rattle.runs.specs.Runs.{Runs, countOf, startOf, imageOf, imageEnd}
 
 -- the most runs that a list may have

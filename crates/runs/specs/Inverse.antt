@@ -6,11 +6,11 @@ use mathlib.Core.List.{List, [], _∷_, _++_, map}
 use lib.ListN.{length}
 use lib.Dec.{ltb}
 use Rattle.order.specs.Order.{orderOf}
-use Rattle.runs.specs.Outcome.{Outcome, Test, test, judge, mapDone, filled}
-use Rattle.runs.specs.Refusal.{checkedSays}
+use Rattle.outcomes.specs.Outcome.{Outcome, Test, test, judge, mapDone, filled}
+use Rattle.outcomes.specs.Refusal.{checkedSays}
 use Rattle.runs.specs.Runs.{Runs, runs, countOf, startOf, imageOf}
 use Rattle.runs.specs.Check.{checkTests}
-use Rattle.runs.specs.declared.Checked.{Checked}
+use Rattle.outcomes.specs.declared.Checked.{Checked}
 
 -- it "swaps start and image of each run and stands in rising order of the old images"
 unfoldable pub inverseRuns : Runs → Runs

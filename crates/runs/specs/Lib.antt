@@ -1,7 +1,4 @@
 -- The definitions of a run list, in reading order.
-pub mod Outcome
-pub mod Refusal
-pub mod Search
 pub mod Runs
 pub mod Legal
 pub mod Check

@@ -6,13 +6,13 @@ use mathlib.Core.List.{List, [], _∷_}
 use lib.ListN.{length, getD, take}
 use lib.Dec.{ltb, eqb}
 use Rattle.order.specs.Order.{orderOf}
-use Rattle.runs.specs.Outcome.{Outcome, Test, done, refused, test, judge, mapDone, filled, _then_else_}
-use Rattle.runs.specs.Refusal.{checkedSays}
-use Rattle.runs.specs.Search.{firstBelow}
+use Rattle.outcomes.specs.Outcome.{Outcome, Test, done, refused, test, judge, mapDone, filled, _then_else_}
+use Rattle.outcomes.specs.Refusal.{checkedSays}
+use Rattle.outcomes.specs.Search.{firstBelow}
 use Rattle.runs.specs.Runs.{Runs, countOf, startOf, imageOf, endOf}
 use Rattle.runs.specs.Check.{maxRuns, overlaps, checkOf}
 use Rattle.runs.specs.Inverse.{inverseRuns}
-use Rattle.runs.specs.declared.Checked.{Checked}
+use Rattle.outcomes.specs.declared.Checked.{Checked}
 
 -- the lowest run with the property, or the number of runs
 abbrev pub lowestOf : (Runs → ℕ → Bool) → Runs → ℕ

@@ -5,7 +5,7 @@ use mathlib.Core.List.{List}
 use lib.ListN.{length, getD}
 use lib.Dec.{ltb, leb}
 use lib.IntN.{ℤ, subℕ}
-use Rattle.runs.specs.Search.{firstBelow}
+use Rattle.outcomes.specs.Search.{firstBelow}
 
 -- the starts and the images of the runs; n goes beside them
 pub record Runs : Type 0 where

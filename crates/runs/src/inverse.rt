@@ -1,6 +1,6 @@
 // The inverse list of a checked list: its runs in rising order of image, start and image swapped.
-use super::Checked;
-use super::Refusal;
+use outcomes::Checked;
+use outcomes::Refusal;
 ghost use Prim.Native.Nat.{_≤_};
 ghost use lib.ListN.{length};
 ghost use Rattle.runs.specs.Runs.{runs};

@@ -8,86 +8,15 @@ mod conditions;
 mod inverse;
 mod sweep;
 
+use outcomes::Checked;
+use outcomes::Refusal;
 ghost use mathlib.Core.Path.{_≡_};
 ghost use lib.IntN.{subℕ};
-ghost use Rattle.runs.specs.Refusal.{numberOf, placeOf, checkedSays};
+ghost use Rattle.outcomes.specs.Refusal.{checkedSays};
 ghost use Rattle.runs.specs.Runs.{runs};
 ghost use Rattle.runs.specs.Check.{checkOf};
 ghost use Rattle.runs.specs.Inverse.{InverseListed};
 ghost use Rattle.runs.specs.Parts.{Roomy, CheckedInto, butForRoom};
-
-// Why a call is refused. specs/Refusal.antt gives the paper's number and place of each.
-pub enum Refusal {
-    ListShape,
-    TooManyRuns,
-    FirstStart,
-    StartOrder(u32),
-    ImageRange(u32),
-    ImageOverlap(u32),
-    Degree(u32),
-    ShortTable(u32),
-    TableShape,
-    IntervalIndex(u32),
-    PlaceRange(u32),
-    BrokenInterval(u32),
-    CounterLimit,
-    NoPreimage(u32),
-    FileHeader(u32),
-}
-
-impl Refusal {
-    // The paper's number of a refusal.
-    pub fn number(self) -> u32
-        ensures { λ r. ⌜ r ≡ numberOf self ⌝ }
-    {
-        match self {
-            Refusal::ListShape => 1,
-            Refusal::TooManyRuns => 2,
-            Refusal::FirstStart => 3,
-            Refusal::StartOrder(_) => 4,
-            Refusal::ImageRange(_) => 5,
-            Refusal::ImageOverlap(_) => 6,
-            Refusal::Degree(_) => 7,
-            Refusal::ShortTable(_) => 8,
-            Refusal::TableShape => 9,
-            Refusal::IntervalIndex(_) => 10,
-            Refusal::PlaceRange(_) => 11,
-            Refusal::BrokenInterval(_) => 12,
-            Refusal::CounterLimit => 13,
-            Refusal::NoPreimage(_) => 14,
-            Refusal::FileHeader(_) => 15,
-        }
-    }
-
-    // The place that is given with it.
-    pub fn place(self) -> u32
-        ensures { λ r. ⌜ r ≡ placeOf self ⌝ }
-    {
-        match self {
-            Refusal::ListShape => 0,
-            Refusal::TooManyRuns => 0,
-            Refusal::FirstStart => 0,
-            Refusal::StartOrder(x) => x,
-            Refusal::ImageRange(x) => x,
-            Refusal::ImageOverlap(x) => x,
-            Refusal::Degree(d) => d,
-            Refusal::ShortTable(b) => b,
-            Refusal::TableShape => 0,
-            Refusal::IntervalIndex(x) => x,
-            Refusal::PlaceRange(i) => i,
-            Refusal::BrokenInterval(x) => x,
-            Refusal::CounterLimit => 0,
-            Refusal::NoPreimage(j) => j,
-            Refusal::FileHeader(b) => b,
-        }
-    }
-}
-
-// What becomes of a run list that is handed in.
-pub enum Checked {
-    Accepted,
-    Refused(Refusal),
-}
 
 // The most runs that a list may have.
 pub const MAX_RUNS: usize = 16384;

@@ -11,11 +11,11 @@ use lib.ListN.{length, drop, length-map, List·getD-map}
 use lib.Dec.{leb}
 use borrow.Author.Tests.{le-leb, lt-ltb}
 use Rattle.order.specs.Order.{countBelow}
-use Rattle.runs.specs.Outcome.{done, refused, mapDone, andThen, judge}
-use Rattle.runs.specs.Search.{leading}
+use Rattle.outcomes.specs.Outcome.{done, refused, mapDone, andThen, judge}
+use Rattle.outcomes.specs.Search.{leading}
 use Rattle.runs.specs.Runs.{Runs, countOf, startOf, imageOf, endOf, runAt, mapOf, powerOf}
 use Rattle.runs.specs.Legal.{Legal}
-use Rattle.runs.proofs.Searches.{getD-default, first-only}
+use Rattle.outcomes.proofs.Searches.{getD-default, first-only}
 use Rattle.runs.proofs.Legality.{homes, home, run-at}
 use Rattle.runs.proofs.Bijection.{map-below, power-below, map-onto}
 use Rattle.tables.specs.Tables.{tablesOf, holderOf, unheld, maxIntervals}

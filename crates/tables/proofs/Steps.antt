@@ -9,14 +9,14 @@ use native.Mathlib.Omega.{arith}
 use lib.ListN.{drop}
 use lib.Dec.{leb}
 use borrow.Author.Tests.{lt-ltb, le-ltb, le-leb, lt-leb, leb-false}
-use Rattle.runs.specs.Outcome.{done, refused, judge, andThen}
-use Rattle.runs.specs.Search.{leading}
+use Rattle.outcomes.specs.Outcome.{done, refused, judge, andThen}
+use Rattle.outcomes.specs.Search.{leading}
 use Rattle.runs.specs.Runs.{startOf, carry}
 use Rattle.tables.specs.Tables.{Tables, sizeOf, holderOf, misshapen, outside, broken, shapeTest, indexTest, placeTest, brokenTest}
 use Rattle.tables.specs.Move.{passed, findOf, stepOf, moveOf, movesOf, locateTests}
 use Rattle.tables.specs.Passed.{Shaped, Located, advanceOf}
 use Rattle.tables.specs.declared.Step.{Step}
-use Rattle.runs.proofs.Judging.{judge-append, judge-first}
+use Rattle.outcomes.proofs.Judging.{judge-append, judge-first}
 use Rattle.tables.proofs.Passing.{shaped, inside, inside-is}
 
 -- find

@@ -9,8 +9,8 @@ use native.Mathlib.Omega.{arith}
 use lib.ListN.{length, getD, take, drop}
 use lib.Dec.{leb, ltb, eqb, leb·suc-suc}
 use borrow.Author.Tests.{lt-ltb, le-ltb, eq-eqb, ne-eqb}
-use Rattle.runs.specs.Outcome.{_then_else_}
-use Rattle.runs.specs.Search.{keep, leading}
+use Rattle.outcomes.specs.Outcome.{_then_else_}
+use Rattle.outcomes.specs.Search.{keep, leading}
 use Rattle.order.specs.Order.{Strict, bit, count, countBelow}
 use Rattle.order.proofs.Laws.{lt-or-le, strict-sorted, count-le-length, count-mono, count-lt, count-gt, count-at}
 use Rattle.runs.proofs.Sums.{inside, length-keep, count-inside, keep-slice, keep-at, none-below}

@@ -3,7 +3,7 @@ use Prim.Native.Nat.{ℕ, zero, suc, _+_}
 use mathlib.Core.Bool.{_&&_}
 use lib.ListN.{length}
 use lib.Dec.{ltb, leb}
-use Rattle.runs.specs.Search.{keep}
+use Rattle.outcomes.specs.Search.{keep}
 use Rattle.runs.specs.Runs.{Runs, imageOf, runAt, mapOf, powerOf}
 use Rattle.tables.specs.declared.Step.{Step}
 

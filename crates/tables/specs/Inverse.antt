@@ -3,9 +3,9 @@ use Prim.Native.Nat.{ℕ, _+_, _-_}
 use mathlib.Core.Bool.{Bool, not, _&&_}
 use mathlib.Core.List.{List, [], _∷_}
 use lib.Dec.{ltb, leb}
-use Rattle.runs.specs.Outcome.{Outcome, done, Test, test, judge}
-use Rattle.runs.specs.Refusal.{refusalSays}
-use Rattle.runs.specs.Search.{firstBelow, anyBelow}
+use Rattle.outcomes.specs.Outcome.{Outcome, done, Test, test, judge}
+use Rattle.outcomes.specs.Refusal.{refusalSays}
+use Rattle.outcomes.specs.Search.{firstBelow, anyBelow}
 use Rattle.runs.specs.Runs.{Runs, countOf, startOf, imageOf, endOf}
 use Rattle.tables.specs.Tables.{Tables, shapeTest}
 use Rattle.tables.specs.declared.Source.{Source}

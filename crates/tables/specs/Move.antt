@@ -5,9 +5,9 @@ use mathlib.Core.Bool.{_||_}
 use mathlib.Core.List.{List, [], _∷_}
 use lib.ListN.{drop}
 use lib.Dec.{ltb, leb}
-use Rattle.runs.specs.Outcome.{Outcome, done, refused, Test, test, judge, mapDone, andThen}
-use Rattle.runs.specs.Refusal.{refusalSays}
-use Rattle.runs.specs.Search.{leading}
+use Rattle.outcomes.specs.Outcome.{Outcome, done, refused, Test, test, judge, mapDone, andThen}
+use Rattle.outcomes.specs.Refusal.{refusalSays}
+use Rattle.outcomes.specs.Search.{leading}
 use Rattle.runs.specs.Runs.{startOf, carry}
 use Rattle.tables.specs.Tables.{Tables, holderOf, shapeTest, indexTest, placeTest, brokenTest}
 use Rattle.tables.specs.declared.Step.{Step}

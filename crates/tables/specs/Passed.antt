@@ -4,7 +4,7 @@ use mathlib.Core.Path.{_≡_}
 use mathlib.Core.Bool.{false}
 use mathlib.Core.List.{[], _∷_}
 use lib.ListN.{length}
-use Rattle.runs.specs.Outcome.{Outcome, test, judge}
+use Rattle.outcomes.specs.Outcome.{Outcome, test, judge}
 use Rattle.runs.specs.Runs.{startOf, endOf}
 use Rattle.tables.specs.Tables.{Tables, sizeOf, maxIntervals, misshapen, brokenTest}
 use Rattle.tables.specs.Move.{stepOf}

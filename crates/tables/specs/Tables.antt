@@ -4,7 +4,7 @@ use mathlib.Core.Bool.{Bool, not, _||_}
 use mathlib.Core.List.{List, map}
 use lib.ListN.{length, getD}
 use lib.Dec.{ltb, leb, eqb}
-use Rattle.runs.specs.Outcome.{Test, test}
+use Rattle.outcomes.specs.Outcome.{Test, test}
 use Rattle.runs.specs.Runs.{Runs, runs, countOf, startOf, imageOf, endOf, runAt, carry}
 
 -- starts, images and holders

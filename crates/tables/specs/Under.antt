@@ -5,9 +5,9 @@ use mathlib.Core.Bool.{Bool, _&&_, _||_}
 use mathlib.Core.List.{List, [], _∷_}
 use lib.ListN.{length, take, drop}
 use lib.Dec.{ltb, leb, eqb}
-use Rattle.runs.specs.Outcome.{Outcome, done, refused, Test, test, judge, _then_else_}
-use Rattle.runs.specs.Refusal.{refusalSays}
-use Rattle.runs.specs.Search.{leading, keep}
+use Rattle.outcomes.specs.Outcome.{Outcome, done, refused, Test, test, judge, _then_else_}
+use Rattle.outcomes.specs.Refusal.{refusalSays}
+use Rattle.outcomes.specs.Search.{leading, keep}
 use Rattle.runs.specs.Runs.{Runs, startOf, imageOf, endOf, imageEnd}
 use Rattle.tables.specs.Tables.{Tables, holderOf, unheld, shapeTest, indexTest}
 use Rattle.tables.specs.declared.Weighed.{Weighed}

@@ -1,7 +1,7 @@
 // The tests of 9 to 11, and the part of 12 that speaks of the holder alone.
 use super::Moved;
 use super::Step;
-use runs::Refusal;
+use outcomes::Refusal;
 ghost use mathlib.Core.Path.{_≡_};
 ghost use Prim.Native.Nat.{suc, _<_};
 ghost use lib.ListN.{length, getD};

@@ -28,22 +28,22 @@ pub struct Source {
 
 pub enum Found {
     At(u32),
-    Refused(runs::Refusal),
+    Refused(outcomes::Refusal),
 }
 
 pub enum Moved {
     To(Step),
-    Refused(runs::Refusal),
+    Refused(outcomes::Refusal),
 }
 
 pub enum Inverted {
     From(Source),
-    Refused(runs::Refusal),
+    Refused(outcomes::Refusal),
 }
 
 pub enum Weighed {
     Weight(u32),
-    Refused(runs::Refusal),
+    Refused(outcomes::Refusal),
 }
 
 // The interval that a walk from the first one reaches for place i.
@@ -51,13 +51,13 @@ pub fn find(n: u32, starts: &[u32], images: &[u32], holders: &[u32], i: u32) -> 
     ensures { λ r. ⌜ foundSays r ≡ findOf n (tables (now (starts .entry)) (now (images .entry)) (now (holders .entry))) i ⌝ }
 {
     if checks::is_misshapen(n, starts, images, holders) {
-        return Found::Refused(runs::Refusal::TableShape);
+        return Found::Refused(outcomes::Refusal::TableShape);
     }
     if n <= i {
-        return Found::Refused(runs::Refusal::PlaceRange(i));
+        return Found::Refused(outcomes::Refusal::PlaceRange(i));
     }
     if i < starts[0] {
-        return Found::Refused(runs::Refusal::PlaceRange(i));
+        return Found::Refused(outcomes::Refusal::PlaceRange(i));
     }
     Found::At((walk::stretch_end(starts, 1, i) - 1) as u32)
 }
@@ -95,14 +95,14 @@ pub fn inverse(n: u32, starts: &[u32], images: &[u32], holders: &[u32], j: u32) 
     ensures { λ r. ⌜ invertedSays r ≡ inverseOf n (tables (now (starts .entry)) (now (images .entry)) (now (holders .entry))) j ⌝ }
 {
     if checks::is_misshapen(n, starts, images, holders) {
-        return Inverted::Refused(runs::Refusal::TableShape);
+        return Inverted::Refused(outcomes::Refusal::TableShape);
     }
     if n <= j {
-        return Inverted::Refused(runs::Refusal::PlaceRange(j));
+        return Inverted::Refused(outcomes::Refusal::PlaceRange(j));
     }
     let x = preimage::first_source(n, starts, images, j);
     if starts.len() <= x {
-        return Inverted::Refused(runs::Refusal::NoPreimage(j));
+        return Inverted::Refused(outcomes::Refusal::NoPreimage(j));
     }
     Inverted::From(Source {
         place: starts[x] + (j - images[x]),
@@ -115,10 +115,10 @@ pub fn weight(n: u32, starts: &[u32], images: &[u32], holders: &[u32], x: u32) -
     ensures { λ r. ⌜ weighedSays r ≡ weightOf n (tables (now (starts .entry)) (now (images .entry)) (now (holders .entry))) x ⌝ }
 {
     if checks::is_misshapen(n, starts, images, holders) {
-        return Weighed::Refused(runs::Refusal::TableShape);
+        return Weighed::Refused(outcomes::Refusal::TableShape);
     }
     if starts.len() <= x as usize {
-        return Weighed::Refused(runs::Refusal::IntervalIndex(x));
+        return Weighed::Refused(outcomes::Refusal::IntervalIndex(x));
     }
     under::size(n, starts, images, holders, x)
 }

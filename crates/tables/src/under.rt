@@ -2,7 +2,7 @@
 use super::Weighed;
 use super::checks;
 use super::walk;
-use runs::Refusal;
+use outcomes::Refusal;
 ghost use mathlib.Core.Path.{_≡_};
 ghost use Prim.Native.Nat.{_<_};
 ghost use lib.ListN.{length};

@@ -2,12 +2,12 @@
 use super::Moved;
 use super::Step;
 use super::checks;
-use runs::Refusal;
+use outcomes::Refusal;
 ghost use mathlib.Core.Path.{_≡_};
 ghost use Prim.Native.Nat.{_+_, _≤_};
 ghost use lib.ListN.{length, drop};
 ghost use lib.Dec.{leb};
-ghost use Rattle.runs.specs.Search.{leading};
+ghost use Rattle.outcomes.specs.Search.{leading};
 ghost use Rattle.tables.specs.Tables.{tables};
 ghost use Rattle.tables.specs.Move.{movedSays, movesOf};
 ghost use Rattle.tables.specs.Passed.{Located, advanceOf};

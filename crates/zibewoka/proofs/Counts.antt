@@ -2,7 +2,7 @@
 use Prim.Native.Nat.{ℕ, _≤_}
 use mathlib.Core.Path.{_≡_, refl}
 use native.Mathlib.Omega.{arith}
-use Rattle.runs.specs.Outcome.{Outcome, done, refused, mapDone}
+use Rattle.outcomes.specs.Outcome.{Outcome, done, refused, mapDone}
 use Rattle.tables.specs.Tables.{Tables, maxIntervals}
 use Rattle.tables.specs.Move.{moveOf}
 use Rattle.tables.specs.declared.Step.{Step}

@@ -1,7 +1,7 @@
 -- The answer struct for each outcome: number 0 and the values where the call is done; else the number and the place of
 -- the refusal, and 0 in every other field.
 use Prim.Native.Nat.{ℕ}
-use Rattle.runs.specs.Outcome.{Outcome, done, refused}
+use Rattle.outcomes.specs.Outcome.{Outcome, done, refused}
 use Rattle.tables.specs.declared.Step.{Step}
 use Rattle.tables.specs.declared.Source.{Source}
 use Rattle.zibewoka.specs.declared.ListAnswer.{ListAnswer}

@@ -3,10 +3,10 @@
 use Prim.Native.Nat.{ℕ}
 use mathlib.Core.Path.{_≡_}
 use mathlib.Core.List.{List}
-use Rattle.runs.specs.Outcome.{mapDone}
+use Rattle.outcomes.specs.Outcome.{mapDone}
 use Rattle.runs.specs.Runs.{Runs}
 use Rattle.runs.specs.Inverse.{InverseListed, inverseListOf}
-use Rattle.runs.specs.declared.Checked.{Checked}
+use Rattle.outcomes.specs.declared.Checked.{Checked}
 use Rattle.tables.specs.Tables.{sizeOf}
 use Rattle.balance.specs.Lent.{Lent, Balances, balanceOf}
 use Rattle.balance.specs.declared.Balanced.{Balanced}

@@ -1,7 +1,7 @@
 -- `balance` meets its contract: a list that `check` refuses, or the outcome of an accepted one.
 use borrow.Author.Needs.{needs}
 use mathlib.Core.Path.{sym, ap, _∙_}
-use Rattle.runs.specs.Refusal.{checkedSays}
+use Rattle.outcomes.specs.Refusal.{checkedSays}
 use Rattle.runs.specs.Runs.{runs}
 use Rattle.balance.specs.Lent.{lent}
 use Rattle.balance.proofs.Outcomes.{list-refused}

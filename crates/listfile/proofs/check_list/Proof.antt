@@ -1,7 +1,7 @@
 -- `check_list` meets its contract: check's own tests of the list that was read, and then the degree's.
 use mathlib.Core.Path.{sym, ap, _∙_}
 use native.Mathlib.Omega.{arith}
-use Rattle.runs.specs.Refusal.{checkedSays}
+use Rattle.outcomes.specs.Refusal.{checkedSays}
 use Rattle.listfile.proofs.Bodies.{body-refused, body-checked}
 use borrow.Author.Needs.{needs}
 use Rattle.listfile.proofs.check_list.Statement.{statement}

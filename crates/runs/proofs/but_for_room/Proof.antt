@@ -1,7 +1,7 @@
 -- `but_for_room` meets its contract: by whether the answer's number is 8.
 use mathlib.Core.Path.{sym, ap, _∙_}
 use borrow.Author.Needs.{needs}
-use Rattle.runs.specs.Refusal.{checkedSays}
+use Rattle.outcomes.specs.Refusal.{checkedSays}
 use Rattle.runs.specs.Parts.{butForRoom}
 use Rattle.runs.proofs.Roomless.{but-none, but-eight, but-other}
 use Rattle.runs.proofs.but_for_room.Statement.{statement}

@@ -1,8 +1,8 @@
 -- `invert_into` meets its contract: tests 1 to 6 refuse, or what is written after them is all of it.
 use mathlib.Core.Path.{_≡_, sym, ap, _∙_}
 use borrow.Author.Needs.{needs}
-use Rattle.runs.specs.Outcome.{done}
-use Rattle.runs.specs.Refusal.{checkedSays}
+use Rattle.outcomes.specs.Outcome.{done}
+use Rattle.outcomes.specs.Refusal.{checkedSays}
 use Rattle.runs.specs.Runs.{runs}
 use Rattle.runs.specs.Check.{checkOf}
 use Rattle.runs.proofs.Accepted.{accepted-legal}

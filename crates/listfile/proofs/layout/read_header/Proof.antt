@@ -1,7 +1,7 @@
 -- `read_header` meets its contract: one law for each way to return.
 use mathlib.Core.Path.{sym, ap, _∙_}
 use native.Mathlib.Omega.{arith}
-use Rattle.runs.specs.Refusal.{checkedSays}
+use Rattle.outcomes.specs.Refusal.{checkedSays}
 use Rattle.listfile.proofs.Heading.{heading-short, heading-no-places, heading-no-runs, heading-many, heading-refused, heading-read}
 use borrow.Author.Needs.{needs}
 use Rattle.listfile.proofs.layout.read_header.Statement.{statement}

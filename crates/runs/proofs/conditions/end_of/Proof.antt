@@ -4,7 +4,7 @@ use native.Mathlib.Numerals.{add-one}
 use native.Mathlib.Omega.{arith}
 use lib.ListN.{List·getD-eq-default}
 use borrow.Author.Needs.{needs}
-use Rattle.runs.proofs.Searches.{getD-default}
+use Rattle.outcomes.proofs.Searches.{getD-default}
 use Rattle.runs.proofs.conditions.end_of.Statement.{statement}
 use Rattle.runs.proofs.conditions.end_of.Tie as tie
 

@@ -6,7 +6,7 @@ use borrow.Author.Needs.{needs}
 use Rattle.runs.specs.Runs.{runs}
 use Rattle.runs.specs.Check.{outOfRange}
 use Rattle.runs.proofs.Checking.{out-of-range-true, out-of-range-false}
-use Rattle.runs.proofs.Searching.{Searched, searched-none, searched-hit, searched-next, searched-end}
+use Rattle.outcomes.proofs.Searching.{Searched, searched-none, searched-hit, searched-next, searched-end}
 use Rattle.runs.proofs.conditions.first_out_of_range.Statement.{statement}
 use Rattle.runs.proofs.conditions.first_out_of_range.Tie as tie
 

@@ -6,7 +6,7 @@ use native.Mathlib.Omega.{arith}
 use lib.ListN.{length}
 use Rattle.runs.specs.Runs.{runs}
 use Rattle.runs.specs.Check.{unordered}
-use Rattle.runs.proofs.Searching.{Searched, searched-none, searched-hit, searched-next, searched-end}
+use Rattle.outcomes.proofs.Searching.{Searched, searched-none, searched-hit, searched-next, searched-end}
 use Rattle.runs.proofs.conditions.first_unordered.Statement.{statement}
 use Rattle.runs.proofs.conditions.first_unordered.Tie as tie
 

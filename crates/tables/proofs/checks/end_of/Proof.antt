@@ -1,5 +1,5 @@
 -- `end_of` meets its contract: the next start where there is one, else n.
-use Rattle.runs.proofs.Searches.{getD-default}
+use Rattle.outcomes.proofs.Searches.{getD-default}
 use Prim.Native.Nat.{suc, _≤_}
 use lib.ListN.{length, List·getD-eq-default}
 use native.Mathlib.Numerals.{add-one}

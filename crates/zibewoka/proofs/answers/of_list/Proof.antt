@@ -1,7 +1,7 @@
 -- `answers::of_list` meets its contract, an arm for each variant.
 use borrow.Author.Needs.{needs}
 use mathlib.Core.Path.{sym, ap}
-use Rattle.runs.specs.Refusal.{checkedSays}
+use Rattle.outcomes.specs.Refusal.{checkedSays}
 use Rattle.zibewoka.specs.Answers.{listAnswer}
 use Rattle.zibewoka.proofs.answers.of_list.Statement.{statement}
 use Rattle.zibewoka.proofs.answers.of_list.Tie as tie

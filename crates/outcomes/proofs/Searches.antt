@@ -8,7 +8,7 @@ use native.Mathlib.Nat.{not-suc-le-zero, le-of-suc-le-suc}
 use native.Mathlib.Omega.{arith}
 use lib.ListN.{length, getD}
 use borrow.Author.Tests.{lt-ltb, le-ltb}
-use Rattle.runs.specs.Search.{firstFrom, firstBelow, anyBelow, insertAt}
+use Rattle.outcomes.specs.Search.{firstFrom, firstBelow, anyBelow, insertAt}
 use Rattle.order.proofs.Laws.{lt-or-le}
 
 module _ (p : ℕ → Bool) where

@@ -4,7 +4,7 @@ use mathlib.Core.Bool.{Bool, true, false}
 use mathlib.Core.List.{List, [], _∷_, _++_}
 use lib.ListN.{take, drop}
 use lib.Dec.{ltb}
-use Rattle.runs.specs.Outcome.{_then_else_}
+use Rattle.outcomes.specs.Outcome.{_then_else_}
 
 -- the lowest of x, x + 1, .. x + k - 1 that has the property, or x + k
 abbrev pub firstFrom : (ℕ → Bool) → ℕ → ℕ → ℕ

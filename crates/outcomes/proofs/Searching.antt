@@ -5,7 +5,7 @@ use mathlib.Core.Path.{_≡_, sym, ap, _∙_}
 use mathlib.Core.Bool.{Bool, true, false}
 use native.Mathlib.Numerals.{add-one}
 use native.Mathlib.Omega.{arith}
-use Rattle.runs.specs.Search.{firstFrom, firstBelow}
+use Rattle.outcomes.specs.Search.{firstFrom, firstBelow}
 
 module _ (p : ℕ → Bool) (k : ℕ) where
   -- the search is at x

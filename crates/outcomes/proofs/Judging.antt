@@ -4,7 +4,7 @@ use mathlib.Core.Path.{_≡_, refl, sym}
 use mathlib.Core.Bool.{Bool, true, false}
 use mathlib.Core.List.{List, [], _∷_, _++_}
 use native.Mathlib.Omega.{arith}
-use Rattle.runs.specs.Outcome.{Outcome, done, refused, Test, judge, andThen, _then_else_}
+use Rattle.outcomes.specs.Outcome.{Outcome, done, refused, Test, judge, andThen, _then_else_}
 
 -- what is done is not refused
 pub done-refused : {A : Type 0} (a : A) (k p : ℕ) → done a ≡ refused k p → ⊥

@@ -1,10 +1,10 @@
 -- The number and the place of each refusal (document 01, the table of numbers).
 use Prim.Native.Nat.{ℕ}
-use Rattle.runs.specs.Outcome.{Outcome, done, refused}
-use Rattle.runs.specs.declared.Refusal.{Refusal}
-use Rattle.runs.specs.declared.Refusal.the-variants.{ListShape, TooManyRuns, FirstStart, StartOrder, ImageRange, ImageOverlap, Degree, ShortTable, TableShape, IntervalIndex, PlaceRange, BrokenInterval, CounterLimit, NoPreimage, FileHeader}
-use Rattle.runs.specs.declared.Checked.{Checked}
-use Rattle.runs.specs.declared.Checked.the-variants.{Accepted, Refused}
+use Rattle.outcomes.specs.Outcome.{Outcome, done, refused}
+use Rattle.outcomes.specs.declared.Refusal.{Refusal}
+use Rattle.outcomes.specs.declared.Refusal.the-variants.{ListShape, TooManyRuns, FirstStart, StartOrder, ImageRange, ImageOverlap, Degree, ShortTable, TableShape, IntervalIndex, PlaceRange, BrokenInterval, CounterLimit, NoPreimage, FileHeader}
+use Rattle.outcomes.specs.declared.Checked.{Checked}
+use Rattle.outcomes.specs.declared.Checked.the-variants.{Accepted, Refused}
 
 -- The trade's words: 1 empty, 2 crowded, 3 late, 4 disorder, 5 overrun, 6 clash, 7 degree, 8 short, 9 misfit,
 -- 10 stranger, 11 astray, 12 torn, 13 spent, 14 unlanded, 15 header.
