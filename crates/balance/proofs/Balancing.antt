@@ -15,7 +15,7 @@ use Rattle.order.proofs.Laws.{lt-or-le}
 use Rattle.runs.proofs.Sums.{and-true}
 use Rattle.runs.specs.Legal.{Legal}
 use Rattle.runs.specs.Runs.{Runs, countOf, imageOf, imageEnd, mapOf}
-use Rattle.tables.specs.Under.{under, weight}
+use Rattle.runs.specs.Weight.{under, weight}
 use Rattle.balance.specs.Balance.{heavy, next, pick, cutAt, cutting, balanced, boundOf}
 use Rattle.runs.proofs.Legality.{homes}
 use Rattle.balance.proofs.Refine.{Refines, refines-self, refines-on, refined-legal, refined-map}

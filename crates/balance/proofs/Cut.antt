@@ -7,8 +7,7 @@ use lib.ListN.{length, getD}
 use Rattle.order.proofs.Laws.{lt-or-le}
 use Rattle.outcomes.proofs.Searches.{length-insert, insert-before, insert-at, insert-after}
 use Rattle.runs.specs.Legal.{Legal}
-use Rattle.runs.specs.Runs.{Runs, countOf, startOf, imageOf, endOf, imageEnd}
-use Rattle.tables.specs.Inverse.{carryBack}
+use Rattle.runs.specs.Runs.{Runs, countOf, startOf, imageOf, endOf, imageEnd, carryBack}
 use Rattle.balance.specs.Balance.{cut}
 use Rattle.runs.proofs.Legality.{homes}
 use Rattle.balance.proofs.Refine.{Piece, Refines}

@@ -7,14 +7,14 @@ use mathlib.Core.List.{List, map}
 use native.Mathlib.Omega.{arith}
 use native.Mathlib.Numerals.{add-one}
 use lib.ListN.{length, getD, length-map}
-use Rattle.order.specs.Order.{Sorted, countBelow, keyOf, orderOf}
+use Rattle.order.specs.Lists.{Sorted, countBelow}
+use Rattle.order.specs.Order.{keyOf, orderOf}
 use Rattle.order.proofs.Laws.{lt-or-le, all-at, pairwise-at, at-pairwise, strict-sorted, sorted-at, count-lt, count-gt, count-after, count-le-length, order-length, order-below, order-keys, order-occurs, getD-map}
 use Rattle.runs.specs.Legal.{Legal}
-use Rattle.runs.specs.Runs.{Runs, countOf, startOf, imageOf, endOf, imageEnd, mapOf}
+use Rattle.runs.specs.Runs.{Runs, countOf, startOf, imageOf, endOf, imageEnd, mapOf, carryBack}
 use Rattle.runs.proofs.Legality.{homes, home, run-at, map-at, end-next, end-last, land}
 use Rattle.runs.proofs.Bijection.{map-injective}
-use Rattle.tables.specs.Inverse.{carryBack}
-use Rattle.tables.proofs.Walks.{run-below}
+use Rattle.runs.proofs.Walks.{run-below}
 use Rattle.balance.specs.Cuts.{merged, withCuts, Starts, Higher, Ranked, Ranking, Begins, PieceAt, Covers}
 use Rattle.balance.proofs.Refine.{Piece, Refines, refined-legal, refined-map, refined-images}
 use Rattle.balance.proofs.Merged.{firstFrom, lastTo, merged-length, merged-start, last-start, last-cut}

@@ -6,9 +6,9 @@ use mathlib.Core.List.{List, [], _++_}
 use native.Mathlib.Omega.{arith}
 use lib.ListN.{length, getD, length-append, List·getD-eq-default}
 use lib.Dec.{ltb, eqb}
-use Rattle.order.specs.Order.{Sorted, Strict, bit, countBelow, occurrences, insertSorted}
-use Rattle.order.proofs.Laws.{lt-or-le, all-at, sum-sort, sum-append, length-sort, sorted-sort, sort-insert, sort-sorted, strict-sorted, count-one, count-index, count-found, count-mono, count-lt, count-ge, count-gt, count-at, count-after, count-all, count-le-length, pairwise-at}
-use Rattle.outcomes.proofs.Searches.{getD-default}
+use Rattle.order.specs.Lists.{Sorted, Strict, bit, countBelow, occurrences}
+use Rattle.order.specs.Order.{insertSorted}
+use Rattle.order.proofs.Laws.{lt-or-le, all-at, sum-sort, sum-append, length-sort, sorted-sort, sort-insert, sort-sorted, strict-sorted, count-one, count-index, count-found, count-mono, count-lt, count-ge, count-gt, count-at, count-after, count-all, count-le-length, pairwise-at, getD-default}
 use Rattle.balance.specs.Cuts.{merged, Starts, At}
 use Rattle.balance.specs.declared.Mark.{Mark}
 

@@ -8,15 +8,15 @@ use native.Mathlib.Omega.{arith}
 use lib.ListN.{length, take, drop, getD, length-append, length-drop}
 use lib.Seq.{length-take-le, drop-at, drop-drop}
 use borrow.Author.Tests.{lt-ltb, le-ltb}
-use Rattle.order.specs.Order.{All, Strict, countBelow, insertSorted}
-use Rattle.order.proofs.Laws.{lt-or-le, at-all, strict-sorted, strict-insert, count-mono, count-gt, insert-split, length-insert, take-insert}
+use Rattle.order.specs.Lists.{All, Strict, countBelow}
+use Rattle.order.specs.Order.{insertSorted}
+use Rattle.order.proofs.Laws.{lt-or-le, at-all, strict-sorted, strict-insert, count-mono, count-gt, insert-split, length-insert, take-insert, getD-default}
 use Rattle.runs.specs.Legal.{Legal}
 use Rattle.runs.specs.Runs.{Runs, countOf, startOf, imageOf, endOf, imageEnd}
 use Rattle.runs.proofs.Sums.{count-inside}
-use Rattle.outcomes.proofs.Searches.{getD-default}
 use Rattle.runs.proofs.Legality.{homes, run-at, end-next}
-use Rattle.tables.specs.Under.{weight}
-use Rattle.tables.proofs.Walks.{weight-is, run-below, under-at, weight-less}
+use Rattle.runs.specs.Weight.{weight}
+use Rattle.runs.proofs.Walks.{weight-is, run-below, under-at, weight-less}
 use Rattle.balance.specs.Balance.{cutPlace, cutAt, boundOf}
 use Rattle.balance.specs.Cuts.{merged, withCuts, Starts, Skips, Begins, PieceAt, Covers, BalancingCuts}
 use Rattle.balance.specs.declared.Mark.{Mark}

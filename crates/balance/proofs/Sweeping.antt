@@ -4,7 +4,7 @@ use mathlib.Core.Path.{_≡_, refl, sym, ap, _∙_}
 use native.Mathlib.Omega.{arith}
 use Rattle.runs.specs.Legal.{Legal}
 use Rattle.runs.specs.Runs.{Runs, countOf, imageOf, imageEnd}
-use Rattle.tables.specs.Under.{weight}
+use Rattle.runs.specs.Weight.{weight}
 use Rattle.balance.specs.Balance.{cutPlace, cutAt, cutting, balanced, boundOf}
 use Rattle.balance.proofs.Cut.{cut-count}
 use Rattle.balance.proofs.Weights.{ample, ample-bound}

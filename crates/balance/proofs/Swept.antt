@@ -12,13 +12,12 @@ use borrow.Author.Tests.{lt-ltb, le-ltb, lt-leb, le-leb}
 use Rattle.outcomes.specs.Outcome.{_then_else_}
 use Rattle.outcomes.specs.Search.{firstBelow}
 use Rattle.outcomes.proofs.Searches.{first-only}
-use Rattle.order.specs.Order.{bit}
+use Rattle.order.specs.Lists.{bit}
 use Rattle.order.proofs.Laws.{lt-or-le, bit-le}
 use Rattle.runs.proofs.Sums.{bit-leb, inside-true, inside-is, tally, sum-cut, sum-less}
 use Rattle.runs.specs.Legal.{Legal}
-use Rattle.runs.specs.Runs.{Runs, countOf, imageOf, imageEnd}
-use Rattle.tables.specs.Inverse.{carryBack}
-use Rattle.tables.specs.Under.{weight}
+use Rattle.runs.specs.Runs.{Runs, countOf, imageOf, imageEnd, carryBack}
+use Rattle.runs.specs.Weight.{weight}
 use Rattle.balance.specs.Balance.{cut, cutPlace, cutAt}
 use Rattle.runs.proofs.Legality.{homes, lands, land, land-one}
 use Rattle.balance.proofs.Refine.{Refines}

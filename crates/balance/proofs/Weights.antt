@@ -6,14 +6,13 @@ use native.Mathlib.Omega.{arith}
 use lib.ListN.{length, getD}
 use lib.Dec.{leb}
 use borrow.Author.Tests.{le-leb}
-use Rattle.order.specs.Order.{bit, count, countBelow}
+use Rattle.order.specs.Lists.{bit, count, countBelow}
 use Rattle.order.proofs.Laws.{lt-or-le, bit-le, count-mono}
 use Rattle.runs.proofs.Sums.{sumTo, sum-mono, sum-same, sum-times, sum-grow, bit-leb, times-bit, tally, inside, count-insert, counts-once, count-inside, keep-cut}
 use Rattle.runs.specs.Legal.{Legal}
-use Rattle.runs.specs.Runs.{Runs, countOf, startOf, imageOf, endOf, imageEnd}
-use Rattle.tables.specs.Inverse.{carryBack}
-use Rattle.tables.specs.Under.{under, weight}
-use Rattle.tables.proofs.Walks.{weight-is}
+use Rattle.runs.specs.Runs.{Runs, countOf, startOf, imageOf, endOf, imageEnd, carryBack}
+use Rattle.runs.specs.Weight.{under, weight}
+use Rattle.runs.proofs.Walks.{weight-is}
 use Rattle.balance.specs.Balance.{cut, cutAt}
 use Rattle.runs.proofs.Legality.{homes, lands, landed}
 use Rattle.balance.proofs.Cut.{Is, cut-count, cut-left, cut-first, cut-second, cut-right}

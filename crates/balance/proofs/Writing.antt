@@ -5,7 +5,7 @@ use mathlib.Core.List.{List, map}
 use native.Mathlib.Omega.{arith}
 use native.Mathlib.Numerals.{add-one}
 use lib.ListN.{length, take, drop, getD, set, length-map}
-use Rattle.order.specs.Order.{countBelow}
+use Rattle.order.specs.Lists.{countBelow}
 use Rattle.order.proofs.Filling.{Filling, filling-none, filling-length, filling-next, filling-all}
 use Rattle.order.proofs.Laws.{all-at, at-all, strict-length, getD-map}
 use Rattle.runs.specs.Legal.{Legal}
@@ -13,7 +13,7 @@ use Rattle.runs.specs.Runs.{Runs, runs, countOf, startOf, imageOf, endOf, runAt
 use Rattle.runs.proofs.Legality.{homes, home, run-at}
 use lib.Seq.{take-at}
 use Rattle.tables.specs.Tables.{tablesOf}
-use Rattle.tables.proofs.Walks.{run-below}
+use Rattle.runs.proofs.Walks.{run-below}
 use Rattle.balance.specs.Cuts.{merged, withCuts, Starts, At, Has, over, ListWritten, TablesWritten}
 use Rattle.balance.specs.declared.Mark.{Mark}
 use Rattle.balance.proofs.Merged.{merged-length, merged-count, merged-next, place-count}

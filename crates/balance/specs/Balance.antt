@@ -4,9 +4,8 @@ use mathlib.Core.Bool.{Bool, true, false, not, _&&_}
 use lib.ListN.{getD}
 use lib.Dec.{ltb, leb}
 use Rattle.outcomes.specs.Search.{firstBelow, anyBelow, insertAt}
-use Rattle.runs.specs.Runs.{Runs, runs, countOf, imageOf}
-use Rattle.tables.specs.Inverse.{carryBack}
-use Rattle.tables.specs.Under.{under, weight}
+use Rattle.runs.specs.Runs.{Runs, runs, countOf, imageOf, carryBack}
+use Rattle.runs.specs.Weight.{under, weight}
 
 -- "An interval is heavy when its weight is at least 2d."
 abbrev pub heavy : ℕ → ℕ → Runs → ℕ → Bool

@@ -3,7 +3,8 @@ use Prim.Native.Nat.{ℕ, suc, _+_, _-_, _≤_, _<_}
 use mathlib.Core.Path.{_≡_}
 use mathlib.Core.List.{List, _++_, map}
 use lib.ListN.{length, take, drop, getD, replicate}
-use Rattle.order.specs.Order.{All, Sorted, Strict, countBelow, sortBy, orderOf}
+use Rattle.order.specs.Lists.{All, Sorted, Strict, countBelow}
+use Rattle.order.specs.Order.{sortBy, orderOf}
 use Rattle.runs.specs.Check.{maxRuns}
 use Rattle.runs.specs.Legal.{Legal}
 use Rattle.runs.specs.Runs.{Runs, runs, countOf, startOf, imageOf, imageEnd, mapOf}

@@ -1,17 +1,11 @@
 // A list's starts and the cuts made so far, merged: marks along them.
 use super::Mark;
+use order::entry_or;
 ghost use mathlib.Core.Path.{_≡_};
 ghost use Prim.Native.Nat.{_+_, _≤_, _<_};
 ghost use lib.ListN.{length, getD};
-ghost use Rattle.order.specs.Order.{Sorted, countBelow};
+ghost use Rattle.order.specs.Lists.{Sorted, countBelow};
 ghost use Rattle.balance.specs.Cuts.{merged, Starts, At, Skips};
-
-// The entry at `i`, or `n` where there is none.
-fn entry_or(s: &[u32], i: usize, n: u32) -> u32
-    ensures { λ r. ⌜ r ≡ getD (now (s .entry)) i n ⌝ }
-{
-    if i < s.len() { s[i] } else { n }
-}
 
 // The mark before the first entry at or above `t`.
 pub(crate) fn mark_at(starts: &[u32], cuts: &[u32], t: u32) -> Mark

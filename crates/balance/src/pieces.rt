@@ -5,7 +5,7 @@ use super::marks;
 ghost use mathlib.Core.Path.{_≡_};
 ghost use Prim.Native.Nat.{_+_, _-_, _<_};
 ghost use lib.ListN.{getD};
-ghost use Rattle.order.specs.Order.{Sorted, countBelow};
+ghost use Rattle.order.specs.Lists.{Sorted, countBelow};
 ghost use Rattle.runs.specs.Runs.{runs};
 ghost use Rattle.balance.specs.Cuts.{withCuts, Starts, Ranked, Ranking, Begins, PieceAt, Higher, Covers};
 

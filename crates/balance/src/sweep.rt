@@ -4,7 +4,7 @@ use super::marks;
 use super::pieces;
 ghost use Prim.Native.Nat.{_≤_};
 ghost use lib.ListN.{length};
-ghost use Rattle.order.specs.Order.{Room};
+ghost use Rattle.sorting.specs.Parts.{Room};
 ghost use Rattle.runs.specs.Legal.{Legal};
 ghost use Rattle.runs.specs.Runs.{runs};
 ghost use Rattle.runs.specs.Check.{maxRuns};
@@ -75,8 +75,8 @@ fn cuts_by_image(
     ensures { λ r. ⌜ BalancingCuts d n (runs (now (starts .entry)) (now (images .entry)))
         (now (working .entry)) (now (working .exit)) r ⌝ }
 {
-    order::sort_by_key(order, ranked, images);
-    order::gather(images, order, ranked);
+    sorting::sort_by_key(order, ranked, images);
+    sorting::gather(images, order, ranked);
     let k = images.len();
     sweep(
         n,

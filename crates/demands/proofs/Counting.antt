@@ -8,7 +8,7 @@ use native.Mathlib.Omega.{arith}
 use lib.ListN.{length, length-append}
 use lib.Dec.{ltb}
 use borrow.Author.Tests.{ltb-true}
-use Rattle.order.specs.Order.{All}
+use Rattle.order.specs.Lists.{All}
 use Rattle.order.proofs.Laws.{all-append, sum-append}
 use Rattle.outcomes.specs.Outcome.{_then_else_}
 use Rattle.runs.specs.Runs.{Runs, mapOf}

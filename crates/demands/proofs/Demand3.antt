@@ -7,7 +7,7 @@ use mathlib.Core.List.{List, [], _∷_, _++_, map}
 use native.Mathlib.Omega.{arith}
 use lib.ListN.{length}
 use borrow.Author.Tests.{le-ltb}
-use Rattle.order.specs.Order.{All}
+use Rattle.order.specs.Lists.{All}
 use Rattle.outcomes.specs.Outcome.{done, refused, judge, andThen}
 use Rattle.runs.specs.Runs.{Runs, countOf, startOf, imageOf, endOf, runAt, carry, mapOf}
 use Rattle.runs.specs.Legal.{Legal}
@@ -16,9 +16,9 @@ use Rattle.outcomes.proofs.Judging.{judge-append}
 use Rattle.runs.proofs.Accepted.{accepted-legal}
 use Rattle.runs.proofs.Legality.{homes, home, run-at}
 use Rattle.tables.specs.Tables.{tablesOf, maxIntervals}
-use Rattle.tables.specs.Under.{weight}
+use Rattle.runs.specs.Weight.{weight}
 use Rattle.bookmarks.specs.Bookmark.{fresh, Marking, markingsOf}
-use Rattle.tables.proofs.Walks.{above-to, walk-bound}
+use Rattle.runs.proofs.Walks.{above-to, walk-bound}
 use Rattle.tables.proofs.LegalTables.{legal-find-beyond}
 use Rattle.tables.specs.Move.{findOf}
 use Rattle.balance.specs.Balance.{balanced, boundOf}

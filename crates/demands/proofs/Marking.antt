@@ -8,7 +8,7 @@ use native.Mathlib.Omega.{arith}
 use lib.ListN.{length}
 use native.Mathlib.Nat.{mul-le-mul-left}
 use borrow.Author.Tests.{le-leb, lt-leb}
-use Rattle.order.specs.Order.{All}
+use Rattle.order.specs.Lists.{All}
 use Rattle.order.proofs.Laws.{lt-or-le}
 use Rattle.outcomes.specs.Outcome.{Outcome, done, refused}
 use Rattle.runs.specs.Runs.{Runs, runAt, mapOf}

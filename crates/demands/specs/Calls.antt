@@ -1,7 +1,7 @@
 -- The calls of a walk, their replies, and what these count.
 use Prim.Native.Nat.{ℕ, _*_, _≤_}
 use mathlib.Core.List.{List, map}
-use Rattle.order.specs.Order.{sumOf}
+use Rattle.order.specs.Lists.{sumOf}
 use Rattle.outcomes.specs.Outcome.{Outcome, done, refused}
 use Rattle.tables.specs.declared.Step.{Step}
 use Rattle.bookmarks.specs.Bookmark.{Marking}

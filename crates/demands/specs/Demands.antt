@@ -5,17 +5,17 @@ use mathlib.Core.Path.{_≡_}
 use mathlib.Core.Logic.{_↔_, _⊎_}
 use mathlib.Core.List.{List, [], _∷_, _++_, map}
 use lib.ListN.{length}
-use Rattle.order.specs.Order.{All}
+use Rattle.order.specs.Lists.{All}
 use Rattle.outcomes.specs.Outcome.{done, refused}
 use Rattle.outcomes.specs.Refusal.{checkedSays}
-use Rattle.runs.specs.Runs.{Runs, countOf, runAt, mapOf, powerOf}
+use Rattle.runs.specs.Runs.{Runs, countOf, runAt, mapOf, powerOf, carryBack}
 use Rattle.runs.specs.Legal.{DisjointIntervals, IntervalSequence}
 use Rattle.runs.specs.Check.{maxRuns, checkTests, checkOf}
 use Rattle.runs.specs.Inverse.{inverseRuns, inverseListTests, inverseListOf, InverseListed}
 use Rattle.outcomes.specs.declared.Checked.{Checked}
 use Rattle.tables.specs.Tables.{Tables, tablesOf}
 use Rattle.tables.specs.Move.{movedSays, findTests, locateTests, moveTests, passed, stepOf, findOf, moveOf, movesOf, Stopped}
-use Rattle.tables.specs.Inverse.{carryBack, sourceOf, inverseTests, inverseOf}
+use Rattle.tables.specs.Inverse.{sourceOf, inverseTests, inverseOf}
 use Rattle.tables.specs.Under.{underTests, underCount, weightOf, startsUnderOf}
 use Rattle.tables.specs.declared.Moved.{Moved}
 use Rattle.bookmarks.specs.Bookmark.{bookmarkTests, bookmarkOf, fresh, Advances, marking, markedSays, markingOf, markingsOf}

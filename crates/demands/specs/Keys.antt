@@ -10,7 +10,7 @@ use Rattle.runs.specs.Check.{unmatched, unordered, outOfRange, overlap, overlap
 use Rattle.tables.specs.Tables.{Tables, tablesOf, holderOf, misshapen, outside, unheld, broken}
 use Rattle.tables.specs.Move.{passed, stepOf, moveOf, onwards, movesOf}
 use Rattle.tables.specs.Inverse.{sends, sourceOf, inverseOf}
-use Rattle.tables.specs.Under.{weight}
+use Rattle.runs.specs.Weight.{weight}
 use Rattle.tables.specs.declared.Step.{Step}
 use Rattle.tables.specs.declared.Source.{Source}
 use Rattle.balance.specs.Balance.{cutting, balanced}

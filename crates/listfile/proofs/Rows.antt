@@ -11,7 +11,7 @@ use lib.IntN.{ℤ, natAbs, subℕ}
 use mir.Syntax.{w64}
 use mir.Val.{SFits, toZ, ofZ}
 use borrow.Author.Tests.{lt-ltb, le-ltb}
-use Rattle.order.specs.Order.{upTo}
+use Rattle.order.specs.Lists.{upTo}
 use Rattle.order.proofs.Laws.{lt-or-le, count-le, up-snoc}
 use Rattle.outcomes.specs.Outcome.{done, refused, _then_else_}
 use Rattle.runs.specs.Runs.{startOf, imageOf, imageEnd, shiftOf, runAt}
@@ -19,7 +19,8 @@ use Rattle.outcomes.proofs.Judging.{done-refused}
 use Rattle.runs.proofs.Sums.{inside, length-keep}
 use Rattle.runs.proofs.Legality.{homes, home, run-at}
 use Rattle.tables.specs.Tables.{Tables, sizeOf, holderOf}
-use Rattle.tables.specs.Under.{weight, weightOf}
+use Rattle.runs.specs.Weight.{weight}
+use Rattle.tables.specs.Under.{weightOf}
 use Rattle.tables.proofs.LegalTables.{holder-is, legal-weight}
 use Rattle.listfile.specs.Text.{decimal, negative, signed, texts}
 use Rattle.listfile.specs.Listing.{headText, rowText, rowOf, refusalText}

@@ -2,10 +2,10 @@
 use Prim.Native.Nat.{ℕ}
 use mathlib.Core.List.{List, [], _∷_, _++_}
 use lib.IntN.{ℤ}
-use Rattle.order.specs.Order.{upTo}
+use Rattle.order.specs.Lists.{upTo}
 use Rattle.outcomes.specs.Outcome.{Outcome, done, refused}
 use Rattle.runs.specs.Runs.{Runs, countOf, startOf, imageOf, shiftOf, runAt}
-use Rattle.tables.specs.Under.{weight}
+use Rattle.runs.specs.Weight.{weight}
 use Rattle.balance.specs.Balance.{balanced}
 use Rattle.listfile.specs.File.{fileOf, runsOf}
 use Rattle.listfile.specs.Text.{decimal, signed, line, texts}

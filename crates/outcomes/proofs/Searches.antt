@@ -91,8 +91,3 @@ insert-after zero v l y d h m = refl
 insert-after (suc x) v [] y d h m = absurd (not-suc-le-zero h)
 insert-after (suc x) v (s ∷ ss) zero d h m = absurd (not-suc-le-zero m)
 insert-after (suc x) v (s ∷ ss) (suc y) d h m = insert-after x v ss y d (le-of-suc-le-suc h) (le-of-suc-le-suc m)
-
-pub getD-default : (l : List ℕ) (i d e : ℕ) → i < length l → getD l i d ≡ getD l i e
-getD-default [] i d e h = absurd (not-suc-le-zero h)
-getD-default (s ∷ ss) zero d e h = refl
-getD-default (s ∷ ss) (suc i) d e h = getD-default ss i d e (le-of-suc-le-suc h)

@@ -19,11 +19,6 @@ firstBelow p k = firstFrom p k 0
 abbrev pub anyBelow : (ℕ → Bool) → ℕ → Bool
 anyBelow p k = ltb (firstBelow p k) k
 
--- how many elements at the head of the list have the property
-abbrev pub leading : (ℕ → Bool) → List ℕ → ℕ
-leading p [] = 0
-leading p (s ∷ ss) = elim (p s) [ true ↦ suc (leading p ss) | false ↦ 0 ]
-
 -- the elements that have the property
 abbrev pub keep : (ℕ → Bool) → List ℕ → List ℕ
 keep p [] = []

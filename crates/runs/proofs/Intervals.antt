@@ -6,7 +6,7 @@ use mathlib.Core.Logic.{_⊎_, inl, inr, _≢_}
 use mathlib.Core.List.{List, map}
 use native.Mathlib.Omega.{arith}
 use lib.ListN.{length, getD}
-use Rattle.order.specs.Order.{upTo}
+use Rattle.order.specs.Lists.{upTo}
 use Rattle.order.proofs.Laws.{lt-or-le, length-up, getD-up, getD-map}
 use Rattle.outcomes.specs.Outcome.{done}
 use Rattle.runs.specs.Runs.{Runs, countOf, startOf, imageOf, endOf, lengthOf, imageEnd}

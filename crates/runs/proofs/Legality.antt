@@ -8,12 +8,12 @@ use mathlib.Core.List.{List, [], _∷_}
 use native.Mathlib.Nat.{le-of-suc-le-suc}
 use native.Mathlib.Omega.{arith}
 use lib.ListN.{length, getD, List·getD-eq-default}
-use Rattle.order.specs.Order.{Strict, bit, countBelow}
-use Rattle.order.proofs.Laws.{lt-or-le, pairwise-at, pairwise-steps, strict-sorted, count-le-length, count-lt, count-gt}
+use Rattle.order.specs.Lists.{Strict, bit, countBelow}
+use Rattle.order.proofs.Laws.{lt-or-le, pairwise-at, pairwise-steps, strict-sorted, count-le-length, count-lt, count-gt, getD-default}
 use Rattle.runs.specs.Legal.{Legal}
 use Rattle.runs.specs.Runs.{Runs, countOf, startOf, imageOf, endOf, lengthOf, imageEnd, has, runAt, carry, mapOf}
 use Rattle.runs.proofs.Sums.{inside, inside-true, inside-is, sumTo, sum-swap, sum-same, sum-full, tally, tally-one, tally-inside, tally-some}
-use Rattle.outcomes.proofs.Searches.{getD-default, first-only}
+use Rattle.outcomes.proofs.Searches.{first-only}
 
 -- the end of a run is the next start, where there is one
 pub end-next : (n : ℕ) (r : Runs) (x : ℕ) → suc x < countOf r → endOf n r x ≡ startOf r (suc x)

@@ -8,6 +8,7 @@ mod Sweeping
 pub mod Accepted
 pub mod Intervals
 pub mod Bijection
+pub mod Walks
 pub mod Tiling
 pub mod Sequences
 pub mod Inversion

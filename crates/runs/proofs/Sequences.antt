@@ -5,7 +5,7 @@ use Prim.Native.Nat.{ℕ, zero, suc, _-_, _≤_, _<_}
 use mathlib.Core.Path.{_≡_, sym, ap}
 use mathlib.Core.Logic.{_⊎_, inl, inr}
 use native.Mathlib.Omega.{arith}
-use Rattle.order.specs.Order.{bit}
+use Rattle.order.specs.Lists.{bit}
 use Rattle.order.proofs.Laws.{lt-or-le}
 use Rattle.outcomes.specs.Outcome.{done}
 use Rattle.runs.specs.Runs.{Runs, countOf, imageOf, lengthOf, imageEnd}

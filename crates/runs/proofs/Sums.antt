@@ -12,7 +12,7 @@ use Rattle.outcomes.specs.Outcome.{_then_else_}
 use Rattle.outcomes.specs.Search.{keep, insertAt}
 use lib.Dec.{ltb, leb, leb·suc-suc}
 use borrow.Author.Tests.{ltb-true, leb-true, lt-ltb, le-ltb, le-leb, lt-leb}
-use Rattle.order.specs.Order.{All, Strict, bit, count, countBelow}
+use Rattle.order.specs.Lists.{All, Strict, bit, count, countBelow}
 use Rattle.order.proofs.Laws.{lt-or-le, all-map, bit-le, sum-append, strict-sorted, count-le-length, count-none, count-lt, count-gt, count-at}
 
 pub and-true : (s t : Bool) → s && t ≡ true → (s ≡ true) × (t ≡ true)

@@ -5,7 +5,8 @@ use mathlib.Core.List.{List, _++_, map}
 use native.Mathlib.Omega.{arith}
 use lib.ListN.{length, take, drop, length-map}
 use borrow.Author.Tests.{lt-ltb, le-ltb}
-use Rattle.order.specs.Order.{keyOf, orderOf, Gathers}
+use Rattle.order.specs.Order.{keyOf, orderOf}
+use Rattle.sorting.specs.Parts.{Gathers}
 use Rattle.order.proofs.Laws.{order-length}
 use Rattle.outcomes.specs.Outcome.{done, refused, judge, andThen, mapDone, filled}
 use Rattle.outcomes.specs.Refusal.{refusalSays}

@@ -1,6 +1,7 @@
 -- The definitions of a run list, in reading order.
 pub mod Runs
 pub mod Legal
+pub mod Weight
 pub mod Check
 pub mod Inverse
 pub mod Parts

@@ -54,6 +54,10 @@ carry r x p = imageOf r x + (p - startOf r x)
 abbrev pub mapOf : ℕ → Runs → ℕ → ℕ
 mapOf n r p = carry r (runAt n r p) p
 
+-- start + (j − image): the place of run x that it sends to j
+abbrev pub carryBack : Runs → ℕ → ℕ → ℕ
+carryBack r x j = startOf r x + (j - imageOf r x)
+
 -- the function applied m times
 unfoldable pub powerOf : ℕ → Runs → ℕ → ℕ → ℕ
 powerOf n r zero p = p

@@ -1,36 +1,19 @@
 // Tests 1, 4 and 5 of a run list, each by itself.
+use order::wide;
 ghost use mathlib.Core.Path.{_≡_};
 ghost use mathlib.Core.List.{List};
-ghost use Prim.Native.Nat.{ℕ, suc, _<_};
-ghost use lib.ListN.{length, getD};
+ghost use Prim.Native.Nat.{ℕ, _<_};
+ghost use lib.ListN.{length};
 ghost use Rattle.runs.specs.Runs.{runs, imageEnd};
 ghost use Rattle.runs.specs.Check.{unmatched, unordered, outOfRange};
 ghost use Rattle.runs.specs.Parts.{Lasting, lowestOf};
-
-// A number at a wider type: the bound is for the sums it stands in.
-pub(crate) fn wide(x: u32) -> u64
-    ensures { λ r. ⌜ (r ≡ x) × (r < 4294967296) ⌝ }
-{
-    x as u64
-}
-
-// The end of run x.
-fn end_of(n: u32, starts: &[u32], x: usize) -> u32
-    requires { ⌜ x < length (now starts) ⌝ }
-    ensures { λ r. ⌜ r ≡ getD (now (starts .entry)) (suc x) n ⌝ }
-{
-    if x + 1 < starts.len() {
-        return starts[x + 1];
-    }
-    n
-}
 
 // Where the image of run x ends.
 pub(crate) fn image_end(n: u32, starts: &[u32], images: &[u32], x: usize) -> u64
     requires { ⌜ (x < length (now starts)) × Lasting n (runs (now starts) (now images)) ⌝ }
     ensures { λ r. ⌜ r ≡ imageEnd n (runs (now (starts .entry)) (now (images .entry))) x ⌝ }
 {
-    let end = end_of(n, starts, x);
+    let end = order::entry_or(starts, x + 1, n);
     wide(images[x]) + wide(end - starts[x])
 }
 

@@ -26,7 +26,7 @@ pub(crate) fn write(
     if to_images.len() < k {
         return Checked::Refused(Refusal::ShortTable(k as u32));
     }
-    order::gather(images, order, to_starts);
-    order::gather(starts, order, to_images);
+    sorting::gather(images, order, to_starts);
+    sorting::gather(starts, order, to_images);
     Checked::Accepted
 }

@@ -1,5 +1,6 @@
 // Test 6 of a run list, along the order of the runs by image.
 use super::conditions;
+use order::wide;
 ghost use mathlib.Core.Path.{_≡_};
 ghost use mathlib.Core.Logic.{_⊎_};
 ghost use Prim.Native.Nat.{_<_, _≤_};
@@ -34,14 +35,14 @@ fn meets_another(
     ensures { λ r. ⌜ r ≡ meets (runs (now (starts .entry)) (now (images .entry))) t reached end ⌝ }
 {
     let x = order[t] as usize;
-    if conditions::wide(images[x]) < reached {
+    if wide(images[x]) < reached {
         return true;
     }
     if starts.len() <= t + 1 {
         return false;
     }
     let y = order[t + 1] as usize;
-    conditions::wide(images[y]) < end
+    wide(images[y]) < end
 }
 
 // The lowest run that test 6 refuses, or the number of runs. The images that end latest so far, and the next image,
@@ -77,6 +78,6 @@ pub(crate) fn first_overlap(
         × Roomy (now starts) (now order) × Roomy (now starts) (now spare) ⌝ }
     ensures { λ r. ⌜ OverlapFound n (runs (now (starts .entry)) (now (images .entry))) (now (order .exit)) r ⌝ }
 {
-    order::sort_by_key(order, spare, images);
+    sorting::sort_by_key(order, spare, images);
     lowest_overlap(n, starts, images, order)
 }

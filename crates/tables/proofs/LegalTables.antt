@@ -10,25 +10,26 @@ use native.Mathlib.Omega.{arith}
 use lib.ListN.{length, drop, length-map, List·getD-map}
 use lib.Dec.{leb}
 use borrow.Author.Tests.{le-leb, lt-ltb}
-use Rattle.order.specs.Order.{countBelow}
+use Rattle.order.specs.Lists.{countBelow, leading}
 use Rattle.outcomes.specs.Outcome.{done, refused, mapDone, andThen, judge}
-use Rattle.outcomes.specs.Search.{leading}
-use Rattle.runs.specs.Runs.{Runs, countOf, startOf, imageOf, endOf, runAt, mapOf, powerOf}
+use Rattle.runs.specs.Runs.{Runs, countOf, startOf, imageOf, endOf, runAt, mapOf, powerOf, carryBack}
 use Rattle.runs.specs.Legal.{Legal}
-use Rattle.outcomes.proofs.Searches.{getD-default, first-only}
+use Rattle.order.proofs.Laws.{getD-default}
+use Rattle.outcomes.proofs.Searches.{first-only}
 use Rattle.runs.proofs.Legality.{homes, home, run-at}
 use Rattle.runs.proofs.Bijection.{map-below, power-below, map-onto}
 use Rattle.tables.specs.Tables.{tablesOf, holderOf, unheld, maxIntervals}
 use Rattle.tables.specs.Move.{passed, findOf, moveOf, movesOf, onwards}
-use Rattle.tables.specs.Inverse.{carryBack, sends, sourceOf, inverseOf}
-use Rattle.tables.specs.Under.{under, weight, underFirst, underCount, weightOf, stretch, startsUnderOf}
+use Rattle.tables.specs.Inverse.{sends, sourceOf, inverseOf}
+use Rattle.runs.specs.Weight.{under, weight}
+use Rattle.tables.specs.Under.{underFirst, underCount, weightOf, stretch, startsUnderOf}
 use Rattle.tables.specs.Function.{passedFrom, stepFrom, passedIn, stepsFrom}
 use Rattle.tables.specs.Passed.{Shaped, Located, advanceOf, stretchOf}
 use Rattle.tables.proofs.Passing.{fitting, shaped, held, whole}
 use Rattle.tables.proofs.Steps.{find-far, find-at, locate-in, move-located, advance-to}
 use Rattle.tables.proofs.Sources.{sends-is, inverse-from}
 use Rattle.tables.proofs.Stretches.{placed, weight-indexed}
-use Rattle.tables.proofs.Walks.{walk-passed, walk-count, above-to, map-in, under-first, under-count, under-is}
+use Rattle.runs.proofs.Walks.{walk-passed, walk-count, above-to, map-in, under-first, under-count, under-is}
 
 module _ (n : ℕ) (r : Runs) (c : Legal n r) (few : countOf r ≤ maxIntervals) where
   shape : Shaped n (tablesOf n r)

@@ -1,9 +1,7 @@
 -- The laws that callers cite, and what the proofs of this crate's functions do.
-mod Leading
 mod Passing
 mod Steps
 pub mod Moves
 mod Sources
 pub mod Stretches
-pub mod Walks
 pub mod LegalTables

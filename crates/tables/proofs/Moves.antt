@@ -11,17 +11,16 @@ use lib.ListN.{length, getD, drop, length-drop, List·getD-eq-default}
 use lib.Seq.{getD-drop}
 use lib.Dec.{leb}
 use borrow.Author.Tests.{leb-true, leb-false}
-use Rattle.order.proofs.Laws.{lt-or-le}
-use Rattle.outcomes.proofs.Searches.{getD-default}
+use Rattle.order.proofs.Laws.{lt-or-le, getD-default}
 use Rattle.outcomes.specs.Outcome.{Outcome, done, refused, judge, mapDone, andThen, _then_else_}
-use Rattle.outcomes.specs.Search.{leading}
+use Rattle.order.specs.Lists.{leading}
 use Rattle.runs.specs.Runs.{carry}
 use Rattle.tables.specs.Tables.{Tables, holderOf, maxIntervals, unheld, broken, brokenTest}
 use Rattle.tables.specs.Move.{passed, stepOf, moveOf, movesOf, counted, onwards, Stopped}
 use Rattle.tables.specs.Passed.{Shaped, Located, advanceOf}
 use Rattle.tables.specs.declared.Step.{Step}
 use Rattle.outcomes.proofs.Judging.{done-refused, judge-first}
-use Rattle.tables.proofs.Leading.{leading-within, leading-last, leading-next}
+use Rattle.order.proofs.Leading.{leading-within, leading-last, leading-next}
 use Rattle.tables.proofs.Passing.{whole-is, held-is}
 use Rattle.tables.proofs.Steps.{locate-in, located, move-is, move-located, advance-broken}
 

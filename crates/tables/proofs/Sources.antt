@@ -12,12 +12,12 @@ use borrow.Author.Tests.{lt-ltb, le-ltb, le-leb, lt-leb, leb-true, ltb-true}
 use Rattle.order.proofs.Laws.{lt-or-le}
 use Rattle.outcomes.specs.Outcome.{done, refused, judge}
 use Rattle.outcomes.specs.Search.{firstBelow}
-use Rattle.runs.specs.Runs.{Runs, countOf, startOf, imageOf, endOf}
+use Rattle.runs.specs.Runs.{Runs, countOf, startOf, imageOf, endOf, carryBack}
 use Rattle.runs.proofs.Sums.{and-true}
 use Rattle.runs.proofs.Legality.{end-next, end-last}
 use Rattle.outcomes.proofs.Searches.{first-le, first-true, first-least}
 use Rattle.tables.specs.Tables.{Tables, sizeOf, misshapen}
-use Rattle.tables.specs.Inverse.{carryBack, sends, sourceOf, inverseOf}
+use Rattle.tables.specs.Inverse.{sends, sourceOf, inverseOf}
 use Rattle.tables.specs.Passed.{Shaped}
 
 -- where a search from below ends

@@ -10,7 +10,7 @@ use lib.ListN.{drop}
 use lib.Dec.{leb}
 use borrow.Author.Tests.{lt-ltb, le-ltb, le-leb, lt-leb, leb-false}
 use Rattle.outcomes.specs.Outcome.{done, refused, judge, andThen}
-use Rattle.outcomes.specs.Search.{leading}
+use Rattle.order.specs.Lists.{leading}
 use Rattle.runs.specs.Runs.{startOf, carry}
 use Rattle.tables.specs.Tables.{Tables, sizeOf, holderOf, misshapen, outside, broken, shapeTest, indexTest, placeTest, brokenTest}
 use Rattle.tables.specs.Move.{passed, findOf, stepOf, moveOf, movesOf, locateTests}

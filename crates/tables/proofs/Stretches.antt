@@ -10,13 +10,13 @@ use lib.Dec.{ltb, leb, eqb, leb·suc-suc}
 use borrow.Author.Tests.{lt-ltb, le-ltb, le-leb, lt-leb, leb-false, eq-eqb, ne-eqb}
 use Rattle.order.proofs.Laws.{or-false}
 use Rattle.outcomes.specs.Outcome.{done, refused, test, judge, _then_else_}
-use Rattle.outcomes.specs.Search.{leading}
+use Rattle.order.specs.Lists.{leading}
 use Rattle.runs.specs.Runs.{startOf, imageOf, endOf, imageEnd}
 use Rattle.outcomes.proofs.Judging.{judge-first, judge-done}
 use Rattle.tables.specs.Tables.{Tables, sizeOf, holderOf, misshapen, unheld, shapeTest, indexTest}
 use Rattle.tables.specs.Under.{unplaced, underFirst, underCount, weightOf, stretch, startsUnderOf}
 use Rattle.tables.specs.Passed.{Shaped, Indexed, Entered, stretchOf}
-use Rattle.tables.proofs.Leading.{leading-within}
+use Rattle.order.proofs.Leading.{leading-within}
 use Rattle.tables.proofs.Passing.{shaped, held-is}
 
 module _ (t : Tables) (x : ℕ) where

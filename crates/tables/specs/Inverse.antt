@@ -1,12 +1,12 @@
 -- Inverse (document 01, "Walking"), on any tables.
-use Prim.Native.Nat.{ℕ, _+_, _-_}
+use Prim.Native.Nat.{ℕ}
 use mathlib.Core.Bool.{Bool, not, _&&_}
 use mathlib.Core.List.{List, [], _∷_}
 use lib.Dec.{ltb, leb}
 use Rattle.outcomes.specs.Outcome.{Outcome, done, Test, test, judge}
 use Rattle.outcomes.specs.Refusal.{refusalSays}
 use Rattle.outcomes.specs.Search.{firstBelow, anyBelow}
-use Rattle.runs.specs.Runs.{Runs, countOf, startOf, imageOf, endOf}
+use Rattle.runs.specs.Runs.{Runs, countOf, imageOf, endOf, carryBack}
 use Rattle.tables.specs.Tables.{Tables, shapeTest}
 use Rattle.tables.specs.declared.Source.{Source}
 use Rattle.tables.specs.declared.Inverted.{Inverted}
@@ -15,10 +15,6 @@ use Rattle.tables.specs.declared.Inverted.the-variants.{From, Refused}
 abbrev pub invertedSays : Inverted → Outcome Source
 invertedSays (From s) = done s
 invertedSays (Refused r) = refusalSays r
-
--- "start + (j − image)"
-abbrev pub carryBack : Runs → ℕ → ℕ → ℕ
-carryBack r x j = startOf r x + (j - imageOf r x)
 
 -- "whose image is at most j and for which start + (j − image) is below x's end"
 unfoldable pub sends : ℕ → Runs → ℕ → ℕ → Bool

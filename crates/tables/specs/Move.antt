@@ -7,7 +7,7 @@ use lib.ListN.{drop}
 use lib.Dec.{ltb, leb}
 use Rattle.outcomes.specs.Outcome.{Outcome, done, refused, Test, test, judge, mapDone, andThen}
 use Rattle.outcomes.specs.Refusal.{refusalSays}
-use Rattle.outcomes.specs.Search.{leading}
+use Rattle.order.specs.Lists.{leading}
 use Rattle.runs.specs.Runs.{startOf, carry}
 use Rattle.tables.specs.Tables.{Tables, holderOf, shapeTest, indexTest, placeTest, brokenTest}
 use Rattle.tables.specs.declared.Step.{Step}

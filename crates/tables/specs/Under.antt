@@ -7,19 +7,12 @@ use lib.ListN.{length, take, drop}
 use lib.Dec.{ltb, leb, eqb}
 use Rattle.outcomes.specs.Outcome.{Outcome, done, refused, Test, test, judge, _then_else_}
 use Rattle.outcomes.specs.Refusal.{refusalSays}
-use Rattle.outcomes.specs.Search.{leading, keep}
+use Rattle.order.specs.Lists.{leading}
+use Rattle.outcomes.specs.Search.{keep}
 use Rattle.runs.specs.Runs.{Runs, startOf, imageOf, endOf, imageEnd}
 use Rattle.tables.specs.Tables.{Tables, holderOf, unheld, shapeTest, indexTest}
 use Rattle.tables.specs.declared.Weighed.{Weighed}
 use Rattle.tables.specs.declared.Weighed.the-variants.{Weight, Refused}
-
--- the starts "at or above its image and below its image plus length", in rising order
-abbrev pub under : ℕ → Runs → ℕ → List ℕ
-under n r x = keep (λ s. leb (imageOf r x) s && ltb s (imageEnd n r x)) (r .starts)
-
--- "The weight of x is the number" of them. "A start equal to the image counts."
-abbrev pub weight : ℕ → Runs → ℕ → ℕ
-weight n r x = length (under n r x)
 
 abbrev pub weighedSays : Weighed → Outcome ℕ
 weighedSays (Weight w) = done w

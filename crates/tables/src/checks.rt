@@ -3,29 +3,9 @@ use super::Moved;
 use super::Step;
 use outcomes::Refusal;
 ghost use mathlib.Core.Path.{_≡_};
-ghost use Prim.Native.Nat.{suc, _<_};
-ghost use lib.ListN.{length, getD};
 ghost use Rattle.tables.specs.Tables.{tables, misshapen, unheld};
 ghost use Rattle.tables.specs.Move.{movedSays, movesOf};
 ghost use Rattle.tables.specs.Passed.{Entered};
-
-// A number at a wider type: the bound is for the sums that it stands in.
-pub(crate) fn wide(x: u32) -> u64
-    ensures { λ r. ⌜ (r ≡ x) × (r < 4294967296) ⌝ }
-{
-    x as u64
-}
-
-// The end of interval x.
-pub(crate) fn end_of(n: u32, starts: &[u32], x: usize) -> u32
-    requires { ⌜ x < length (now starts) ⌝ }
-    ensures { λ r. ⌜ r ≡ getD (now (starts .entry)) (suc x) n ⌝ }
-{
-    if x + 1 < starts.len() {
-        return starts[x + 1];
-    }
-    n
-}
 
 // Test 9.
 pub(crate) fn is_misshapen(n: u32, starts: &[u32], images: &[u32], holders: &[u32]) -> bool
@@ -83,7 +63,7 @@ pub(crate) fn locate(
     if i < starts[at] {
         return Moved::Refused(Refusal::PlaceRange(i));
     }
-    if end_of(n, starts, at) <= i {
+    if order::entry_or(starts, at + 1, n) <= i {
         return Moved::Refused(Refusal::PlaceRange(i));
     }
     Moved::To(Step {

@@ -59,7 +59,7 @@ pub fn find(n: u32, starts: &[u32], images: &[u32], holders: &[u32], i: u32) -> 
     if i < starts[0] {
         return Found::Refused(outcomes::Refusal::PlaceRange(i));
     }
-    Found::At((walk::stretch_end(starts, 1, i) - 1) as u32)
+    Found::At((order::stretch_end(starts, 1, i) - 1) as u32)
 }
 
 // One move from place i of interval x.

@@ -1,5 +1,5 @@
 // The interval that a place is reached from.
-use super::checks;
+use order::wide;
 ghost use mathlib.Core.Path.{_≡_};
 ghost use Prim.Native.Nat.{_<_};
 ghost use lib.ListN.{length};
@@ -15,7 +15,7 @@ fn is_source(n: u32, starts: &[u32], images: &[u32], x: usize, j: u32) -> bool
     if j < image {
         return false;
     }
-    checks::wide(starts[x]) + checks::wide(j - image) < checks::wide(checks::end_of(n, starts, x))
+    wide(starts[x]) + wide(j - image) < wide(order::entry_or(starts, x + 1, n))
 }
 
 // The lowest interval that sends a place to j, or their number.

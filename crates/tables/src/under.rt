@@ -1,7 +1,7 @@
 // The stretch of starts under an image.
 use super::Weighed;
 use super::checks;
-use super::walk;
+use order::wide;
 use outcomes::Refusal;
 ghost use mathlib.Core.Path.{_≡_};
 ghost use Prim.Native.Nat.{_<_};
@@ -34,14 +34,14 @@ pub(crate) fn size(n: u32, starts: &[u32], images: &[u32], holders: &[u32], x: u
     }
     let at = x as usize;
     let start = starts[at];
-    let end = checks::end_of(n, starts, at);
+    let end = order::entry_or(starts, at + 1, n);
     if end <= start {
         return Weighed::Refused(Refusal::BrokenInterval(x));
     }
-    let past = checks::wide(images[at]) + checks::wide(end - start);
-    if checks::wide(n) < past {
+    let past = wide(images[at]) + wide(end - start);
+    if wide(n) < past {
         return Weighed::Refused(Refusal::BrokenInterval(x));
     }
     let from = first(starts, images, holders, x);
-    Weighed::Weight((walk::stretch_end(starts, from, (past - 1) as u32) - from) as u32)
+    Weighed::Weight((order::stretch_end(starts, from, (past - 1) as u32) - from) as u32)
 }

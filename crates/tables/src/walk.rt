@@ -2,30 +2,12 @@
 use super::Moved;
 use super::Step;
 use super::checks;
+use order::wide;
 use outcomes::Refusal;
 ghost use mathlib.Core.Path.{_≡_};
-ghost use Prim.Native.Nat.{_+_, _≤_};
-ghost use lib.ListN.{length, drop};
-ghost use lib.Dec.{leb};
-ghost use Rattle.outcomes.specs.Search.{leading};
 ghost use Rattle.tables.specs.Tables.{tables};
 ghost use Rattle.tables.specs.Move.{movedSays, movesOf};
 ghost use Rattle.tables.specs.Passed.{Located, advanceOf};
-
-// The end of the stretch of starts, from index `from` on, that are at most j.
-pub(crate) fn stretch_end(starts: &[u32], from: usize, j: u32) -> usize
-    requires { ⌜ from ≤ length (now starts) ⌝ }
-    ensures { λ r. ⌜ (r ≡ from + leading (λ s. leb s j) (drop from (now (starts .entry)))) × (r ≤ length (now (starts .entry))) ⌝ }
-{
-    let mut x = from;
-    while x < starts.len() {
-        if j < starts[x] {
-            return x;
-        }
-        x += 1;
-    }
-    x
-}
 
 // Test 12 and the step, from a place that lies in interval x.
 pub(crate) fn advance(
@@ -43,12 +25,12 @@ pub(crate) fn advance(
         return Moved::Refused(Refusal::BrokenInterval(x));
     }
     let at = x as usize;
-    let j = checks::wide(images[at]) + checks::wide(i - starts[at]);
-    if checks::wide(n) <= j {
+    let j = wide(images[at]) + wide(i - starts[at]);
+    if wide(n) <= j {
         return Moved::Refused(Refusal::BrokenInterval(x));
     }
     let from = holders[at] as usize + 1;
-    let end = stretch_end(starts, from, j as u32);
+    let end = order::stretch_end(starts, from, j as u32);
     Moved::To(Step {
         place: j as u32,
         interval: (end - 1) as u32,

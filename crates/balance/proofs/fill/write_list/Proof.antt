@@ -5,7 +5,7 @@ use mathlib.Core.List.{List}
 use native.Mathlib.Omega.{arith}
 use lib.ListN.{length, getD}
 use Rattle.runs.specs.Runs.{Runs, runs}
-use Rattle.outcomes.proofs.Searches.{getD-default}
+use Rattle.order.proofs.Laws.{getD-default}
 use Rattle.balance.specs.Cuts.{merged, At, Has}
 use Rattle.balance.proofs.Merged.{merged-length, at-sum, at-own}
 use Rattle.balance.proofs.Writing.{Writing, has-passed, writing-start, writing-next, writing-kept, writing-end}

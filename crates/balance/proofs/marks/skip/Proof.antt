@@ -3,7 +3,7 @@ use Prim.Native.Nat.{_+_, _-_, _≤_, _<_}
 use mathlib.Core.Path.{_≡_}
 use native.Mathlib.Omega.{arith}
 use lib.ListN.{length}
-use Rattle.order.specs.Order.{countBelow}
+use Rattle.order.specs.Lists.{countBelow}
 use Rattle.balance.specs.Cuts.{merged, At}
 use Rattle.balance.proofs.Merged.{at-sum, at-own, at-stop, at-go}
 use Rattle.balance.proofs.marks.skip.Statement.{statement}

@@ -2,10 +2,9 @@
 use Prim.Native.Nat.{ℕ, _+_, _-_, _≤_, _<_}
 use mathlib.Core.Path.{_≡_}
 use native.Mathlib.Omega.{arith}
-use Rattle.order.specs.Order.{countBelow}
+use Rattle.order.specs.Lists.{countBelow}
 use Rattle.order.proofs.Laws.{strict-sorted}
-use Rattle.runs.specs.Runs.{Runs, runs, mapOf}
-use Rattle.tables.specs.Inverse.{carryBack}
+use Rattle.runs.specs.Runs.{Runs, runs, mapOf, carryBack}
 use Rattle.balance.specs.Cuts.{withCuts, Covers}
 use Rattle.balance.proofs.Cutlist.{Found, ranking, ranked-found, carry-back, run-count, higher-last, piece-covers}
 use Rattle.balance.proofs.pieces.image_around.Statement.{statement}

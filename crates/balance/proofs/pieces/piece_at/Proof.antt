@@ -3,10 +3,9 @@ use Prim.Native.Nat.{ℕ, _+_, _-_, _≤_, _<_}
 use mathlib.Core.Path.{_≡_, refl, ap, _∙_}
 use native.Mathlib.Omega.{arith}
 use lib.ListN.{getD}
-use Rattle.order.specs.Order.{countBelow}
+use Rattle.order.specs.Lists.{countBelow}
 use Rattle.order.proofs.Laws.{strict-sorted}
-use Rattle.runs.specs.Runs.{Runs, runs, mapOf}
-use Rattle.tables.specs.Inverse.{carryBack}
+use Rattle.runs.specs.Runs.{Runs, runs, mapOf, carryBack}
 use Rattle.balance.specs.Cuts.{merged, withCuts, At, PieceAt}
 use Rattle.balance.proofs.Merged.{at-counts, at-sum, at-own}
 use Rattle.balance.proofs.Cutlist.{Found, ranking, ranked-found, carry-back, run-count, begins-below, piece-at}

@@ -4,7 +4,7 @@ use Prim.Native.Nat.{ℕ, _+_, _-_}
 use mathlib.Core.Path.{_≡_, refl, ap}
 use native.Mathlib.Omega.{arith}
 use lib.ListN.{getD}
-use Rattle.order.specs.Order.{countBelow}
+use Rattle.order.specs.Lists.{countBelow}
 use Rattle.order.proofs.Laws.{count-le-length}
 use Rattle.balance.proofs.pieces.start_to.Statement.{statement}
 use Rattle.balance.proofs.pieces.start_to.Tie as tie

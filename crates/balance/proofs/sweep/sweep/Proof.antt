@@ -6,10 +6,10 @@ use mathlib.Core.List.{List}
 use native.Mathlib.Omega.{arith}
 use lib.ListN.{length, take}
 use lib.Seq.{length-take-le}
-use Rattle.order.specs.Order.{All, Sorted, countBelow}
+use Rattle.order.specs.Lists.{All, Sorted, countBelow}
 use Rattle.order.proofs.Laws.{all-true, strict-sorted, count-none, count-mono}
 use Rattle.runs.specs.Runs.{Runs, runs}
-use Rattle.tables.specs.Under.{weight}
+use Rattle.runs.specs.Weight.{weight}
 use Rattle.balance.specs.Balance.{cutPlace}
 use Rattle.balance.specs.Cuts.{merged, withCuts, Starts, At, Covers}
 use Rattle.balance.proofs.Merged.{merged-length, at-sum, at-own, at-counts}

@@ -1,5 +1,5 @@
 -- `table` meets its contract: the first line, and then the others; all of them have room.
-use Rattle.order.specs.Order.{upTo}
+use Rattle.order.specs.Lists.{upTo}
 use Rattle.tables.specs.Tables.{tables, sizeOf}
 use Rattle.listfile.specs.Text.{texts}
 use Rattle.listfile.specs.Listing.{headText, rowOf}

@@ -1,0 +1,16 @@
+-- The starts under an image, and their number.
+use Prim.Native.Nat.{ℕ}
+use mathlib.Core.Bool.{_&&_}
+use mathlib.Core.List.{List}
+use lib.ListN.{length}
+use lib.Dec.{ltb, leb}
+use Rattle.outcomes.specs.Search.{keep}
+use Rattle.runs.specs.Runs.{Runs, imageOf, imageEnd}
+
+-- the starts "at or above its image and below its image plus length", in rising order
+abbrev pub under : ℕ → Runs → ℕ → List ℕ
+under n r x = keep (λ s. leb (imageOf r x) s && ltb s (imageEnd n r x)) (r .starts)
+
+-- "The weight of x is the number" of them. "A start equal to the image counts."
+abbrev pub weight : ℕ → Runs → ℕ → ℕ
+weight n r x = length (under n r x)

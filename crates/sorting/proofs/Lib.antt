@@ -1,0 +1,7 @@
+-- What the proofs of the sorts do.
+mod Gathering
+mod Monotone
+mod Ranks
+mod Digits
+mod Passes
+mod Inserting
