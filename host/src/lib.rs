@@ -21,10 +21,28 @@ pub mod exports;
 #[doc = include_str!("../../README.md")]
 struct Readme;
 
-/// Why a call was refused: the number and the place of the paper's table.
+/// Why a call was refused: the first condition, in rising number, that applied. `docs/NUMBERS.md` has the whole table.
+///
+/// | number | refused because | place |
+/// |---|---|---|
+/// | 1 | `n` is 0, no runs, or starts and images differ in count | 0 |
+/// | 2 | more than 16,384 runs | 0 |
+/// | 3 | the first start is not 0 | 0 |
+/// | 4 | a start is not above the one before, or not below `n` | lowest such run |
+/// | 5 | an image ends beyond `n` | lowest such run |
+/// | 6 | an image shares a place with another run's | lowest such run |
+/// | 7 | the degree is not 2 to 64 | the degree |
+/// | 8 | a lent table has fewer than B entries (inverse list: than k) | B (or k) |
+/// | 9 | `n` is 0, or the tables are empty, of unequal count, or above 32,768 entries | 0 |
+/// | 10 | there is no interval of that index | the index |
+/// | 11 | the place is not below `n`, outside the interval, or (find) below the first start | the place |
+/// | 12 | the interval's entries do not fit: its holder, or where it leads | the interval |
+/// | 14 | no interval sends a place there | the place |
+///
+/// 13 and 15 are the numbers of bookmarks and of files, which have no export.
 #[derive(Clone, Copy, Debug, PartialEq, Eq, Hash)]
 pub struct Refusal {
-    /// 1 to 14.
+    /// 1 to 12, or 14.
     pub number: u32,
     /// The run, interval, place or size that the number speaks of.
     pub place: u32,

@@ -7,11 +7,11 @@ use Rattle.outcomes.specs.Search.{firstBelow, anyBelow, insertAt}
 use Rattle.runs.specs.Runs.{Runs, runs, countOf, imageOf, carryBack}
 use Rattle.runs.specs.Weight.{under, weight}
 
--- "An interval is heavy when its weight is at least 2d."
+-- heavy: of weight 2d or more
 abbrev pub heavy : ℕ → ℕ → Runs → ℕ → Bool
 heavy d n r x = leb (2 * d) (weight n r x)
 
--- "the heavy interval with the lowest image": heavy, and no heavy interval has a lower image
+-- whether x is to be cut next: it is heavy, and no heavy interval has a lower image
 abbrev pub next : ℕ → ℕ → Runs → ℕ → Bool
 next d n r x = heavy d n r x && not (anyBelow (λ y. heavy d n r y && ltb (imageOf r y) (imageOf r x)) (countOf r))
 
@@ -19,18 +19,18 @@ next d n r x = heavy d n r x && not (anyBelow (λ y. heavy d n r y && ltb (image
 abbrev pub pick : ℕ → ℕ → Runs → ℕ
 pick d n r = firstBelow (next d n r) (countOf r)
 
--- Cut x "so that its second part has image s and start = old start + (s − old image)".
+-- x cut in two: its second part has image s, and starts as far above x's start as s lies above x's image
 abbrev pub cut : Runs → ℕ → ℕ → Runs
 cut r x s = runs (insertAt (suc x) (carryBack r x s) (r .starts)) (insertAt (suc x) s (r .images))
 
--- "the (d+1)th start under its image, in rising order", and the cut of x there
+-- the start under x's image that has d such starts before it, and the cut of x there
 abbrev pub cutPlace : ℕ → ℕ → Runs → ℕ → ℕ
 cutPlace d n r x = getD (under n r x) d 0
 
 abbrev pub cutAt : ℕ → ℕ → Runs → ℕ → Runs
 cutAt d n r x = cut r x (cutPlace d n r x)
 
--- "While one is heavy", for at most `fuel` cuts.
+-- Cuts as long as an interval is heavy, and at most `fuel` of them.
 unfoldable pub cutting : ℕ → ℕ → ℕ → Runs → Runs
 cutting zero d n r = r
 cutting (suc fuel) d n r =
@@ -40,6 +40,6 @@ cutting (suc fuel) d n r =
 unfoldable pub balanced : ℕ → ℕ → Runs → Runs
 balanced d n r = cutting (countOf r) d n r
 
--- B, "the whole part of d×k/(d−1)"
+-- B, the whole part of dk/(d − 1)
 abbrev pub boundOf : ℕ → ℕ → ℕ
 boundOf d k = d * k / (d - 1)

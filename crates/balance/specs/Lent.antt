@@ -32,11 +32,11 @@ lent s i h w = record { starts = s; images = i; holders = h; working = w }
 abbrev pub firstOf : ℕ → Lent → Tables
 firstOf k l = tables (take k (l .starts)) (take k (l .images)) (take k (l .holders))
 
--- 7: "d outside 2 to 64"
+-- 7: d is below 2 or above 64
 abbrev pub degreeTest : ℕ → Test
 degreeTest d = test 7 (ltb d 2 || ltb 64 d) d
 
--- 8: "a lent table below B entries"
+-- 8: one of the lent tables has fewer than b entries
 unfoldable pub tooShort : ℕ → Lent → Bool
 tooShort b l =
     ltb (length (l .starts)) b ||
@@ -49,8 +49,8 @@ balanceTests n r d l =
 unfoldable pub balanceOf : ℕ → Runs → ℕ → Lent → Outcome Tables
 balanceOf n r d l = judge (balanceTests n r d l) (tablesOf n (balanced d n r))
 
--- What `balance` promises: "Balancing answers K. Afterwards the first K entries of each table are the balanced list,
--- the working table's first B entries are 0, and all other entries keep their numbers."
+-- What `balance` promises: the answer K, the tables of the balanced list in the first K entries of the three, 0 in the
+-- first B entries of the working table, and every other entry as it was.
 pub record Balances (n : ℕ) (r : Runs) (d : ℕ) (entry exit : Lent) (answer : Balanced) : Type 0 where
   pub says : balancedSays answer ≡ mapDone sizeOf (balanceOf n r d entry)
   pub starts : exit .starts ≡ filled (λ t. t .list .starts) (balanceOf n r d entry) (entry .starts)

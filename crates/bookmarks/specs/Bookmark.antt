@@ -12,15 +12,15 @@ use Rattle.bookmarks.specs.declared.Bookmark.{Bookmark}
 use Rattle.tables.specs.declared.Moved.{Moved}
 use Rattle.bookmarks.specs.declared.Marked.{Marked}
 
--- "A fresh one has both counters 0."
+-- a bookmark that has made no move yet
 abbrev pub fresh : ℕ → ℕ → Bookmark
 fresh p x = record { place = p; interval = x; moves = 0; passed = 0 }
 
--- 13: "a bookmark counter would pass its width", 32 bits for the moves and 64 for the starts passed
+-- 13: after the step the moves would not fit in 32 bits, or the starts passed not in 64
 unfoldable pub overflows : Bookmark → Step → Bool
 overflows b s = leb (2 ^ 32) (b .moves + 1) || leb (2 ^ 64) (b .passed + s .count)
 
--- "moved on the spot, by one move": the answer is that move's
+-- the tests of one move, then 13; the answer is that move's
 abbrev pub bookmarkTests : ℕ → Tables → Bookmark → List Test
 bookmarkTests n t b =
     moveTests n t (b .interval) (b .place) ++ (test 13 (overflows b (stepOf t (b .interval) (b .place))) 0 ∷ [])

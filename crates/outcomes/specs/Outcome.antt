@@ -23,7 +23,7 @@ pub record Test : Type 0 where
 abbrev pub test : ℕ → Bool → ℕ → Test
 test k b p = record { number = k; applies = b; place = p }
 
--- "the first that applies is given, under its condition and no other"; where none applies, the result
+-- the first test that applies decides, and nothing but its condition; where none applies, the result
 unfoldable pub judge : {A : Type 0} → List Test → A → Outcome A
 judge [] a = done a
 judge (t ∷ ts) a = t .applies then refused (t .number) (t .place) else judge ts a
@@ -38,8 +38,8 @@ unfoldable pub andThen : {A B : Type 0} → Outcome A → (A → Outcome B) → 
 andThen (done a) f = f a
 andThen (refused k p) f = refused k p
 
--- What a lent table holds after a call that writes l to its first entries: "all other entries keep their numbers",
--- and "refused calls change nothing lent".
+-- What a lent table holds after a call that writes l to its first entries: the entries beyond those stay, and after a
+-- refusal all of them.
 unfoldable pub filled : {A : Type 0} → (A → List ℕ) → Outcome A → List ℕ → List ℕ
 filled l (done a) table = l a ++ drop (length (l a)) table
 filled l (refused k p) table = table

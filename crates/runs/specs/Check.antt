@@ -12,26 +12,26 @@ use Rattle.runs.specs.Runs.{Runs, countOf, startOf, imageOf, imageEnd}
 abbrev pub maxRuns : ℕ
 maxRuns = 16384
 
--- 1: "n is 0, no runs, or starts and images of unequal count"
+-- 1: n is 0, there are no runs, or starts and images differ in count
 unfoldable pub unmatched : ℕ → Runs → Bool
 unmatched n r = eqb n 0 || (eqb (countOf r) 0 || not (eqb (countOf r) (length (r .images))))
 
--- 4: "a start not above the one before, or not below n"
+-- 4: run x does not start below n, or not above the run before it
 unfoldable pub unordered : ℕ → Runs → ℕ → Bool
 unordered n r x = leb n (startOf r x) || (ltb 0 x && leb (startOf r x) (startOf r (x - 1)))
 
--- 5: "image + length above n"
+-- 5: the image of run x ends beyond n
 unfoldable pub outOfRange : ℕ → Runs → ℕ → Bool
 outOfRange n r x = ltb n (imageEnd n r x)
 
--- 6: "an image shares a place with another run's", whichever of the two stands first
+-- 6: the image of run x has a place in common with that of run y, another one; with that of any, before or after it
 unfoldable pub overlap : ℕ → Runs → ℕ → ℕ → Bool
 overlap n r x y = not (eqb x y) && (ltb (imageOf r x) (imageEnd n r y) && ltb (imageOf r y) (imageEnd n r x))
 
 unfoldable pub overlaps : ℕ → Runs → ℕ → Bool
 overlaps n r x = anyBelow (overlap n r x) (countOf r)
 
--- a test that a run fails, with the "lowest such run"
+-- a test of each run, with the lowest run that it applies to
 abbrev pub lowest : ℕ → (ℕ → Bool) → ℕ → Test
 lowest number p k = test number (anyBelow p k) (firstBelow p k)
 

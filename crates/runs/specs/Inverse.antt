@@ -12,7 +12,7 @@ use Rattle.runs.specs.Runs.{Runs, runs, countOf, startOf, imageOf}
 use Rattle.runs.specs.Check.{checkTests}
 use Rattle.outcomes.specs.declared.Checked.{Checked}
 
--- it "swaps start and image of each run and stands in rising order of the old images"
+-- each run with start and image exchanged, in rising order of what were the images
 unfoldable pub inverseRuns : Runs → Runs
 inverseRuns r = runs (map (imageOf r) (orderOf (r .images))) (map (startOf r) (orderOf (r .images)))
 

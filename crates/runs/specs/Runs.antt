@@ -25,7 +25,7 @@ startOf r x = getD (r .starts) x 0
 abbrev pub imageOf : Runs → ℕ → ℕ
 imageOf r x = getD (r .images) x 0
 
--- "its end is the next run's start, or n for the last run"
+-- a run ends where the next one starts, and the last one at n
 abbrev pub endOf : ℕ → Runs → ℕ → ℕ
 endOf n r x = getD (r .starts) (suc x) n
 
@@ -36,7 +36,7 @@ lengthOf n r x = endOf n r x - startOf r x
 abbrev pub imageEnd : ℕ → Runs → ℕ → ℕ
 imageEnd n r x = imageOf r x + lengthOf n r x
 
--- "the shift of a run is its image minus its start", an integer
+-- the shift of a run, how far it takes its places: its image minus its start, an integer
 abbrev pub shiftOf : Runs → ℕ → ℤ
 shiftOf r x = subℕ (imageOf r x) (startOf r x)
 
@@ -47,14 +47,14 @@ has n r p x = leb (startOf r x) p && ltb p (endOf n r x)
 abbrev pub runAt : ℕ → Runs → ℕ → ℕ
 runAt n r p = firstBelow (has n r p) (countOf r)
 
--- "image + (place − start)", and the list's function, which sends each place by the run that has it
+-- where run x takes place p, and the list's function, which takes each place by the run that has it
 abbrev pub carry : Runs → ℕ → ℕ → ℕ
 carry r x p = imageOf r x + (p - startOf r x)
 
 abbrev pub mapOf : ℕ → Runs → ℕ → ℕ
 mapOf n r p = carry r (runAt n r p) p
 
--- start + (j − image): the place of run x that it sends to j
+-- the place of run x that j would come from: as far above x's start as j lies above x's image
 abbrev pub carryBack : Runs → ℕ → ℕ → ℕ
 carryBack r x j = startOf r x + (j - imageOf r x)
 

@@ -7,10 +7,10 @@ use lib.Dec.{ltb, leb}
 use Rattle.outcomes.specs.Search.{keep}
 use Rattle.runs.specs.Runs.{Runs, imageOf, imageEnd}
 
--- the starts "at or above its image and below its image plus length", in rising order
+-- the starts under x's image, in the order of the list: those not below the image, and below where it ends
 abbrev pub under : ℕ → Runs → ℕ → List ℕ
 under n r x = keep (λ s. leb (imageOf r x) s && ltb s (imageEnd n r x)) (r .starts)
 
--- "The weight of x is the number" of them. "A start equal to the image counts."
+-- the weight of x: how many they are
 abbrev pub weight : ℕ → Runs → ℕ → ℕ
 weight n r x = length (under n r x)

@@ -7,7 +7,7 @@ use Rattle.outcomes.specs.Search.{keep}
 use Rattle.runs.specs.Runs.{Runs, imageOf, runAt, mapOf, powerOf}
 use Rattle.tables.specs.declared.Step.{Step}
 
--- "the number of T's starts above x's image and not above q", for the list r, its interval x that has p, and a place q
+-- how many starts of the list r lie above the image of its interval that has p, and not above the place q
 abbrev pub passedFrom : ℕ → Runs → ℕ → ℕ → ℕ
 passedFrom n r p q = length (keep (λ s. ltb (imageOf r (runAt n r p)) s && leb s q) (r .starts))
 

@@ -16,15 +16,15 @@ abbrev pub invertedSays : Inverted → Outcome Source
 invertedSays (From s) = done s
 invertedSays (Refused r) = refusalSays r
 
--- "whose image is at most j and for which start + (j − image) is below x's end"
+-- whether x sends a place to j: its image does not begin above j, and the place that j would come from is below its end
 unfoldable pub sends : ℕ → Runs → ℕ → ℕ → Bool
 sends n r j x = leb (imageOf r x) j && ltb (carryBack r x j) (endOf n r x)
 
--- "the lowest x", or the count of runs where there is none
+-- the lowest interval that does, or the count of runs where there is none
 unfoldable pub sourceOf : ℕ → Runs → ℕ → ℕ
 sourceOf n r j = firstBelow (sends n r j) (countOf r)
 
--- 14 applies where "no interval qualifies"
+-- 14: no interval does
 abbrev pub inverseTests : ℕ → Tables → ℕ → List Test
 inverseTests n t j =
     shapeTest n t ∷ test 11 (leb n j) j ∷ test 14 (not (anyBelow (sends n (t .list) j) (countOf (t .list)))) j ∷ []

@@ -25,19 +25,19 @@ abbrev pub movedSays : Moved → Outcome Step
 movedSays (To s) = done s
 movedSays (NotMoved r) = refusalSays r
 
--- From interval h, "go on to the next interval while there is one and its start is at most j": the starts passed.
+-- A walk from interval h goes on to the next one while there is one that does not start above j: the starts passed.
 unfoldable pub passed : List ℕ → ℕ → ℕ → ℕ
 passed starts h j = leading (λ s. leb s j) (drop (suc h) starts)
 
--- Find: "from interval 0, go on while the next start is at most i". 11 here: i not below n, or below the first start.
+-- Find: the walk from interval 0 for place i. 11 here: i is not below n, or below the first start.
 abbrev pub findTests : ℕ → Tables → ℕ → List Test
 findTests n t i = shapeTest n t ∷ test 11 (leb n i || ltb i (startOf (t .list) 0)) i ∷ []
 
 unfoldable pub findOf : ℕ → Tables → ℕ → Outcome ℕ
 findOf n t i = judge (findTests n t i) (passed (t .list .starts) 0 i)
 
--- Move: the place reached, the interval that the walk from the holder reaches, and as count the starts passed, "the
--- index reached minus h".
+-- Move: the place reached, the interval that the walk from the holder reaches, and as count the starts passed: on any
+-- tables the interval reached is the holder plus the count.
 unfoldable pub stepOf : Tables → ℕ → ℕ → Step
 stepOf t x i =
     let c = passed (t .list .starts) (holderOf t x) (carry (t .list) x i) in
@@ -60,7 +60,8 @@ counted c s = record { place = s .place; interval = s .interval; count = c + s .
 unfoldable pub onwards : ℕ → Tables → Step → Outcome Step
 onwards n t s = mapDone (counted (s .count)) (moveOf n t (s .interval) (s .place))
 
--- Repeated move: "m moves, with the sum of the counts. m = 0 gives i, x and 0, after the tests for 9, 10 and 11."
+-- Repeated move: m moves, each from where the one before led, and the sum of their counts. With no moves it is i and x
+-- with count 0, after tests 9, 10 and 11.
 unfoldable pub movesOf : ℕ → Tables → ℕ → ℕ → ℕ → Outcome Step
 movesOf n t zero x i = judge (locateTests n t x i) (record { place = i; interval = x; count = 0 })
 movesOf n t (suc m) x i = andThen (movesOf n t m x i) (onwards n t)

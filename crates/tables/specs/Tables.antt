@@ -15,7 +15,7 @@ pub record Tables : Type 0 where
 abbrev pub tables : List ℕ → List ℕ → List ℕ → Tables
 tables s i h = record { list = runs s i; holders = h }
 
--- the tables of a list: "the holder of interval x is the index of the interval in which x's image lies"
+-- the tables of a list: an interval's holder is the index of the interval that has its image
 abbrev pub tablesOf : ℕ → Runs → Tables
 tablesOf n r = record { list = r; holders = map (runAt n r) (r .images) }
 
@@ -30,7 +30,7 @@ holderOf t x = getD (t .holders) x 0
 abbrev pub maxIntervals : ℕ
 maxIntervals = 32768
 
--- 9: "n is 0, or tables empty, of unequal count, or above 32,768"
+-- 9: n is 0, or the tables are empty, differ in count, or have too many entries
 unfoldable pub misshapen : ℕ → Tables → Bool
 misshapen n t =
     eqb n 0 ||
@@ -38,15 +38,15 @@ misshapen n t =
     (not (eqb (sizeOf t) (length (t .list .images))) ||
     (not (eqb (sizeOf t) (length (t .holders))) || ltb maxIntervals (sizeOf t))))
 
--- 11: "place handed in not below n; or, where x is handed in, outside interval x"
+-- 11, where interval x is handed in with place i: i is not below n, or x does not have it
 unfoldable pub outside : ℕ → Tables → ℕ → ℕ → Bool
 outside n t x i = leb n i || (ltb i (startOf (t .list) x) || leb (endOf n (t .list) x) i)
 
--- 12: "holder not below K, or its start above the image"
+-- 12, the part about the holder: there is no such interval, or it starts above x's image
 unfoldable pub unheld : Tables → ℕ → Bool
 unheld t x = leb (sizeOf t) (holderOf t x) || ltb (imageOf (t .list) x) (startOf (t .list) (holderOf t x))
 
--- 12 for a move: so, "or the place that a move reaches not below n"
+-- 12 for a move: that part, or the place that it reaches is not below n
 unfoldable pub broken : ℕ → Tables → ℕ → ℕ → Bool
 broken n t x i = unheld t x || leb n (carry (t .list) x i)
 

@@ -18,27 +18,27 @@ abbrev pub weighedSays : Weighed → Outcome ℕ
 weighedSays (Weight w) = done w
 weighedSays (Refused r) = refusalSays r
 
--- 12 here: the holder's part, and "length below 1 or image + length above n"
+-- 12 here: the part about the holder, or x has no length, or its image ends beyond n
 unfoldable pub unplaced : ℕ → Tables → ℕ → Bool
 unplaced n t x =
     unheld t x || (leb (endOf n (t .list) x) (startOf (t .list) x) || ltb n (imageEnd n (t .list) x))
 
--- The stretch "begins at the holder if the holder's start equals the image, else one further",
+-- where the stretch begins: at the holder if that starts at the image, else at the next interval
 unfoldable pub underFirst : Tables → ℕ → ℕ
 underFirst t x = holderOf t x + (eqb (startOf (t .list) (holderOf t x)) (imageOf (t .list) x) then 0 else 1)
 
--- "and ends before the first start, from there on, not below image + length, or at the table's end": its size.
+-- its size: it ends before the first start from there on that is not below the image's end, or with the table
 unfoldable pub underCount : ℕ → Tables → ℕ → ℕ
 underCount n t x = leading (λ s. ltb s (imageEnd n (t .list) x)) (drop (underFirst t x) (t .list .starts))
 
--- "Weight gives its size or the number."
+-- weight: that size, or the refusal
 abbrev pub underTests : ℕ → Tables → ℕ → List Test
 underTests n t x = shapeTest n t ∷ indexTest t x ∷ test 12 (unplaced n t x) x ∷ []
 
 unfoldable pub weightOf : ℕ → Tables → ℕ → Outcome ℕ
 weightOf n t x = judge (underTests n t x) (underCount n t x)
 
--- the stretch itself; "it is empty on a refusal"
+-- the stretch itself, and nothing on a refusal
 unfoldable pub stretch : Outcome ℕ → List ℕ → List ℕ
 stretch (done w) starts = take w starts
 stretch (refused k p) starts = []

@@ -58,13 +58,13 @@ pub(crate) fn locate(
         return Moved::Refused(Refusal::IntervalIndex(x));
     }
     if n <= i {
-        return Moved::Refused(Refusal::PlaceRange(i));
+        return Moved::Refused(Refusal::PlaceRange(i)); // not below n
     }
     if i < starts[at] {
-        return Moved::Refused(Refusal::PlaceRange(i));
+        return Moved::Refused(Refusal::PlaceRange(i)); // below x's start
     }
     if order::entry_or(starts, at + 1, n) <= i {
-        return Moved::Refused(Refusal::PlaceRange(i));
+        return Moved::Refused(Refusal::PlaceRange(i)); // not below x's end
     }
     Moved::To(Step {
         place: i,
