@@ -16,10 +16,10 @@ use Rattle.outcomes.specs.declared.Checked.{Checked}
 use Rattle.outcomes.proofs.Judging.{done-refused}
 use Rattle.tables.specs.Tables.{sizeOf}
 use Rattle.tables.specs.Move.{findOf, moveOf, movesOf}
-use Rattle.tables.specs.Inverse.{inverseOf}
-use Rattle.tables.specs.Under.{weightOf}
+use Rattle.preimages.specs.Inverse.{inverseOf}
+use Rattle.weights.specs.Under.{weightOf}
 use Rattle.tables.proofs.Moves.{moves-order}
-use Rattle.tables.proofs.Stretches.{under-length, under-none}
+use Rattle.weights.proofs.Stretches.{under-length, under-none}
 use Rattle.bookmarks.specs.Bookmark.{bookmarkOf}
 use Rattle.bookmarks.proofs.Marks.{bookmark-kept}
 use Rattle.balance.specs.Lent.{Lent, balancedSays, balanceOf, Balances}

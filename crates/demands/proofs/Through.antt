@@ -16,10 +16,11 @@ use Rattle.runs.proofs.Sums.{length-keep}
 use Rattle.runs.proofs.Bijection.{map-below, power-below, map-injective, map-onto}
 use Rattle.tables.specs.Tables.{tablesOf, maxIntervals}
 use Rattle.tables.specs.Move.{moveOf}
-use Rattle.tables.specs.Inverse.{inverseOf}
+use Rattle.preimages.specs.Inverse.{inverseOf}
 use Rattle.tables.specs.Function.{passedFrom, stepFrom, passedIn, stepsFrom}
 use Rattle.tables.specs.declared.Step.{Step}
-use Rattle.tables.proofs.LegalTables.{legal-find, legal-move, legal-moves, legal-inverse}
+use Rattle.tables.proofs.LegalTables.{legal-find, legal-move, legal-moves}
+use Rattle.preimages.proofs.LegalPreimages.{legal-inverse}
 use Rattle.bookmarks.specs.declared.Bookmark.{Bookmark}
 use Rattle.bookmarks.specs.Bookmark.{fresh, Marking, marking, markingOf, markingsOf}
 use Rattle.demands.specs.PlainWalk.{plainMove, plainMoves, standing}

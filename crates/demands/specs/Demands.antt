@@ -15,8 +15,8 @@ use Rattle.runs.specs.Inverse.{inverseRuns, inverseListTests, inverseListOf, In
 use Rattle.outcomes.specs.declared.Checked.{Checked}
 use Rattle.tables.specs.Tables.{Tables, tablesOf}
 use Rattle.tables.specs.Move.{movedSays, findTests, locateTests, moveTests, passed, stepOf, findOf, moveOf, movesOf, Stopped}
-use Rattle.tables.specs.Inverse.{sourceOf, inverseTests, inverseOf}
-use Rattle.tables.specs.Under.{underTests, underCount, weightOf, startsUnderOf}
+use Rattle.preimages.specs.Inverse.{sourceOf, inverseTests, inverseOf}
+use Rattle.weights.specs.Under.{underTests, underCount, weightOf, startsUnderOf}
 use Rattle.tables.specs.declared.Moved.{Moved}
 use Rattle.bookmarks.specs.Bookmark.{bookmarkTests, bookmarkOf, fresh, Advances, marking, markedSays, markingOf, markingsOf}
 use Rattle.bookmarks.specs.declared.Bookmark.{Bookmark}

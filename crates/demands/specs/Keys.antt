@@ -9,10 +9,10 @@ use Rattle.runs.specs.Runs.{Runs, runs, countOf, startOf, imageOf, shiftOf}
 use Rattle.runs.specs.Check.{unmatched, unordered, outOfRange, overlap, overlaps, listTests, checkTests, checkOf}
 use Rattle.tables.specs.Tables.{Tables, tablesOf, holderOf, misshapen, outside, unheld, broken}
 use Rattle.tables.specs.Move.{passed, stepOf, moveOf, onwards, movesOf}
-use Rattle.tables.specs.Inverse.{sends, sourceOf, inverseOf}
+use Rattle.preimages.specs.Inverse.{sends, sourceOf, inverseOf}
 use Rattle.runs.specs.Weight.{weight}
 use Rattle.tables.specs.declared.Step.{Step}
-use Rattle.tables.specs.declared.Source.{Source}
+use Rattle.preimages.specs.declared.Source.{Source}
 use Rattle.balance.specs.Balance.{cutting, balanced}
 
 -- An outcome as a row of numbers: 0 and its values, or the refusal's number and place.

@@ -4,10 +4,10 @@ use bookmarks::Marked;
 use listfile::FileChecked;
 use outcomes::Checked;
 use outcomes::Refusal;
+use preimages::Inverted;
 use tables::Found;
-use tables::Inverted;
 use tables::Moved;
-use tables::Weighed;
+use weights::Weighed;
 
 pub(crate) fn name(s: &[u8]) {
     io::write_all(1, s);

@@ -49,13 +49,13 @@ pub(crate) fn inverses() {
     let i = [14, 12, 10, 8, 0, 4];
     let h = [5, 5, 4, 4, 0, 2];
     let high = [14, 12, 10, 8, 1, 5];
-    out::inverted(b"inverse", tables::inverse(16, &s, &i, &h, 9));
+    out::inverted(b"inverse", preimages::inverse(16, &s, &i, &h, 9));
     out::inverted(
         b"inverse",
-        tables::inverse(16, &s, out::first(&i, 5), &h, 9),
+        preimages::inverse(16, &s, out::first(&i, 5), &h, 9),
     );
-    out::inverted(b"inverse", tables::inverse(16, &s, &i, &h, 16));
-    out::inverted(b"inverse", tables::inverse(16, &s, &high, &h, 0));
+    out::inverted(b"inverse", preimages::inverse(16, &s, &i, &h, 16));
+    out::inverted(b"inverse", preimages::inverse(16, &s, &high, &h, 0));
 }
 
 // 9, 10 and 12, and the stretch itself.
@@ -63,13 +63,13 @@ pub(crate) fn weights() {
     let s = [0, 2, 4, 6, 8, 12];
     let i = [14, 12, 10, 8, 0, 4];
     let h = [5, 5, 4, 6, 0, 2];
-    out::weighed(b"weight", tables::weight(16, &s, &i, &h, 5));
-    out::weighed(b"weight", tables::weight(0, &s, &i, &h, 5));
-    out::weighed(b"weight", tables::weight(16, &s, &i, &h, 6));
-    out::weighed(b"weight", tables::weight(16, &s, &i, &h, 3));
+    out::weighed(b"weight", weights::weight(16, &s, &i, &h, 5));
+    out::weighed(b"weight", weights::weight(0, &s, &i, &h, 5));
+    out::weighed(b"weight", weights::weight(16, &s, &i, &h, 6));
+    out::weighed(b"weight", weights::weight(16, &s, &i, &h, 3));
     out::name(b"under");
-    out::number(tables::starts_under(16, &s, &i, &h, 5).len() as u64);
-    out::number(tables::starts_under(16, &s, &i, &h, 3).len() as u64);
+    out::number(weights::starts_under(16, &s, &i, &h, 5).len() as u64);
+    out::number(weights::starts_under(16, &s, &i, &h, 3).len() as u64);
     out::end();
 }
 

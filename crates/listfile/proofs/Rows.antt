@@ -20,8 +20,9 @@ use Rattle.runs.proofs.Sums.{inside, length-keep}
 use Rattle.runs.proofs.Legality.{homes, home, run-at}
 use Rattle.tables.specs.Tables.{Tables, sizeOf, holderOf}
 use Rattle.runs.specs.Weight.{weight}
-use Rattle.tables.specs.Under.{weightOf}
-use Rattle.tables.proofs.LegalTables.{holder-is, legal-weight}
+use Rattle.weights.specs.Under.{weightOf}
+use Rattle.tables.proofs.LegalTables.{holder-is}
+use Rattle.weights.proofs.LegalWeights.{legal-weight}
 use Rattle.listfile.specs.Text.{decimal, negative, signed, texts}
 use Rattle.listfile.specs.Listing.{headText, rowText, rowOf, refusalText}
 use Rattle.listfile.specs.Page.{Fits, Wrote, Listed}

@@ -5,7 +5,7 @@ use super::layout::read_header;
 use super::read_list;
 use super::text;
 use balance::Balanced;
-use tables::Weighed;
+use weights::Weighed;
 ghost use mathlib.Core.Path.{_≡_};
 ghost use Prim.Native.Nat.{_+_, _*_, _≤_, _<_};
 ghost use lib.ListN.{length};
@@ -24,7 +24,7 @@ fn weight_of(n: u32, starts: &[u32], images: &[u32], holders: &[u32], x: u32) ->
     requires { ⌜ Listed n (tables (now starts) (now images) (now holders)) × (x < length (now starts)) ⌝ }
     ensures { λ r. ⌜ r ≡ weight n (runs (now (starts .entry)) (now (images .entry))) x ⌝ }
 {
-    match tables::weight(n, starts, images, holders, x) {
+    match weights::weight(n, starts, images, holders, x) {
         Weighed::Weight(w) => w,
         Weighed::Refused(_) => 0,
     }

@@ -1,5 +1,5 @@
--- Through the tables of a legal list, balanced or not, the walks give the list's function, its powers and its inverse,
--- and the starts under an image are those of the definition; no call on a place below n is refused. A holder is the
+-- Through the tables of a legal list, balanced or not, the walks give the list's function and its powers; no call on a
+-- place below n is refused. A holder is the
 -- index of the run that has the image, so a walk from it passes the starts up to the place reached (Walks).
 use Prim.Native.Nat.{ℕ, zero, suc, _+_, _≤_, _<_}
 use mathlib.Core.Path.{_≡_, refl, sym, ap, _∙_}
@@ -20,26 +20,22 @@ use Rattle.runs.proofs.Legality.{homes, home, run-at}
 use Rattle.runs.proofs.Bijection.{map-below, power-below, map-onto}
 use Rattle.tables.specs.Tables.{tablesOf, holderOf, unheld, maxIntervals}
 use Rattle.tables.specs.Move.{passed, findOf, moveOf, movesOf, onwards}
-use Rattle.tables.specs.Inverse.{sends, sourceOf, inverseOf}
 use Rattle.runs.specs.Weight.{under, weight}
-use Rattle.tables.specs.Under.{underFirst, underCount, weightOf, stretch, startsUnderOf}
 use Rattle.tables.specs.Function.{passedFrom, stepFrom, passedIn, stepsFrom}
-use Rattle.tables.specs.Passed.{Shaped, Located, advanceOf, stretchOf}
+use Rattle.tables.specs.Parts.{Shaped, Located, advanceOf}
 use Rattle.tables.proofs.Passing.{fitting, shaped, held, whole}
 use Rattle.tables.proofs.Steps.{find-far, find-at, locate-in, move-located, advance-to}
-use Rattle.tables.proofs.Sources.{sends-is, inverse-from}
-use Rattle.tables.proofs.Stretches.{placed, weight-indexed}
 use Rattle.runs.proofs.Walks.{walk-passed, walk-count, above-to, map-in, under-first, under-count, under-is}
 
 module _ (n : ℕ) (r : Runs) (c : Legal n r) (few : countOf r ≤ maxIntervals) where
-  shape : Shaped n (tablesOf n r)
+  pub shape : Shaped n (tablesOf n r)
   shape =
       let e = sym (c .paired) in
       let f = e ∙ sym (length-map (r .images) (runAt n r)) in
       shaped n (tablesOf n r) _ refl (fitting n (tablesOf n r) (omega (arith, c .below 0 (c .some))) (c .some) e f few)
 
   -- the run that has a place
-  own : (p : ℕ) → p < n → (runAt n r p < countOf r) × (startOf r (runAt n r p) ≤ p) × (p < endOf n r (runAt n r p))
+  pub own : (p : ℕ) → p < n → (runAt n r p < countOf r) × (startOf r (runAt n r p) ≤ p) × (p < endOf n r (runAt n r p))
   own p h =
       let x = home n r (homes n r c) p h in
       rw (run-at n r (homes n r c) (x .0) p (x .1) (x .2) (x .3)) (x .1, x .2, x .3)
@@ -57,7 +53,7 @@ module _ (n : ℕ) (r : Runs) (c : Legal n r) (few : countOf r ≤ maxIntervals)
         getD-default (map (runAt n r) (r .images)) x 0 (runAt n r 0) l
         ∙ List·getD-map (runAt n r) (r .images) x 0
 
-    legal-held : unheld (tablesOf n r) x ≡ false
+    pub legal-held : unheld (tablesOf n r) x ≡ false
     legal-held =
         let y = own (imageOf r x) image-below in
         held (tablesOf n r) x (rw holder-is (y .0)) (rw holder-is (y .1))
@@ -105,54 +101,3 @@ module _ (n : ℕ) (r : Runs) (c : Legal n r) (few : countOf r ≤ maxIntervals)
   unfolding movesOf onwards andThen mapDone powerOf passedIn
   legal-moves zero p h = sym (locate-in n (tablesOf n r) (runAt n r p) p (legal-located p h))
   legal-moves (suc m) p h = rw (legal-moves m p h, legal-move (powerOf n r m p) (power-below n r c m p h))
-
-  -- inverse gives the place that comes to j, and the run that has it
-  sends-own : (p : ℕ) → p < n → sends n r (mapOf n r p) (runAt n r p) ≡ true
-  unfolding sends
-  sends-own p h =
-      let x = own p h in
-      let l : carryBack r (runAt n r p) (mapOf n r p) < endOf n r (runAt n r p) = omega arith in
-      simp (le-leb _ _ (map-in n r c p h .0), lt-ltb _ _ l)
-
-  source-own : (p : ℕ) → p < n → runAt n r p ≡ sourceOf n r (mapOf n r p)
-  unfolding sourceOf
-  source-own p h =
-      let x = own p h in
-      let i = map-in n r c p h in
-      let one : (y : ℕ) → y < countOf r → sends n r (mapOf n r p) y ≡ true → y ≡ runAt n r p = λ y l e. (
-      let j = sends-is n r (mapOf n r p) y e in
-      c .apart y (runAt n r p) (mapOf n r p) l (x .0) (j .0) (omega arith) (i .0) (i .1)) in
-      sym (first-only (sends n r (mapOf n r p)) (countOf r) (runAt n r p) (x .0) (sends-own p h) one)
-
-  pub legal-inverse : (p : ℕ) → p < n
-      → inverseOf n (tablesOf n r) (mapOf n r p) ≡ done (record { place = p; interval = runAt n r p })
-  legal-inverse p h =
-      let x = own p h in
-      let z : carryBack r (runAt n r p) (mapOf n r p) ≡ p = omega arith in
-      let l = map-in n r c p h .2 in
-      sym (inverse-from n (tablesOf n r) (mapOf n r p) shape l (runAt n r p) (source-own p h) (x .0))
-      ∙ ap (λ (q : ℕ). done (record { place = q; interval = runAt n r p })) z
-
-  pub legal-preimage : (j : ℕ) → j < n
-      → (p : ℕ) × (p < n) × (mapOf n r p ≡ j)
-      × (inverseOf n (tablesOf n r) j ≡ done (record { place = p; interval = runAt n r p }))
-  legal-preimage j h =
-      let q = map-onto n r c j h in
-      (q .0, q .1, q .2, rw (q .2) at (legal-inverse (q .0) (q .1)))
-
-  -- the starts under an image are the definition's, and the weight their number
-  module _ (x : ℕ) (h : x < countOf r) where
-    legal-first : underFirst (tablesOf n r) x ≡ countBelow (imageOf r x) (r .starts)
-    unfolding underFirst
-    legal-first = rw (holder-is x h) (under-first n r c x h)
-
-    pub legal-weight : weightOf n (tablesOf n r) x ≡ done (weight n r x)
-    unfolding stretchOf underCount judge
-    legal-weight =
-        let p = placed n (tablesOf n r) x (legal-held x h) (homes n r c .lasting x h) (c .within x h) in
-        weight-indexed n (tablesOf n r) x (record { shape = shape; index = h })
-        ∙ simp (p, legal-first) (ap done (under-count n r c x))
-
-    pub legal-under : startsUnderOf n (tablesOf n r) x ≡ under n r x
-    unfolding startsUnderOf stretch
-    legal-under = rw (legal-weight, legal-first) (sym (under-is n r c x))

@@ -17,7 +17,7 @@ use Rattle.order.specs.Lists.{leading}
 use Rattle.runs.specs.Runs.{carry}
 use Rattle.tables.specs.Tables.{Tables, holderOf, maxIntervals, unheld, broken, brokenTest}
 use Rattle.tables.specs.Move.{passed, stepOf, moveOf, movesOf, counted, onwards, Stopped}
-use Rattle.tables.specs.Passed.{Shaped, Located, advanceOf}
+use Rattle.tables.specs.Parts.{Shaped, Located, advanceOf}
 use Rattle.tables.specs.declared.Step.{Step}
 use Rattle.outcomes.proofs.Judging.{done-refused, judge-first}
 use Rattle.order.proofs.Leading.{leading-within, leading-last, leading-next}

@@ -9,7 +9,7 @@ use borrow.Author.Tests.{lt-ltb, le-ltb, le-leb, lt-leb, ltb-false, leb-false, e
 use Rattle.order.proofs.Laws.{or-false}
 use Rattle.runs.specs.Runs.{startOf, imageOf, endOf, carry}
 use Rattle.tables.specs.Tables.{Tables, sizeOf, holderOf, maxIntervals, misshapen, outside, unheld, broken}
-use Rattle.tables.specs.Passed.{Shaped}
+use Rattle.tables.specs.Parts.{Shaped}
 
 -- 9 passed
 pub shaped : (n : ℕ) (t : Tables) (s : Bool) → s ≡ misshapen n t → s ≡ false → Shaped n t

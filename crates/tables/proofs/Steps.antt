@@ -14,7 +14,7 @@ use Rattle.order.specs.Lists.{leading}
 use Rattle.runs.specs.Runs.{startOf, carry}
 use Rattle.tables.specs.Tables.{Tables, sizeOf, holderOf, misshapen, outside, broken, shapeTest, indexTest, placeTest, brokenTest}
 use Rattle.tables.specs.Move.{passed, findOf, stepOf, moveOf, movesOf, locateTests}
-use Rattle.tables.specs.Passed.{Shaped, Located, advanceOf}
+use Rattle.tables.specs.Parts.{Shaped, Located, advanceOf}
 use Rattle.tables.specs.declared.Step.{Step}
 use Rattle.outcomes.proofs.Judging.{judge-append, judge-first}
 use Rattle.tables.proofs.Passing.{shaped, inside, inside-is}

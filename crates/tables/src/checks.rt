@@ -5,10 +5,10 @@ use outcomes::Refusal;
 ghost use mathlib.Core.Path.{_≡_};
 ghost use Rattle.tables.specs.Tables.{tables, misshapen, unheld};
 ghost use Rattle.tables.specs.Move.{movedSays, movesOf};
-ghost use Rattle.tables.specs.Passed.{Entered};
+ghost use Rattle.tables.specs.Parts.{Entered};
 
 // Test 9.
-pub(crate) fn is_misshapen(n: u32, starts: &[u32], images: &[u32], holders: &[u32]) -> bool
+pub fn is_misshapen(n: u32, starts: &[u32], images: &[u32], holders: &[u32]) -> bool
     ensures { λ r. ⌜ r ≡ misshapen n (tables (now (starts .entry)) (now (images .entry)) (now (holders .entry))) ⌝ }
 {
     if n == 0 {
@@ -27,7 +27,7 @@ pub(crate) fn is_misshapen(n: u32, starts: &[u32], images: &[u32], holders: &[u3
 }
 
 // Whether interval x has no holder that can be: test 12 but for what is reached.
-pub(crate) fn is_unheld(starts: &[u32], images: &[u32], holders: &[u32], x: u32) -> bool
+pub fn is_unheld(starts: &[u32], images: &[u32], holders: &[u32], x: u32) -> bool
     requires { ⌜ Entered (tables (now starts) (now images) (now holders)) x ⌝ }
     ensures { λ r. ⌜ r ≡ unheld (tables (now (starts .entry)) (now (images .entry)) (now (holders .entry))) x ⌝ }
 {

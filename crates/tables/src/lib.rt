@@ -2,28 +2,18 @@
 //
 // Each operation's contract is one equation with its definition in specs/, for every input. On the tables of a legal
 // list these are the list's function, its powers and its inverse (proofs/LegalTables).
-mod checks;
-mod preimage;
-mod under;
+pub mod checks;
 mod walk;
 
 ghost use mathlib.Core.Path.{_≡_};
 ghost use Rattle.tables.specs.Tables.{tables};
-ghost use Rattle.tables.specs.Inverse.{invertedSays, inverseOf};
 ghost use Rattle.tables.specs.Move.{foundSays, movedSays, findOf, moveOf, movesOf};
-ghost use Rattle.tables.specs.Under.{weighedSays, weightOf, startsUnderOf};
 
 // Where a move or a repeated move ends, and how many interval starts it passed.
 pub struct Step {
     pub place: u32,
     pub interval: u32,
     pub count: u64,
-}
-
-// A place and the interval that has it.
-pub struct Source {
-    pub place: u32,
-    pub interval: u32,
 }
 
 pub enum Found {
@@ -33,16 +23,6 @@ pub enum Found {
 
 pub enum Moved {
     To(Step),
-    Refused(outcomes::Refusal),
-}
-
-pub enum Inverted {
-    From(Source),
-    Refused(outcomes::Refusal),
-}
-
-pub enum Weighed {
-    Weight(u32),
     Refused(outcomes::Refusal),
 }
 
@@ -87,57 +67,5 @@ pub fn repeated_moves(
     match checks::locate(n, starts, images, holders, x, i) {
         Moved::Refused(r) => Moved::Refused(r),
         Moved::To(_) => walk::moves_from(n, starts, images, holders, x, i, m),
-    }
-}
-
-// The place that j is reached from, and its interval.
-pub fn inverse(n: u32, starts: &[u32], images: &[u32], holders: &[u32], j: u32) -> Inverted
-    ensures { λ r. ⌜ invertedSays r ≡ inverseOf n (tables (now (starts .entry)) (now (images .entry)) (now (holders .entry))) j ⌝ }
-{
-    if checks::is_misshapen(n, starts, images, holders) {
-        return Inverted::Refused(outcomes::Refusal::TableShape);
-    }
-    if n <= j {
-        return Inverted::Refused(outcomes::Refusal::PlaceRange(j));
-    }
-    let x = preimage::first_source(n, starts, images, j);
-    if starts.len() <= x {
-        return Inverted::Refused(outcomes::Refusal::NoPreimage(j));
-    }
-    Inverted::From(Source {
-        place: starts[x] + (j - images[x]),
-        interval: x as u32,
-    })
-}
-
-// How many starts lie under x's image.
-pub fn weight(n: u32, starts: &[u32], images: &[u32], holders: &[u32], x: u32) -> Weighed
-    ensures { λ r. ⌜ weighedSays r ≡ weightOf n (tables (now (starts .entry)) (now (images .entry)) (now (holders .entry))) x ⌝ }
-{
-    if checks::is_misshapen(n, starts, images, holders) {
-        return Weighed::Refused(outcomes::Refusal::TableShape);
-    }
-    if starts.len() <= x as usize {
-        return Weighed::Refused(outcomes::Refusal::IntervalIndex(x));
-    }
-    under::size(n, starts, images, holders, x)
-}
-
-// The starts under x's image, as the part of `starts` that they are; empty where `weight` refuses.
-pub fn starts_under<'a>(
-    n: u32,
-    starts: &'a [u32],
-    images: &[u32],
-    holders: &[u32],
-    x: u32,
-) -> &'a [u32]
-    ensures { λ r. ⌜ now r ≡ startsUnderOf n (tables (now (starts .entry)) (now (images .entry)) (now (holders .entry))) x ⌝ }
-{
-    match weight(n, starts, images, holders, x) {
-        Weighed::Refused(_) => &starts[0..0],
-        Weighed::Weight(w) => {
-            let from = under::first(starts, images, holders, x);
-            &starts[from..from + w as usize]
-        }
     }
 }

@@ -7,7 +7,7 @@ use outcomes::Refusal;
 ghost use mathlib.Core.Path.{_≡_};
 ghost use Rattle.tables.specs.Tables.{tables};
 ghost use Rattle.tables.specs.Move.{movedSays, movesOf};
-ghost use Rattle.tables.specs.Passed.{Located, advanceOf};
+ghost use Rattle.tables.specs.Parts.{Located, advanceOf};
 
 // Test 12 and the step, from a place that lies in interval x.
 pub(crate) fn advance(

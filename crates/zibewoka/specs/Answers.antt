@@ -3,7 +3,7 @@
 use Prim.Native.Nat.{ℕ}
 use Rattle.outcomes.specs.Outcome.{Outcome, done, refused}
 use Rattle.tables.specs.declared.Step.{Step}
-use Rattle.tables.specs.declared.Source.{Source}
+use Rattle.preimages.specs.declared.Source.{Source}
 use Rattle.zibewoka.specs.declared.ListAnswer.{ListAnswer}
 use Rattle.zibewoka.specs.declared.BalanceAnswer.{BalanceAnswer}
 use Rattle.zibewoka.specs.declared.IntervalAnswer.{IntervalAnswer}

@@ -10,8 +10,8 @@ ghost use Rattle.runs.specs.Runs.{runs};
 ghost use Rattle.runs.specs.Check.{checkOf};
 ghost use Rattle.tables.specs.Tables.{tables};
 ghost use Rattle.tables.specs.Move.{findOf, moveOf, movesOf};
-ghost use Rattle.tables.specs.Inverse.{inverseOf};
-ghost use Rattle.tables.specs.Under.{weightOf};
+ghost use Rattle.preimages.specs.Inverse.{inverseOf};
+ghost use Rattle.weights.specs.Under.{weightOf};
 ghost use Rattle.balance.specs.Lent.{lent};
 ghost use Rattle.zibewoka.specs.Answers.{listAnswer, findAnswer, moveAnswer, movesAnswer, inverseAnswer, weightAnswer};
 ghost use Rattle.zibewoka.specs.Lent.{BalanceAnswered, InverseListAnswered};
@@ -171,7 +171,7 @@ pub extern "C" fn zibewoka_inverse(
 ) -> IntervalAnswer
     ensures { λ r. ⌜ r ≡ inverseAnswer (inverseOf n (tables (now (starts .entry)) (now (images .entry)) (now (holders .entry))) place) ⌝ }
 {
-    answers::of_inverse(tables::inverse(n, starts, images, holders, place))
+    answers::of_inverse(preimages::inverse(n, starts, images, holders, place))
 }
 
 // How many starts lie under an interval's image.
@@ -185,5 +185,5 @@ pub extern "C" fn zibewoka_weight(
 ) -> IntervalAnswer
     ensures { λ r. ⌜ r ≡ weightAnswer (weightOf n (tables (now (starts .entry)) (now (images .entry)) (now (holders .entry))) interval) ⌝ }
 {
-    answers::of_weight(tables::weight(n, starts, images, holders, interval))
+    answers::of_weight(weights::weight(n, starts, images, holders, interval))
 }

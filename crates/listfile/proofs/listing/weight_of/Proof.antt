@@ -1,7 +1,7 @@
 -- `weight_of` meets its contract: the tables of a legal list give an interval's weight.
 use mathlib.Core.Path.{sym, ap, _∙_}
 use Rattle.tables.specs.Tables.{tables}
-use Rattle.tables.specs.Under.{weighedSays}
+use Rattle.weights.specs.Under.{weighedSays}
 use Rattle.listfile.proofs.Rows.{weighed, unrefused}
 use borrow.Author.Needs.{needs}
 use Rattle.listfile.proofs.listing.weight_of.Statement.{statement}

@@ -1,6 +1,7 @@
 -- `locate` meets its contract: an outcome law for each way to return.
 use Rattle.tables.proofs.Steps.{locate-shape, locate-index, locate-place, locate-in}
 use Rattle.tables.proofs.Passing.{shaped, outside-far, outside-low, outside-high}
+use Rattle.order.proofs.Laws.{entry-after}
 use native.Mathlib.Omega.{arith}
 use borrow.Author.Needs.{needs}
 use Rattle.tables.proofs.checks.locate.Statement.{statement}
@@ -35,21 +36,28 @@ returns-4 c =
     let s = shaped _ _ _ (e .before .is-misshapen .ensures) (e .if1 .left) in
     locate-place _ _ _ _ s (omega arith) (outside-low _ _ _ _ (omega arith) (omega arith))
 
-end-of-requires : tie.Need-end-of-requires
-end-of-requires c κs = search needs
+add-entry-or : tie.Need-add-entry-or
+add-entry-or c = search needs
+
+entry-or-requires : tie.Need-entry-or-requires
+entry-or-requires c κs = search needs
 
 returns-5 : tie.Need-returns-5
 returns-5 c =
     let e = c .before .before .before .before .before .before in
     let s = shaped _ _ _ (e .before .is-misshapen .ensures) (e .if1 .left) in
-    locate-place _ _ _ _ s (omega arith) (outside-high _ _ _ _ (omega arith) (omega arith) (omega arith))
+    let a = e .before .before .before .before .before .args in
+    let end = entry-after (a .starts .now) (a .x) (a .n) in
+    locate-place _ _ _ _ s (omega arith) (outside-high _ _ _ _ (omega arith) (omega arith) (omega (arith, end)))
 
 returns-6 : tie.Need-returns-6
 returns-6 c =
     let e = c .before .before .before .before .before .before in
     let s = shaped _ _ _ (e .before .is-misshapen .ensures) (e .if1 .left) in
+    let a = e .before .before .before .before .before .args in
+    let end = entry-after (a .starts .now) (a .x) (a .n) in
     locate-in _ _ _ _
-    (record { shape = s; index = omega arith; place = omega arith; low = omega arith; high = omega arith })
+    (record { shape = s; index = omega arith; place = omega arith; low = omega arith; high = omega (arith, end) })
 
 pub locate-spec : {M : Type 1} → statement M
 locate-spec =
@@ -62,6 +70,7 @@ locate-spec =
     mul-if4
     shared-slice-read-if4
     returns-4
-    end-of-requires
+    add-entry-or
+    entry-or-requires
     returns-5
     returns-6)

@@ -1,7 +1,7 @@
 -- `answers::of_inverse` meets its contract, an arm for each variant.
 use borrow.Author.Needs.{needs}
 use mathlib.Core.Path.{sym, ap}
-use Rattle.tables.specs.Inverse.{invertedSays}
+use Rattle.preimages.specs.Inverse.{invertedSays}
 use Rattle.zibewoka.specs.Answers.{inverseAnswer}
 use Rattle.zibewoka.proofs.answers.of_inverse.Statement.{statement}
 use Rattle.zibewoka.proofs.answers.of_inverse.Tie as tie

@@ -1,7 +1,7 @@
 -- `answers::of_weight` meets its contract, an arm for each variant.
 use borrow.Author.Needs.{needs}
 use mathlib.Core.Path.{sym, ap}
-use Rattle.tables.specs.Under.{weighedSays}
+use Rattle.weights.specs.Under.{weighedSays}
 use Rattle.zibewoka.specs.Answers.{weightAnswer}
 use Rattle.zibewoka.proofs.answers.of_weight.Statement.{statement}
 use Rattle.zibewoka.proofs.answers.of_weight.Tie as tie

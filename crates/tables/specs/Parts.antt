@@ -1,0 +1,43 @@
+-- What is known once tests have passed, and what is left of a call then: the private functions' contracts cite these.
+use Prim.Native.Nat.{ℕ, _≤_, _<_}
+use mathlib.Core.Path.{_≡_}
+use mathlib.Core.Bool.{false}
+use mathlib.Core.List.{[], _∷_}
+use lib.ListN.{length}
+use Rattle.outcomes.specs.Outcome.{Outcome, test, judge}
+use Rattle.runs.specs.Runs.{startOf, endOf}
+use Rattle.tables.specs.Tables.{Tables, sizeOf, maxIntervals, misshapen, brokenTest}
+use Rattle.tables.specs.Move.{stepOf}
+use Rattle.tables.specs.declared.Step.{Step}
+
+-- after 9
+pub record Shaped (n : ℕ) (t : Tables) : Type 0 where
+  pub fits : misshapen n t ≡ false
+  pub places : 0 < n
+  pub some : 0 < sizeOf t
+  pub few : sizeOf t ≤ maxIntervals
+  pub imaged : length (t .list .images) ≡ sizeOf t
+  pub held : length (t .holders) ≡ sizeOf t
+
+-- after 9 and 10
+pub record Indexed (n : ℕ) (t : Tables) (x : ℕ) : Type 0 where
+  pub shape : Shaped n t
+  pub index : x < sizeOf t
+
+-- x has an entry in each table, as it has then
+pub record Entered (t : Tables) (x : ℕ) : Type 0 where
+  pub index : x < sizeOf t
+  pub imaged : length (t .list .images) ≡ sizeOf t
+  pub held : length (t .holders) ≡ sizeOf t
+
+-- after 9, 10 and 11
+pub record Located (n : ℕ) (t : Tables) (x i : ℕ) : Type 0 where
+  pub shape : Shaped n t
+  pub index : x < sizeOf t
+  pub place : i < n
+  pub low : startOf (t .list) x ≤ i
+  pub high : i < endOf n (t .list) x
+
+-- what is left of a move then: 12 and the step
+unfoldable pub advanceOf : ℕ → Tables → ℕ → ℕ → Outcome Step
+advanceOf n t x i = judge (brokenTest n t x i ∷ []) (stepOf t x i)

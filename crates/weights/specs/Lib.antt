@@ -1,0 +1,3 @@
+-- The starts under an image, on any tables.
+pub mod Under
+pub mod Parts
