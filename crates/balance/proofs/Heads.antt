@@ -8,7 +8,7 @@ use lib.Seq.{take-append-seam}
 use Rattle.outcomes.specs.Outcome.{Outcome, done, mapDone, filled}
 use Rattle.runs.specs.Runs.{Runs, countOf, runAt}
 use Rattle.tables.specs.Tables.{Tables, tables, tablesOf, sizeOf}
-use Rattle.balance.specs.Balance.{balanced}
+use Rattle.cuts.specs.Balance.{balanced}
 use Rattle.balance.specs.Lent.{Lent, firstOf, balancedSays, balanceOf, Balances}
 use Rattle.balance.specs.declared.Balanced.{Balanced}
 

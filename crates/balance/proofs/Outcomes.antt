@@ -9,7 +9,7 @@ use lib.Seq.{drop-drop}
 use lib.Dec.{ltb}
 use borrow.Author.Tests.{lt-ltb, le-ltb, ltb-false}
 use Rattle.order.proofs.Laws.{or-false}
-use Rattle.outcomes.specs.Outcome.{done, refused, Test, test, judge, andThen, mapDone, filled}
+use Rattle.outcomes.specs.Outcome.{done, refused, Test, test, judge, andThen, mapDone, filled, over}
 use Rattle.outcomes.specs.Refusal.{refusalSays}
 use Rattle.runs.specs.Runs.{Runs, countOf}
 use Rattle.runs.specs.Check.{checkTests, checkOf}
@@ -18,11 +18,12 @@ use Rattle.outcomes.specs.declared.Refusal.the-variants.{Degree, ShortTable}
 use Rattle.outcomes.proofs.Judging.{judge-append}
 use Rattle.runs.proofs.Accepted.{accepted-legal}
 use Rattle.tables.specs.Tables.{tablesOf}
-use Rattle.balance.specs.Balance.{balanced, boundOf}
+use Rattle.cuts.specs.Balance.{balanced, boundOf}
 use Rattle.balance.specs.Lent.{Lent, degreeTest, tooShort, balanceOf, Balances}
-use Rattle.balance.specs.Cuts.{withCuts, over, BalancingCuts, TablesWritten, Fillable, Filled}
+use Rattle.cuts.specs.Merged.{withCuts, BalancingCuts}
+use Rattle.balance.specs.Parts.{TablesWritten, Fillable, Filled}
 use Rattle.balance.specs.declared.Balanced.the-variants.{Intervals, Refused}
-use Rattle.balance.proofs.Balancing.{balanced-count, balanced-legal}
+use Rattle.cuts.proofs.Balancing.{balanced-count, balanced-legal}
 use Rattle.balance.proofs.Writing.{legal-count}
 
 -- tests 7 and 8

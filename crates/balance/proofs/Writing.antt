@@ -14,9 +14,12 @@ use Rattle.runs.proofs.Legality.{homes, home, run-at}
 use lib.Seq.{take-at}
 use Rattle.tables.specs.Tables.{tablesOf}
 use Rattle.runs.proofs.Walks.{run-below}
-use Rattle.balance.specs.Cuts.{merged, withCuts, Starts, At, Has, over, ListWritten, TablesWritten}
-use Rattle.balance.specs.declared.Mark.{Mark}
-use Rattle.balance.proofs.Merged.{merged-length, merged-count, merged-next, place-count}
+use Rattle.cuts.specs.Merged.{merged, withCuts, Starts}
+use Rattle.cuts.specs.Marks.{At}
+use Rattle.balance.specs.Parts.{Has, ListWritten, TablesWritten}
+use Rattle.outcomes.specs.Outcome.{over}
+use Rattle.cuts.specs.declared.Mark.{Mark}
+use Rattle.cuts.proofs.Merged.{merged-length, merged-count, merged-next, place-count}
 
 -- the run that has a place, by counting the starts up to it
 pub has-counted : (n : ℕ) (r : Runs) → Legal n r → (p k : ℕ) → p < n → k ≡ countBelow (suc p) (r .starts)

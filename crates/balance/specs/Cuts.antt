@@ -9,10 +9,10 @@ use Rattle.runs.specs.Check.{maxRuns}
 use Rattle.runs.specs.Legal.{Legal}
 use Rattle.runs.specs.Runs.{Runs, runs, countOf, startOf, imageOf, imageEnd, mapOf}
 use Rattle.tables.specs.Tables.{Tables, sizeOf}
-use Rattle.balance.specs.Balance.{balanced, boundOf}
+use Rattle.cuts.specs.Balance.{balanced, boundOf}
 use Rattle.balance.specs.Lent.{Lent}
-use Rattle.balance.specs.declared.Mark.{Mark}
-use Rattle.balance.specs.declared.Piece.{Piece}
+use Rattle.cuts.specs.declared.Mark.{Mark}
+use Rattle.cuts.specs.declared.Piece.{Piece}
 
 -- the starts of a list and those that cuts added, in rising order
 unfoldable pub merged : List ℕ → List ℕ → List ℕ

@@ -10,7 +10,7 @@ use Rattle.outcomes.specs.Refusal.{refusalSays}
 use Rattle.runs.specs.Runs.{Runs, countOf}
 use Rattle.runs.specs.Check.{checkTests}
 use Rattle.tables.specs.Tables.{Tables, tables, tablesOf, sizeOf}
-use Rattle.balance.specs.Balance.{balanced, boundOf}
+use Rattle.cuts.specs.Balance.{balanced, boundOf}
 use Rattle.balance.specs.declared.Balanced.{Balanced}
 use Rattle.balance.specs.declared.Balanced.the-variants.{Intervals, Refused}
 

@@ -8,7 +8,9 @@ ghost use lib.ListN.{length, replicate};
 ghost use Rattle.runs.specs.Legal.{Legal};
 ghost use Rattle.runs.specs.Runs.{runs, runAt, mapOf};
 ghost use Rattle.tables.specs.Tables.{tablesOf};
-ghost use Rattle.balance.specs.Cuts.{withCuts, Starts, Has, ListWritten, TablesWritten, over};
+ghost use Rattle.cuts.specs.Merged.{withCuts, Starts};
+ghost use Rattle.balance.specs.Parts.{Has, ListWritten, TablesWritten};
+ghost use Rattle.outcomes.specs.Outcome.{over};
 
 // The image of `p`, which run `x` has.
 fn image_of(n: u32, starts: &[u32], images: &[u32], x: usize, p: u32) -> u32

@@ -15,9 +15,9 @@ ghost use Rattle.runs.specs.Runs.{runs};
 ghost use Rattle.runs.specs.Check.{maxRuns, checkOf};
 ghost use Rattle.outcomes.specs.Outcome.{done};
 ghost use Rattle.tables.specs.Tables.{tablesOf};
-ghost use Rattle.balance.specs.Balance.{balanced, boundOf};
+ghost use Rattle.cuts.specs.Balance.{balanced, boundOf};
 ghost use Rattle.balance.specs.Lent.{lent, tooShort, Balances};
-ghost use Rattle.balance.specs.Cuts.{Fillable, Filled};
+ghost use Rattle.balance.specs.Parts.{Fillable, Filled};
 
 // How many intervals the balanced list has.
 pub enum Balanced {

@@ -10,8 +10,8 @@ use Rattle.runs.proofs.Accepted.{accepted-legal}
 use Rattle.runs.proofs.Sequences.{accepted-sequence, sequence-accepted}
 use Rattle.runs.proofs.Intervals.{accepted-intervals, intervals-accepted}
 use Rattle.tables.specs.Tables.{maxIntervals}
-use Rattle.balance.specs.Balance.{balanced}
-use Rattle.balance.proofs.Balancing.{balanced-legal, balanced-map, balanced-cuts}
+use Rattle.cuts.specs.Balance.{balanced}
+use Rattle.cuts.proofs.Balancing.{balanced-legal, balanced-map, balanced-cuts}
 use Rattle.demands.specs.Demands.{Through, Demand2}
 use Rattle.demands.proofs.Through.{through}
 

@@ -21,10 +21,10 @@ use Rattle.bookmarks.specs.Bookmark.{fresh, Marking, markingsOf}
 use Rattle.runs.proofs.Walks.{above-to, walk-bound}
 use Rattle.tables.proofs.LegalTables.{legal-find-beyond}
 use Rattle.tables.specs.Move.{findOf}
-use Rattle.balance.specs.Balance.{balanced, boundOf}
+use Rattle.cuts.specs.Balance.{balanced, boundOf}
 use Rattle.balance.specs.Lent.{Lent, balanceOf, tooShort}
 use Rattle.balance.proofs.Heads.{answer-is, head-is}
-use Rattle.balance.proofs.Balancing.{balanced-legal, balanced-map, balanced-light, balanced-count}
+use Rattle.cuts.proofs.Balancing.{balanced-legal, balanced-map, balanced-light, balanced-count}
 use Rattle.demands.specs.Calls.{Call, total, countIn, Bounded}
 use Rattle.demands.specs.PlainWalk.{plainMove, plainMoves, walkCounts, plainTrail}
 use Rattle.demands.specs.Served.{served, servedTrail}

@@ -21,7 +21,7 @@ use Rattle.tables.specs.declared.Moved.{Moved}
 use Rattle.bookmarks.specs.Bookmark.{bookmarkTests, bookmarkOf, fresh, Advances, marking, markedSays, markingOf, markingsOf}
 use Rattle.bookmarks.specs.declared.Bookmark.{Bookmark}
 use Rattle.bookmarks.specs.declared.Marked.{Marked}
-use Rattle.balance.specs.Balance.{balanced, boundOf}
+use Rattle.cuts.specs.Balance.{balanced, boundOf}
 use Rattle.balance.specs.Lent.{Lent, firstOf, balancedSays, balanceTests, balanceOf, Balances}
 use Rattle.balance.specs.declared.Balanced.{Balanced}
 use Rattle.listfile.specs.File.{fileTests, headerOf, fileOf}

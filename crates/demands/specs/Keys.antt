@@ -13,7 +13,7 @@ use Rattle.preimages.specs.Inverse.{sends, sourceOf, inverseOf}
 use Rattle.runs.specs.Weight.{weight}
 use Rattle.tables.specs.declared.Step.{Step}
 use Rattle.preimages.specs.declared.Source.{Source}
-use Rattle.balance.specs.Balance.{cutting, balanced}
+use Rattle.cuts.specs.Balance.{cutting, balanced}
 
 -- An outcome as a row of numbers: 0 and its values, or the refusal's number and place.
 abbrev pub rowFrom : {A : Type 0} → (A → List ℕ) → Outcome A → List ℕ

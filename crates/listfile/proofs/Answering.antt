@@ -17,11 +17,11 @@ use Rattle.outcomes.specs.declared.Refusal.{Refusal}
 use Rattle.outcomes.proofs.Judging.{done-refused, judge-append}
 use Rattle.runs.proofs.Accepted.{accepted-legal}
 use Rattle.tables.specs.Tables.{Tables, tablesOf, sizeOf}
-use Rattle.balance.specs.Balance.{balanced, boundOf}
+use Rattle.cuts.specs.Balance.{balanced, boundOf}
 use Rattle.balance.specs.Lent.{Lent, firstOf, balancedSays, degreeTest, tooShort, balanceOf, Balances}
 use Rattle.balance.specs.declared.Balanced.{Balanced}
 use Rattle.balance.specs.declared.Balanced.the-variants.{Intervals, Refused}
-use Rattle.balance.proofs.Balancing.{balanced-legal, balanced-cuts}
+use Rattle.cuts.proofs.Balancing.{balanced-legal, balanced-cuts}
 use Rattle.balance.proofs.Heads.{head-is, head-room}
 use Rattle.listfile.specs.File.{runsAt, runsOf, Laid, degreeOf, bodyOf}
 use Rattle.listfile.specs.Listing.{tableText, refusalText, textOf}

@@ -6,7 +6,7 @@ use Rattle.order.specs.Lists.{upTo}
 use Rattle.outcomes.specs.Outcome.{Outcome, done, refused}
 use Rattle.runs.specs.Runs.{Runs, countOf, startOf, imageOf, shiftOf, runAt}
 use Rattle.runs.specs.Weight.{weight}
-use Rattle.balance.specs.Balance.{balanced}
+use Rattle.cuts.specs.Balance.{balanced}
 use Rattle.listfile.specs.File.{fileOf, runsOf}
 use Rattle.listfile.specs.Text.{decimal, signed, line, texts}
 use Rattle.listfile.specs.declared.Header.{Header}

@@ -7,8 +7,8 @@ use lib.ListN.{length, take}
 use lib.Seq.{length-take-le}
 use Rattle.runs.specs.Legal.{Legal}
 use Rattle.runs.specs.Runs.{Runs, runs}
-use Rattle.balance.specs.Cuts.{withCuts}
-use Rattle.balance.proofs.Cutlist.{with-legal}
+use Rattle.cuts.specs.Merged.{withCuts}
+use Rattle.cuts.proofs.Cutlist.{with-legal}
 use Rattle.balance.proofs.Writing.{list-taken, tables-written}
 use Rattle.balance.proofs.fill.write_tables.Statement.{statement}
 use Rattle.balance.proofs.fill.write_tables.Tie as tie

@@ -1,0 +1,10 @@
+-- The theory of cuts, and the list after cuts as the code has it.
+pub mod Refine
+pub mod Cut
+pub mod Weights
+pub mod Balancing
+pub mod Swept
+pub mod Sweeping
+pub mod Merged
+pub mod Cutlist
+pub mod Progress
