@@ -1,13 +1,4 @@
--- The theory of cuts, and the list after cuts as the code has it.
-pub mod Refine
-pub mod Cut
-pub mod Weights
-pub mod Balancing
-pub mod Swept
-pub mod Sweeping
-pub mod Merged
-pub mod Cutlist
-pub mod Progress
-pub mod Writing
+-- What the tests come to, what is written, and what stands at the head of the tables afterwards.
 pub mod Outcomes
+pub mod Writing
 pub mod Heads

@@ -1,129 +1,245 @@
--- What `balance` answers, one law for each way to return: the tests of a refused call, or the tables that were filled.
-use Prim.Native.Nat.{ℕ, _+_, _-_, _≤_, _<_}
-use mathlib.Core.Path.{_≡_, sym, ap, _∙_, subst}
-use mathlib.Core.Bool.{true, false}
+-- What the tests of `balance` come to, by the lengths of what is lent; and what it leaves for each plan.
+use Prim.Native.Nat.{ℕ, _+_, _-_, _≤_}
+use mathlib.Core.Path.{_≡_, refl, sym, ap, _∙_, subst}
+use mathlib.Core.Bool.{Bool, true, false}
 use mathlib.Core.List.{List, [], _∷_, _++_}
 use native.Mathlib.Omega.{arith}
 use lib.ListN.{length, take, drop, replicate, length-replicate}
 use lib.Seq.{drop-drop}
 use lib.Dec.{ltb}
-use borrow.Author.Tests.{lt-ltb, le-ltb, ltb-false}
+use borrow.Author.Tests.{le-ltb, ltb-false}
 use Rattle.order.proofs.Laws.{or-false}
-use Rattle.outcomes.specs.Outcome.{done, refused, Test, test, judge, andThen, mapDone, filled, over}
+use Rattle.outcomes.specs.Outcome.{Outcome, done, refused, Test, test, judge, andThen, mapDone, filled, over}
 use Rattle.outcomes.specs.Refusal.{refusalSays}
-use Rattle.runs.specs.Runs.{Runs, countOf}
-use Rattle.runs.specs.Check.{checkTests, checkOf}
 use Rattle.outcomes.specs.declared.Refusal.{Refusal}
-use Rattle.outcomes.specs.declared.Refusal.the-variants.{Degree, ShortTable}
 use Rattle.outcomes.proofs.Judging.{judge-append}
+use Rattle.runs.specs.Runs.{Runs, countOf}
+use Rattle.runs.specs.Check.{maxRuns, checkTests, checkOf}
+use Rattle.runs.specs.Legal.{Legal}
+use Rattle.runs.specs.Parts.{Roomy, Ordered}
 use Rattle.runs.proofs.Accepted.{accepted-legal}
-use Rattle.tables.specs.Tables.{tablesOf}
-use Rattle.cuts.specs.Balance.{balanced, boundOf}
-use Rattle.balance.specs.Lent.{Lent, degreeTest, tooShort, balanceOf, Balances}
-use Rattle.cuts.specs.Merged.{withCuts, BalancingCuts}
+use Rattle.tables.specs.Tables.{Tables, tablesOf}
+use Rattle.cuts.specs.Balance.{balanced}
+use Rattle.cuts.specs.Merged.{withCuts, Cuttable, BalancingCuts}
+use Rattle.cuts.proofs.Balancing.{balanced-count, balanced-legal, cuts-bound}
+use Rattle.balance.specs.Lent.{Lent, lent, Room, noDegree, degreeTest, tableSize, workingSize, tooShort, balanceOf, Balances}
+use Rattle.balance.specs.Plan.{sizesOf, shortSizes, sizedOf, plannedOf}
 use Rattle.balance.specs.Parts.{TablesWritten, Fillable, Filled}
 use Rattle.balance.specs.declared.Balanced.the-variants.{Intervals, Refused}
-use Rattle.cuts.proofs.Balancing.{balanced-count, balanced-legal}
+use Rattle.balance.specs.declared.Sizes.{Sizes}
 use Rattle.balance.proofs.Writing.{legal-count}
 
+-- a degree that passes test 7
+pub degree-in : (d : ℕ) → noDegree d ≡ false → (2 ≤ d) × (d ≤ 64)
+degree-in d e = let i = or-false (ltb d 2) (ltb 64 d) e in (ltb-false d 2 (i .0), ltb-false 64 d (i .1))
+
+pub degree-passes : (d : ℕ) → 2 ≤ d → d ≤ 64 → noDegree d ≡ false
+degree-passes d low high = rw (le-ltb d 2 low, le-ltb 64 d high)
+
+-- tables that pass test 8
+sizes-in : (b : ℕ) (s : Sizes) → shortSizes b s ≡ false
+    → (b ≤ s .starts) × (b ≤ s .images) × (b ≤ s .holders) × (b ≤ s .working)
+sizes-in b s e =
+    let i = or-false (ltb (s .starts) b) _ e in
+    let j = or-false (ltb (s .images) b) _ (i .1) in
+    let k = or-false (ltb (s .holders) b) _ (j .1) in
+    (ltb-false _ b (i .0), ltb-false _ b (j .0), ltb-false _ b (k .0), ltb-false _ b (k .1))
+
+room-in : (b : ℕ) (l : Lent) → shortSizes b (sizesOf l) ≡ false → Room b l
+room-in b l e = let i = sizes-in b (sizesOf l) e in
+    record { starts = i .0; images = i .1; holders = i .2; working = i .3 }
+
+room-passes : (b : ℕ) (l : Lent) → Room b l → shortSizes b (sizesOf l) ≡ false
+room-passes b l m = rw (
+  le-ltb (length (l .starts)) b (m .starts),
+  le-ltb (length (l .images)) b (m .images),
+  le-ltb (length (l .holders)) b (m .holders),
+  le-ltb (length (l .working)) b (m .working),
+)
+
 -- tests 7 and 8
-abbrev lentTests : Runs → ℕ → Lent → List Test
-lentTests r d l = degreeTest d ∷ test 8 (tooShort (boundOf d (countOf r)) l) (boundOf d (countOf r)) ∷ []
+module _ (d k : ℕ) (s : Sizes) where
+  pub sized-degree : noDegree d ≡ true → sizedOf d k s ≡ refused 7 d
+  unfolding sizedOf judge
+  sized-degree e = rw e
+
+  pub sized-short : noDegree d ≡ false → shortSizes (tableSize d k) s ≡ true → sizedOf d k s ≡ refused 8 (tableSize d k)
+  unfolding sizedOf judge
+  sized-short e f = rw (e, f)
+
+  pub sized-done : noDegree d ≡ false → shortSizes (tableSize d k) s ≡ false → sizedOf d k s ≡ done tt
+  unfolding sizedOf judge
+  sized-done e f = rw (e, f)
+
+  pub sized-passed : sizedOf d k s ≡ done tt → (noDegree d ≡ false) × (shortSizes (tableSize d k) s ≡ false)
+  unfolding sizedOf judge
+  sized-passed = go (noDegree d) (shortSizes (tableSize d k) s)
+    where
+      go : (a b : Bool) → judge (test 7 a d ∷ test 8 b (tableSize d k) ∷ []) (tt {0}) ≡ done tt → (a ≡ false) × (b ≡ false)
+      go true b e = let z : _≡_ {A = ℕ} 0 1 = cc in absurd (omega arith)
+      go false true e = let z : _≡_ {A = ℕ} 0 1 = cc in absurd (omega arith)
+      go false false e = (refl, refl)
+
+-- tests 1 to 8
+module _ (n : ℕ) (r : Runs) (d : ℕ) (s : Sizes) where
+  pub planned-refused : (k p : ℕ) → refused k p ≡ checkOf n r → refused k p ≡ plannedOf n r d s
+  unfolding plannedOf andThen
+  planned-refused k p e = rw (← e)
+
+  pub planned-accepted : checkOf n r ≡ done tt → plannedOf n r d s ≡ sizedOf d (countOf r) s
+  unfolding plannedOf andThen
+  planned-accepted a = rw a
+
+  pub planned-passed : plannedOf n r d s ≡ done tt → (checkOf n r ≡ done tt) × (sizedOf d (countOf r) s ≡ done tt)
+  unfolding plannedOf andThen
+  planned-passed = go (checkOf n r)
+    where
+      go : (o : Outcome (Unit {0})) → andThen o (λ _. sizedOf d (countOf r) s) ≡ done tt
+          → (o ≡ done tt) × (sizedOf d (countOf r) s ≡ done tt)
+      go (done u) e = (refl, e)
+      go (refused k p) e = let z : _≡_ {A = ℕ} 0 1 = cc in absurd (omega arith)
 
 module _ (n : ℕ) (r : Runs) (d : ℕ) (l : Lent) where
-  parts : balanceOf n r d l ≡ andThen (checkOf n r) (λ _. judge (lentTests r d l) (tablesOf n (balanced d n r)))
-  unfolding balanceOf checkOf
-  parts = judge-append (checkTests n r) (lentTests r d l) tt (tablesOf n (balanced d n r))
+  -- the tests of what is lent are those of its lengths
+  pub balance-planned : balanceOf n r d l ≡ mapDone (λ _. tablesOf n (balanced d n r)) (plannedOf n r d (sizesOf l))
+  unfolding balanceOf checkOf plannedOf sizedOf tooShort judge mapDone andThen
+  balance-planned =
+      judge-append {A = Unit {0}} (checkTests n r) (degreeTest d ∷ test 8 (shortSizes b (sizesOf l)) b ∷ []) tt t
+      ∙ go (checkOf n r)
+    where
+      b : ℕ
+      b = tableSize d (countOf r)
 
-  refuses : (x : Refusal) → balanceOf n r d l ≡ refusalSays x → Balances n r d l l (Refused x)
+      t : Tables
+      t = tablesOf n (balanced d n r)
+
+      told : (x y : Bool) → judge (test 7 x d ∷ test 8 y b ∷ []) t ≡ mapDone (λ _. t) (judge (test 7 x d ∷ test 8 y b ∷ []) (tt {0}))
+      told true y = refl
+      told false true = refl
+      told false false = refl
+
+      go : (o : Outcome (Unit {0}))
+          → andThen o (λ _. judge (degreeTest d ∷ test 8 (shortSizes b (sizesOf l)) b ∷ []) t)
+          ≡ mapDone (λ _. t) (andThen o (λ _. sizedOf d (countOf r) (sizesOf l)))
+      go (done u) = told (noDegree d) (shortSizes b (sizesOf l))
+      go (refused k p) = refl
+
+  -- balancing an accepted list into tables with room is not refused
+  pub balance-done : checkOf n r ≡ done tt → 2 ≤ d → d ≤ 64 → Room (tableSize d (countOf r)) l
+      → balanceOf n r d l ≡ done (tablesOf n (balanced d n r))
+  unfolding mapDone
+  balance-done a low high m = balance-planned ∙ rw (
+    planned-accepted n r d (sizesOf l) a,
+    sized-done d (countOf r) (sizesOf l) (degree-passes d low high) (room-passes (tableSize d (countOf r)) l m),
+  )
+
+-- a list that passes them
+module _ (n : ℕ) (r : Runs) (d : ℕ) (s : Sizes) (p : plannedOf n r d s ≡ done tt) where
+  pub planned-list : Legal n r × (countOf r ≤ maxRuns)
+  planned-list = let l = accepted-legal n r (planned-passed n r d s p .0) in (l .0, l .1)
+
+  pub planned-sizes : (2 ≤ d) × (d ≤ 64) × (shortSizes (tableSize d (countOf r)) s ≡ false)
+  planned-sizes =
+      let e = sized-passed d (countOf r) s (planned-passed n r d s p .1) in
+      let i = degree-in d (e .0) in
+      (i .0, i .1, e .1)
+
+  -- the tables to work in have an entry for each run
+  pub planned-cuttable : (order ranked working : List ℕ) → Ordered r order → Roomy (r .starts) order
+      → Roomy (r .starts) ranked → s .working ≡ length working → Cuttable n r order ranked d working
+  planned-cuttable order ranked working o a b e =
+      let l = planned-list in
+      let t = planned-sizes in
+      record {
+        legal = l .0;
+        ordered = o;
+        in-order = a (l .1);
+        in-ranked = b (l .1);
+        low = t .0;
+        high = t .1;
+        in-working = omega (
+          arith,
+          sizes-in (tableSize d (countOf r)) s (t .2) .3,
+          cuts-bound d (countOf r) 0 (t .0) (omega arith),
+        );
+      }
+
+-- what `balance` leaves after a refusal
+module _ (n : ℕ) (r : Runs) (d : ℕ) (l : Lent) where
+  pub plan-refused : (x : Refusal) (working : List ℕ) → plannedOf n r d (sizesOf l) ≡ refusalSays x → working ≡ l .working
+      → Balances n r d l (lent (l .starts) (l .images) (l .holders) working) (Refused x)
   unfolding mapDone filled
-  refuses x e = record { says = rw e; starts = rw e; images = rw e; holders = rw e; working = rw e }
+  plan-refused x working p w =
+      let e : balanceOf n r d l ≡ refusalSays x = balance-planned n r d l ∙ rw p in
+      record { says = rw e; starts = rw e; images = rw e; holders = rw e; working = rw e w }
 
-  pub list-refused : (x : Refusal) → refusalSays x ≡ checkOf n r → Balances n r d l l (Refused x)
-  unfolding andThen
-  list-refused x e = refuses x (parts
-      ∙ ap (λ c. andThen c (λ _. judge (lentTests r d l) (tablesOf n (balanced d n r)))) (sym e))
-
-  module _ (a : checkOf n r ≡ done tt) where
-    accepted : balanceOf n r d l ≡ judge (lentTests r d l) (tablesOf n (balanced d n r))
-    unfolding andThen
-    accepted = parts ∙ rw a
-
-    pub degree-low : d < 2 → Balances n r d l l (Refused (Degree d))
-    unfolding judge
-    degree-low h = refuses (Degree d) (accepted ∙ simp (lt-ltb d 2 h))
-
-    pub degree-high : 2 ≤ d → 64 < d → Balances n r d l l (Refused (Degree d))
-    unfolding judge
-    degree-high h k = refuses (Degree d) (accepted ∙ simp (le-ltb d 2 h, lt-ltb 64 d k))
-
-    module _ (low : 2 ≤ d) (high : d ≤ 64) (b : ℕ) (e : b ≡ boundOf d (countOf r)) where
-      pub table-short : tooShort b l ≡ true → Balances n r d l l (Refused (ShortTable b))
-      unfolding judge
-      table-short s =
-          let t : tooShort (boundOf d (countOf r)) l ≡ true = ap (λ (k : ℕ). tooShort k l) (sym e) ∙ s in
-          refuses (ShortTable b) (accepted ∙ simp (le-ltb d 2 low, le-ltb 64 d high, t) (ap (refused 8) (sym e)))
-
-      module _ (s : tooShort b l ≡ false) where
-        pub roomy : Fillable n r d b l
-        unfolding tooShort
-        roomy =
-            let i = or-false (ltb (length (l .starts)) b) _ s in
-            let j = or-false (ltb (length (l .images)) b) _ (i .1) in
-            let k = or-false (ltb (length (l .holders)) b) _ (j .1) in
-            let c = accepted-legal n r a in
-            record {
-              legal = c .0;
-              few = c .1;
-              low = low;
-              high = high;
-              bound = e;
-              starts-room = ltb-false (length (l .starts)) b (i .0);
-              images-room = ltb-false (length (l .images)) b (j .0);
-              holders-room = ltb-false (length (l .holders)) b (k .0);
-              working-room = ltb-false (length (l .working)) b (k .1);
-            }
-
-        pub tables-filled : (l′ : Lent) (k : ℕ) → Filled (tablesOf n (balanced d n r)) b l l′ k
-            → Balances n r d l l′ (Intervals k)
-        unfolding judge mapDone filled
-        tables-filled l′ k f =
-            let t : tooShort (boundOf d (countOf r)) l ≡ false = ap (λ (k : ℕ). tooShort k l) (sym e) ∙ s in
-            let o : balanceOf n r d l ≡ done (tablesOf n (balanced d n r)) = accepted
-            ∙ simp (le-ltb d 2 low, le-ltb 64 d high, t) in
-            record {
-              says = rw o (ap done (f .counted));
-              starts = rw o (f .written .starts-at-exit);
-              images = rw o (f .written .images-at-exit);
-              holders = rw o (f .written .holders-at-exit);
-              working = rw o (f .cleared ∙ ap (λ (k : ℕ). over (replicate k 0) (l .working)) e);
-            }
-
--- the cuts are few enough for the tables, and are cleared with the rest
-module _ (n : ℕ) (r : Runs) (d b : ℕ) (l : Lent) (f : Fillable n r d b l) (swept : List ℕ) (c : ℕ)
+-- and with c cuts in the working table
+module _ (n : ℕ) (r : Runs) (d : ℕ) (l : Lent) (p : plannedOf n r d (sizesOf l) ≡ done tt) (swept : List ℕ) (c : ℕ)
     (g : BalancingCuts d n r (l .working) swept c) where
-  -- and the intervals are no more than the places
-  pub cuts-fit : countOf r + c ≤ n
-  cuts-fit = omega (arith, g .counted, legal-count n (balanced d n r) (balanced-legal d n (f .low) r (f .legal)))
+  pub plan-fillable : length swept ≡ length (l .working) → Fillable n r d c (lent (l .starts) (l .images) (l .holders) swept)
+  plan-fillable e =
+      let t = planned-sizes n r d (sizesOf l) p in
+      let m = room-in (tableSize d (countOf r)) l (t .2) in
+      let h = planned-list n r d (sizesOf l) p in
+      record {
+        legal = h .0;
+        few = h .1;
+        low = t .0;
+        high = t .1;
+        cuts = record { list-is = g .list-is; starts = g .starts; counted = g .counted; fits = g .fits; rest = refl };
+        room = record {
+          starts = m .starts;
+          images = m .images;
+          holders = m .holders;
+          working = omega (arith, m .working);
+        };
+      }
 
-  pub cuts-few : countOf r + c ≤ b
-  cuts-few = omega (arith, f .bound, g .counted, balanced-count d n (f .low) r (f .legal))
-
-  cleared-rest : over (replicate b 0) swept ≡ over (replicate b 0) (l .working)
+  -- the cuts are cleared with the rest
+  cleared-rest : over (replicate (workingSize d (countOf r)) 0) swept ≡ over (replicate (workingSize d (countOf r)) 0) (l .working)
   cleared-rest =
-      let m = length-replicate {A = ℕ} b 0 in
-      let e : length {A = ℕ} (replicate b 0) ≡ c + (b - c) = omega (arith, cuts-few) in
+      let b = workingSize d (countOf r) in
+      let few : c ≤ b = omega (
+        arith,
+        g .counted,
+        balanced-count d n (planned-sizes n r d (sizesOf l) p .0) r (planned-list n r d (sizesOf l) p .0),
+      ) in
+      let e : length {A = ℕ} (replicate b 0) ≡ c + (b - c) = omega (arith, length-replicate {A = ℕ} b 0) in
       ap (λ (t : List ℕ). replicate b 0 ++ t)
       (ap (λ (k : ℕ). drop k swept) e ∙ sym (drop-drop (b - c) c swept) ∙ ap (drop (b - c)) (g .rest)
       ∙ drop-drop (b - c) c (l .working) ∙ ap (λ (k : ℕ). drop k (l .working)) (sym e))
 
-  pub filled-tables : (l′ : Lent)
-      → TablesWritten (tablesOf n (withCuts n r (take c swept))) (l .starts) (l .images) (l .holders) (l′ .starts)
+  pub plan-filled : (l′ : Lent) (k : ℕ)
+      → Filled (tablesOf n (balanced d n r)) (workingSize d (countOf r)) (lent (l .starts) (l .images) (l .holders) swept) l′ k
+      → Balances n r d l l′ (Intervals k)
+  unfolding mapDone filled
+  plan-filled l′ k f =
+      let o : balanceOf n r d l ≡ done (tablesOf n (balanced d n r)) = balance-planned n r d l ∙ rw p in
+      record {
+        says = rw o (ap done (f .counted));
+        starts = rw o (f .written .starts-at-exit);
+        images = rw o (f .written .images-at-exit);
+        holders = rw o (f .written .holders-at-exit);
+        working = rw o (f .cleared ∙ cleared-rest);
+      }
+
+-- the intervals are no more than the places, and few enough for the tables
+module _ (n : ℕ) (r : Runs) (d c : ℕ) (l : Lent) (f : Fillable n r d c l) where
+  pub cuts-fit : countOf r + c ≤ n
+  cuts-fit =
+      omega (arith, f .cuts .counted, legal-count n (balanced d n r) (balanced-legal d n (f .low) r (f .legal)))
+
+  pub cuts-few : countOf r + c ≤ tableSize d (countOf r)
+  cuts-few = omega (arith, f .cuts .counted, balanced-count d n (f .low) r (f .legal))
+
+  pub filled-tables : (l′ : Lent) (b : ℕ)
+      → TablesWritten (tablesOf n (withCuts n r (take c (l .working)))) (l .starts) (l .images) (l .holders) (l′ .starts)
       (l′ .images) (l′ .holders)
-      → l′ .working ≡ over (replicate b 0) swept → Filled (tablesOf n (balanced d n r)) b l l′ (countOf r + c)
-  filled-tables l′ w k = record {
-    counted = omega (arith, g .counted);
+      → l′ .working ≡ over (replicate b 0) (l .working) → b ≡ workingSize d (countOf r)
+      → Filled (tablesOf n (balanced d n r)) (workingSize d (countOf r)) l l′ (countOf r + c)
+  filled-tables l′ b w k e = record {
+    counted = omega (arith, f .cuts .counted);
     written = subst (λ (q : Runs). TablesWritten (tablesOf n q) (l .starts) (l .images) (l .holders) (l′ .starts)
-        (l′ .images) (l′ .holders)) (g .list-is) w;
-    cleared = k ∙ cleared-rest;
+        (l′ .images) (l′ .holders)) (f .cuts .list-is) w;
+    cleared = k ∙ ap (λ (m : ℕ). over (replicate m 0) (l .working)) e;
   }

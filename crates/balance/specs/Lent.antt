@@ -1,5 +1,5 @@
 -- Balancing into lent tables: tests 1 to 8, and what stands in each table at exit.
-use Prim.Native.Nat.{ℕ}
+use Prim.Native.Nat.{ℕ, _≤_}
 use mathlib.Core.Path.{_≡_}
 use mathlib.Core.Bool.{Bool, _||_}
 use mathlib.Core.List.{List, [], _∷_, _++_}
@@ -33,8 +33,25 @@ abbrev pub firstOf : ℕ → Lent → Tables
 firstOf k l = tables (take k (l .starts)) (take k (l .images)) (take k (l .holders))
 
 -- 7: d is below 2 or above 64
+abbrev pub noDegree : ℕ → Bool
+noDegree d = ltb d 2 || ltb 64 d
+
 abbrev pub degreeTest : ℕ → Test
-degreeTest d = test 7 (ltb d 2 || ltb 64 d) d
+degreeTest d = test 7 (noDegree d) d
+
+-- how many entries each of the three tables must have for k runs, and how many the working table: B, both of them
+abbrev pub tableSize : ℕ → ℕ → ℕ
+tableSize d k = boundOf d k
+
+abbrev pub workingSize : ℕ → ℕ → ℕ
+workingSize d k = boundOf d k
+
+-- each lent table has at least b entries
+pub record Room (b : ℕ) (l : Lent) : Type 0 where
+  pub starts : b ≤ length (l .starts)
+  pub images : b ≤ length (l .images)
+  pub holders : b ≤ length (l .holders)
+  pub working : b ≤ length (l .working)
 
 -- 8: one of the lent tables has fewer than b entries
 unfoldable pub tooShort : ℕ → Lent → Bool
@@ -44,7 +61,7 @@ tooShort b l =
 
 abbrev pub balanceTests : ℕ → Runs → ℕ → Lent → List Test
 balanceTests n r d l =
-    checkTests n r ++ (degreeTest d ∷ test 8 (tooShort (boundOf d (countOf r)) l) (boundOf d (countOf r)) ∷ [])
+    checkTests n r ++ (degreeTest d ∷ test 8 (tooShort (tableSize d (countOf r)) l) (tableSize d (countOf r)) ∷ [])
 
 unfoldable pub balanceOf : ℕ → Runs → ℕ → Lent → Outcome Tables
 balanceOf n r d l = judge (balanceTests n r d l) (tablesOf n (balanced d n r))
@@ -56,5 +73,5 @@ pub record Balances (n : ℕ) (r : Runs) (d : ℕ) (entry exit : Lent) (answer :
   pub starts : exit .starts ≡ filled (λ t. t .list .starts) (balanceOf n r d entry) (entry .starts)
   pub images : exit .images ≡ filled (λ t. t .list .images) (balanceOf n r d entry) (entry .images)
   pub holders : exit .holders ≡ filled (λ t. t .holders) (balanceOf n r d entry) (entry .holders)
-  pub working : exit .working ≡ filled (λ t. replicate (boundOf d (countOf r)) 0) (balanceOf n r d entry)
+  pub working : exit .working ≡ filled (λ t. replicate (workingSize d (countOf r)) 0) (balanceOf n r d entry)
       (entry .working)

@@ -1,4 +1,4 @@
--- The definition of balancing, what `balance` promises, and what its parts do.
-pub mod Balance
+-- What `balance` promises, and what its parts do: what is decided before anything is written, and the writing.
 pub mod Lent
-pub mod Cuts
+pub mod Plan
+pub mod Parts

@@ -1,6 +1,6 @@
 // Writes the tables of a list after cuts.
-use super::Mark;
-use super::marks;
+use cuts::Mark;
+use cuts::marks;
 ghost use mathlib.Core.Path.{_≡_};
 ghost use mathlib.Core.List.{map};
 ghost use Prim.Native.Nat.{_+_, _≤_};

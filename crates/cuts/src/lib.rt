@@ -13,8 +13,8 @@ ghost use Rattle.cuts.specs.Merged.{Cuttable, BalancingCuts};
 
 // A mark in the list's starts and the cuts, merged: how many of each come before it.
 pub struct Mark {
-    starts: usize,
-    cuts: usize,
+    pub starts: usize,
+    pub cuts: usize,
 }
 
 // A place, and the run that has it.

@@ -6,13 +6,11 @@ use mathlib.Core.Path.{_≡_, sym, ap, _∙_}
 use mathlib.Core.List.{List, [], _∷_, _++_, map}
 use native.Mathlib.Omega.{arith}
 use lib.ListN.{length}
-use borrow.Author.Tests.{le-ltb}
 use Rattle.order.specs.Lists.{All}
-use Rattle.outcomes.specs.Outcome.{done, refused, judge, andThen}
+use Rattle.outcomes.specs.Outcome.{refused}
 use Rattle.runs.specs.Runs.{Runs, countOf, startOf, imageOf, endOf, runAt, carry, mapOf}
 use Rattle.runs.specs.Legal.{Legal}
-use Rattle.runs.specs.Check.{maxRuns, checkTests, checkOf}
-use Rattle.outcomes.proofs.Judging.{judge-append}
+use Rattle.runs.specs.Check.{maxRuns}
 use Rattle.runs.proofs.Accepted.{accepted-legal}
 use Rattle.runs.proofs.Legality.{homes, home, run-at}
 use Rattle.tables.specs.Tables.{tablesOf, maxIntervals}
@@ -21,34 +19,18 @@ use Rattle.bookmarks.specs.Bookmark.{fresh, Marking, markingsOf}
 use Rattle.runs.proofs.Walks.{above-to, walk-bound}
 use Rattle.tables.proofs.LegalTables.{legal-find-beyond}
 use Rattle.tables.specs.Move.{findOf}
-use Rattle.cuts.specs.Balance.{balanced, boundOf}
-use Rattle.balance.specs.Lent.{Lent, balanceOf, tooShort}
+use Rattle.cuts.specs.Balance.{balanced}
 use Rattle.balance.proofs.Heads.{answer-is, head-is}
+use Rattle.balance.proofs.Outcomes.{balance-done}
 use Rattle.cuts.proofs.Balancing.{balanced-legal, balanced-map, balanced-light, balanced-count}
 use Rattle.demands.specs.Calls.{Call, total, countIn, Bounded}
 use Rattle.demands.specs.PlainWalk.{plainMove, plainMoves, walkCounts, plainTrail}
 use Rattle.demands.specs.Served.{served, servedTrail}
-use Rattle.demands.specs.Demands.{Through, Roomy, Serves, Demand3}
+use Rattle.demands.specs.Demands.{Through, Serves, Demand3}
 use Rattle.demands.proofs.Demand2.{balanced-few, through-balanced}
 use Rattle.demands.proofs.Serving.{same-replies}
 use Rattle.demands.proofs.Counting.{counts-length, counts-sum, counts-most, all-most}
 use Rattle.demands.proofs.Marking.{fresh-stands, same-trail, trail-bounds, end-bounds, advance-bounds, advancing-served, trail-last}
-
--- balancing an accepted list into roomy tables is not refused
-balance-done : (n : ℕ) (r : Runs) (d : ℕ) (l : Lent) → checkOf n r ≡ done tt → 2 ≤ d → d ≤ 64 → Roomy (boundOf d (countOf r)) l
-    → balanceOf n r d l ≡ done (tablesOf n (balanced d n r))
-unfolding balanceOf checkOf tooShort judge andThen
-balance-done n r d l a many few m =
-    judge-append {A = Unit {0}} (checkTests n r) _ tt (tablesOf n (balanced d n r))
-    ∙ rw a
-    (simp (
-      le-ltb d 2 many,
-      le-ltb 64 d few,
-      le-ltb _ _ (m .starts),
-      le-ltb _ _ (m .images),
-      le-ltb _ _ (m .holders),
-      le-ltb _ _ (m .working),
-    ))
 
 -- no move of a walk over a light list passes 2d starts
 move-most : (n d : ℕ) (r t : Runs) → Legal n t → ((p : ℕ) → p < n → mapOf n t p ≡ mapOf n r p)

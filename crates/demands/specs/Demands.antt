@@ -22,7 +22,7 @@ use Rattle.bookmarks.specs.Bookmark.{bookmarkTests, bookmarkOf, fresh, Advances
 use Rattle.bookmarks.specs.declared.Bookmark.{Bookmark}
 use Rattle.bookmarks.specs.declared.Marked.{Marked}
 use Rattle.cuts.specs.Balance.{balanced, boundOf}
-use Rattle.balance.specs.Lent.{Lent, firstOf, balancedSays, balanceTests, balanceOf, Balances}
+use Rattle.balance.specs.Lent.{Lent, Room, firstOf, balancedSays, balanceTests, balanceOf, Balances}
 use Rattle.balance.specs.declared.Balanced.{Balanced}
 use Rattle.listfile.specs.File.{fileTests, headerOf, fileOf}
 use Rattle.demands.specs.Judged.{Judged}
@@ -104,13 +104,6 @@ pub record Demand2 : Type 0 where
 -- and leaves the same permutation. Any list of calls through the filled entries, refused ones included, is answered as the
 -- plain walk answers it, each move passing at most 2d − 1 starts; and so for the moves of one bookmark.
 
--- each lent table has at least b entries
-pub record Roomy (b : ℕ) (l : Lent) : Type 0 where
-  pub starts : b ≤ length (l .starts)
-  pub images : b ≤ length (l .images)
-  pub holders : b ≤ length (l .holders)
-  pub working : b ≤ length (l .working)
-
 -- The tables τ serve, at degree d, the plain walk over the list r and the balanced list t, from any place p and the
 -- interval of t that has it.
 pub record Serves (n : ℕ) (r t : Runs) (d : ℕ) (τ : Tables) : Type 0 where
@@ -140,5 +133,5 @@ abbrev pub Demand3 : Type 0
 Demand3 =
     (n : ℕ) (r : Runs) (d : ℕ) (entry exit : Lent) (answer : Balanced)
     → Balances n r d entry exit answer
-    → checkOf n r ≡ done tt → 2 ≤ d → d ≤ 64 → Roomy (boundOf d (countOf r)) entry
+    → checkOf n r ≡ done tt → 2 ≤ d → d ≤ 64 → Room (boundOf d (countOf r)) entry
     → (k : ℕ) × (balancedSays answer ≡ done k) × (k ≤ boundOf d (countOf r)) × Serves n r (balanced d n r) d (firstOf k exit)

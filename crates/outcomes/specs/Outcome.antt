@@ -38,8 +38,11 @@ unfoldable pub andThen : {A B : Type 0} → Outcome A → (A → Outcome B) → 
 andThen (done a) f = f a
 andThen (refused k p) f = refused k p
 
--- What a lent table holds after a call that writes l to its first entries: the entries beyond those stay, and after a
--- refusal all of them.
+-- a table with l over its first entries: the entries beyond those stay
+abbrev pub over : List ℕ → List ℕ → List ℕ
+over l table = l ++ drop (length l) table
+
+-- What a lent table holds after a call that writes l to its first entries: after a refusal all of them stay.
 unfoldable pub filled : {A : Type 0} → (A → List ℕ) → Outcome A → List ℕ → List ℕ
-filled l (done a) table = l a ++ drop (length (l a)) table
+filled l (done a) table = over (l a) table
 filled l (refused k p) table = table

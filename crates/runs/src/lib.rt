@@ -22,14 +22,14 @@ ghost use Rattle.runs.specs.Parts.{Roomy, CheckedInto, butForRoom};
 pub const MAX_RUNS: usize = 16384;
 
 // Lists of so few runs get smaller tables to work in: clearing larger ones would take longer than their check.
-const FEW_RUNS: usize = 64;
+pub const FEW_RUNS: usize = 64;
 
 // The same for lists between short and long ones.
 pub const SOME_RUNS: usize = 1024;
 
 // Tests 1 to 6. `order` is room for the order of the runs by image, and holds it if the list is accepted; `spare` is
-// room to work in.
-fn check_into(
+// room to work in. For crates of our own, which lend that room.
+pub fn check_order(
     n: u32,
     starts: &[u32],
     images: &[u32],
@@ -88,7 +88,7 @@ pub fn check(n: u32, starts: &[u32], images: &[u32]) -> Checked
     if starts.len() <= FEW_RUNS {
         let mut order: [u32; FEW_RUNS] = [0; FEW_RUNS];
         let mut spare: [u32; FEW_RUNS] = [0; FEW_RUNS];
-        return check_into(n, starts, images, &mut order, &mut spare);
+        return check_order(n, starts, images, &mut order, &mut spare);
     }
     but_for_room(inverse_list(n, starts, images, &mut [], &mut []))
 }
@@ -107,7 +107,7 @@ fn invert_into(
     ensures { λ r. ⌜ InverseListed n (runs (now (starts .entry)) (now (images .entry)))
         (now («to_starts» .entry)) (now («to_images» .entry)) (now («to_starts» .exit)) (now («to_images» .exit)) r ⌝ }
 {
-    let checked = check_into(n, starts, images, order, spare);
+    let checked = check_order(n, starts, images, order, spare);
     match checked {
         Checked::Refused(refusal) => Checked::Refused(refusal),
         Checked::Accepted => inverse::write(starts, images, order, to_starts, to_images),

@@ -1,9 +1,7 @@
 -- `fill_tables` meets its contract: the list after the balancing cuts is the balanced list.
 use borrow.Author.Needs.{needs}
-use Prim.Native.Nat.{_+_, _≤_}
 use mathlib.Core.Path.{sym}
 use native.Mathlib.Omega.{arith}
-use lib.ListN.{length}
 use lib.Seq.{length-take-le}
 use Rattle.runs.specs.Runs.{Runs, runs}
 use Rattle.balance.specs.Lent.{Lent, lent}
@@ -11,73 +9,58 @@ use Rattle.balance.proofs.Outcomes.{cuts-few, cuts-fit, filled-tables}
 use Rattle.balance.proofs.fill_tables.Statement.{statement}
 use Rattle.balance.proofs.fill_tables.Tie as tie
 
-abbrev listOf : tie.Start → Runs
-listOf a = runs (a .args .starts .now) (a .args .images .now)
+-- the places: the call, after the tables are written, and after the working table is cleared
+abbrev start : tie.After-slice-known4 → tie.Start
+start c = c .before .before .before .before .before .before
 
-abbrev lentOf : tie.Start → Lent
-lentOf a = lent (a .args .to-starts .now) (a .args .to-images .now) (a .args .to-holders .now) (a .args .working .now)
+abbrev begun : tie.After-write-tables-arg4 → tie.Start
+begun c = start (c .before .before .before .before)
 
-balancing-cuts-requires : tie.Need-balancing-cuts-requires
-balancing-cuts-requires c κs = search needs
+abbrev written : tie.After-bound-of → tie.After-write-tables
+written c = c .before .before .before .before .before .before .before .before
+
+abbrev cleared : tie.After-slice-known8 → tie.After-clear
+cleared c = c .before .before
+
+abbrev ended : tie.After-slice-known8 → tie.Start
+ended c = begun (written (cleared c .before) .before)
+
+abbrev list-of : tie.Start → Runs
+list-of a = runs (a .args .starts .now) (a .args .images .now)
+
+abbrev lent-of : tie.Start → Lent
+lent-of a = lent (a .args .to-starts .now) (a .args .to-images .now) (a .args .to-holders .now) (a .args .working .now)
 
 slice-reshare-prefix-write-tables : tie.Need-slice-reshare-prefix-write-tables
 slice-reshare-prefix-write-tables c = search needs
 
--- the intervals are few enough for the tables, and for 32 bits
-few : (c : tie.After-balancing-cuts)
-    → length (c .before .before .before .before .before .before .before .before .args .starts .now) + c
-    .balancing-cuts .result ≤ c .before .before .before .before .before .before .before .before .args .b
-few c = cuts-few _ (listOf (c .before .before .before .before .before .before .before .before)) _ _
-    (lentOf (c .before .before .before .before .before .before .before .before))
-    (c .before .before .before .before .before .before .before .before .pre) _ _ (c .balancing-cuts .ensures)
-
-fit : (c : tie.After-balancing-cuts)
-    → length (c .before .before .before .before .before .before .before .before .args .starts .now) + c
-    .balancing-cuts .result ≤ c .before .before .before .before .before .before .before .before .args .n
-fit c = cuts-fit _ (listOf (c .before .before .before .before .before .before .before .before)) _ _
-    (lentOf (c .before .before .before .before .before .before .before .before))
-    (c .before .before .before .before .before .before .before .before .pre) _ _ (c .balancing-cuts .ensures)
-
 slice-aggregate-write-tables : tie.Need-slice-aggregate-write-tables
-slice-aggregate-write-tables c = let k = c .before .before .before .balancing-cuts in
-    sym (length-take-le (k .result) (k .last .1 .1 .1 .1 .0) (k .ensures .fits))
+slice-aggregate-write-tables c = let a = start (c .before) in
+    sym (length-take-le (a .args .cuts) (a .args .working .now) (a .pre .cuts .fits))
 
 write-tables-requires : tie.Need-write-tables-requires
 write-tables-requires c κs =
-    let a = c .before .before .before .before .before .before .before .before .before .before .before .before .before
-    .before in
-    let k = c .before .before .before .before .before .before .balancing-cuts in
-    let e = length-take-le (k .result) (k .last .1 .1 .1 .1 .0) (k .ensures .fits) in
-    let f = few (c .before .before .before .before .before .before) in (
+    let a = begun c in
+    let e = length-take-le (a .args .cuts) (a .args .working .now) (a .pre .cuts .fits) in
+    let f = cuts-few _ (list-of a) _ _ (lent-of a) (a .pre) in (
       a .pre .legal,
-      k .ensures .starts,
-      omega (arith, a .pre .starts-room),
-      omega (arith, a .pre .images-room),
-      omega (arith, a .pre .holders-room),
+      a .pre .cuts .starts,
+      omega (arith, a .pre .room .starts),
+      omega (arith, a .pre .room .images),
+      omega (arith, a .pre .room .holders),
     )
 
+bound-of-requires : tie.Need-bound-of-requires
+bound-of-requires c κs = search needs
+
 clear-requires : tie.Need-clear-requires
-clear-requires c κs = omega (
-  arith,
-  c .before .before .before .before .before .before .before .before .before .before .before .before .before .before
-      .before .before .before .before .before .before .before .before .pre .working-room,
-  c .before .before .before .before .before .before .before .before .before .before .before .before .before .before
-      .balancing-cuts .kept .1 .1 .1 .1 .0,
-)
+clear-requires c κs = search needs
 
 add-result : tie.Need-add-result
-add-result c = omega (
-  arith,
-  fit (c .before .before .before .before .before .before .before .before .before .before .before .before .before
-      .before .before .before .before),
-)
+add-result c = search needs
 
 cast-result : tie.Need-cast-result
-cast-result c = omega (
-  arith,
-  fit (c .before .before .before .before .before .before .before .before .before .before .before .before .before
-      .before .before .before .before),
-)
+cast-result c = let a = ended c in omega (arith, cuts-fit _ (list-of a) _ _ (lent-of a) (a .pre), a .fits .n)
 
 same-length : tie.Need-same-length
 same-length c = search needs
@@ -92,26 +75,20 @@ same-length-4 : tie.Need-same-length-4
 same-length-4 c = search needs
 
 returns : tie.Need-returns
-returns c = filled-tables _
-    (listOf (c .before .before .before .before .before .before .before .before .before .before .before .before .before
-    .before .before .before .before .before .before .before .before .before .before .before .before)) _ _
-    (lentOf (c .before .before .before .before .before .before .before .before .before .before .before .before .before
-    .before .before .before .before .before .before .before .before .before .before .before .before))
-    (c .before .before .before .before .before .before .before .before .before .before .before .before .before .before
-    .before .before .before .before .before .before .before .before .before .before .before .pre) _ _
-    (c .before .before .before .before .before .before .before .before .before .before .before .before .before .before
-    .before .before .before .balancing-cuts .ensures) _
-    (c .before .before .before .before .before .before .before .before .before .before .write-tables .ensures)
-    (c .before .before .clear .ensures)
+returns c =
+    let a = ended c in
+    let k = cleared c in
+    filled-tables _ (list-of a) _ _ (lent-of a) (a .pre) _ _ (written (k .before) .write-tables .ensures)
+    (k .clear .ensures) (k .before .bound-of .ensures .0)
 
 pub fill-tables-spec : {M : Type 1} → statement M
 fill-tables-spec =
     tie.close
     (tie.spec
-    balancing-cuts-requires
     slice-reshare-prefix-write-tables
     slice-aggregate-write-tables
     write-tables-requires
+    bound-of-requires
     clear-requires
     add-result
     cast-result

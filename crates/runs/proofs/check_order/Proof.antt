@@ -1,4 +1,4 @@
--- `check_into` meets its contract: one law for each way to return, from what the tests before it show.
+-- `check_order` meets its contract: one law for each way to return, from what the tests before it show.
 use mathlib.Core.Path.{_≡_, sym, _∙_}
 use mathlib.Core.Bool.{false}
 use native.Mathlib.Omega.{arith}
@@ -6,8 +6,8 @@ use borrow.Author.Needs.{needs}
 use Rattle.runs.specs.Runs.{Runs, runs}
 use Rattle.runs.specs.Check.{unmatched}
 use Rattle.runs.proofs.Checking.{refused-into, Begun, Rising, Within, matched, lasting, check-unmatched, check-too-many, check-first-start, check-unordered, check-out-of-range, check-overlap, check-accepts}
-use Rattle.runs.proofs.check_into.Statement.{statement}
-use Rattle.runs.proofs.check_into.Tie as tie
+use Rattle.runs.proofs.check_order.Statement.{statement}
+use Rattle.runs.proofs.check_order.Tie as tie
 
 -- the call that a test belongs to, and the list that it is about
 abbrev start₁ : tie.Else1 → tie.Start
@@ -117,8 +117,8 @@ returns-7 c =
       ordered = λ e. o .first-overlap .ensures .ordered;
     }
 
-pub check-into-spec : {M : Type 1} → statement M
-check-into-spec =
+pub check-order-spec : {M : Type 1} → statement M
+check-order-spec =
     tie.close
     (tie.spec
     is-unmatched-requires

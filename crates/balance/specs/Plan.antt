@@ -1,0 +1,55 @@
+-- Balancing before anything is written to the tables: its tests, told by the lengths of what is lent, and the cuts.
+use Prim.Native.Nat.{ℕ, _≤_}
+use mathlib.Core.Path.{_≡_}
+use mathlib.Core.Bool.{Bool, _||_}
+use mathlib.Core.List.{List, [], _∷_}
+use lib.ListN.{length}
+use lib.Dec.{ltb}
+use Rattle.outcomes.specs.Outcome.{Outcome, done, Test, test, judge, andThen}
+use Rattle.outcomes.specs.Refusal.{refusalSays, checkedSays}
+use Rattle.outcomes.specs.declared.Checked.{Checked}
+use Rattle.runs.specs.Check.{checkOf}
+use Rattle.runs.specs.Parts.{Roomy, Ordered}
+use Rattle.runs.specs.Runs.{Runs, countOf}
+use Rattle.cuts.specs.Merged.{BalancingCuts}
+use Rattle.balance.specs.Lent.{Lent, degreeTest, tableSize}
+use Rattle.balance.specs.declared.Planned.{Planned}
+use Rattle.balance.specs.declared.Planned.the-variants.{Cuts, Refused}
+use Rattle.balance.specs.declared.Sizes.{Sizes}
+
+-- the lengths of what is lent
+abbrev pub sizesOf : Lent → Sizes
+sizesOf l = record {
+  starts = length (l .starts);
+  images = length (l .images);
+  holders = length (l .holders);
+  working = length (l .working);
+}
+
+-- 8: one of them is below b
+abbrev pub shortSizes : ℕ → Sizes → Bool
+shortSizes b s = ltb (s .starts) b || (ltb (s .images) b || (ltb (s .holders) b || ltb (s .working) b))
+
+-- tests 7 and 8 of a list of k runs
+unfoldable pub sizedOf : ℕ → ℕ → Sizes → Outcome (Unit {0})
+sizedOf d k s = judge (degreeTest d ∷ test 8 (shortSizes (tableSize d k) s) (tableSize d k) ∷ []) tt
+
+-- tests 1 to 8
+unfoldable pub plannedOf : ℕ → Runs → ℕ → Sizes → Outcome (Unit {0})
+plannedOf n r d s = andThen (checkOf n r) (λ _. sizedOf d (countOf r) s)
+
+-- the answer of these tests, and the order by image of a list that passes them
+pub record Decided (n : ℕ) (r : Runs) (d : ℕ) (s : Sizes) (order : List ℕ) (answer : Checked) : Type 0 where
+  pub says : checkedSays answer ≡ plannedOf n r d s
+  pub ordered : plannedOf n r d s ≡ done tt → Ordered r order
+
+-- what planning asks: room for the order, and the length of the working table
+pub record Plannable (starts : List ℕ) (s : Sizes) (order spare working : List ℕ) : Type 0 where
+  pub in-order : Roomy starts order
+  pub in-spare : Roomy starts spare
+  pub working-is : s .working ≡ length working
+
+-- what it comes to: the cuts stand in the working table, or a test applies and that table is as it was
+abbrev pub Plans : ℕ → Runs → ℕ → Sizes → List ℕ → List ℕ → Planned → Type 0
+Plans n r d s entry exit (Cuts c) = (plannedOf n r d s ≡ done tt) × BalancingCuts d n r entry exit c
+Plans n r d s entry exit (Refused x) = (plannedOf n r d s ≡ refusalSays x) × (exit ≡ entry)
