@@ -74,7 +74,8 @@ fn fill_tables(
         to_images,
         to_holders,
     );
-    fill::clear(working, plan::bound_of(d, starts.len()));
+    let b = plan::bound_of(d, starts.len());
+    fill::clear(working, b);
     (starts.len() + cuts) as u32
 }
 

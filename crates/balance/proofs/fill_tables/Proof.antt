@@ -17,13 +17,13 @@ abbrev begun : tie.After-write-tables-arg4 → tie.Start
 begun c = start (c .before .before .before .before)
 
 abbrev written : tie.After-bound-of → tie.After-write-tables
-written c = c .before .before .before .before .before .before .before .before
+written c = c .before .before .before .before .before .before .before
 
 abbrev cleared : tie.After-slice-known8 → tie.After-clear
 cleared c = c .before .before
 
 abbrev ended : tie.After-slice-known8 → tie.Start
-ended c = begun (written (cleared c .before) .before)
+ended c = begun (written (cleared c .before .before) .before)
 
 abbrev list-of : tie.Start → Runs
 list-of a = runs (a .args .starts .now) (a .args .images .now)
@@ -78,8 +78,8 @@ returns : tie.Need-returns
 returns c =
     let a = ended c in
     let k = cleared c in
-    filled-tables _ (list-of a) _ _ (lent-of a) (a .pre) _ _ (written (k .before) .write-tables .ensures)
-    (k .clear .ensures) (k .before .bound-of .ensures .0)
+    filled-tables _ (list-of a) _ _ (lent-of a) (a .pre) _ _ (written (k .before .before) .write-tables .ensures)
+    (k .clear .ensures) (k .before .before .bound-of .ensures .0)
 
 pub fill-tables-spec : {M : Type 1} → statement M
 fill-tables-spec =

@@ -29,95 +29,103 @@ listOf a = runs (a .args .starts .now) (a .args .images .now)
 abbrev mergedOf : tie.Start Inv-loop μ-loop → List ℕ
 mergedOf a = merged (a .args .starts .now) (a .args .cuts .now)
 
+-- the places: the call of a turn, and from a turn's last calls back to it
+abbrev start : tie.At-loop Inv-loop μ-loop → tie.Start Inv-loop μ-loop
+start c = c .before .before .before .before .before .before
+
+abbrev turn : tie.After-next-mark Inv-loop μ-loop → tie.At-loop Inv-loop μ-loop
+turn c = c .before .before .before
+
+abbrev begun : tie.After-next-mark Inv-loop μ-loop → tie.Start Inv-loop μ-loop
+begun c = start (turn c)
+
 loop-holds : tie.Need-loop-holds Inv-loop μ-loop
-loop-holds c = let e = merged-length (c .before .before .before .before .before .args .starts .now)
-    (c .before .before .before .before .before .args .cuts .now) in
-    writing-start _ (listOf (c .before .before .before .before .before)) _ _ _
-    (c .before .before .before .before .before .pre .1)
-    (omega (arith, c .before .before .before .before .before .pre .2))
-    (omega (arith, c .before .before .before .before .before .pre .3))
+loop-holds c =
+    let a = c .before .before .before .before .before in
+    let e = merged-length (a .args .starts .now) (a .args .cuts .now) in
+    writing-start _ (listOf a) _ _ _ (a .pre .1) (omega (arith, a .pre .2)) (omega (arith, a .pre .3))
 
 add-loop : tie.Need-add-loop Inv-loop μ-loop
 add-loop c = omega (
   arith,
-  c .before .before .before .before .before .before .pre .2,
-  c .before .before .before .before .before .before .good,
+  start c .pre .2,
+  start c .good,
 )
 
 -- the tables are as long as they were
-kept : (c : tie.At-loop Inv-loop μ-loop) → let a = c .before .before .before .before .before .before .args in
+kept : (c : tie.At-loop Inv-loop μ-loop) → let a = start c .args in
     (length (c .loop .to-starts) ≡ length (a .to-starts .now))
     × (length (c .loop .to-images) ≡ length (a .to-images .now))
-kept c = writing-kept _ (listOf (c .before .before .before .before .before .before)) _ _ _
-    (c .before .before .before .before .before .before .pre .1) _ _ _ _ (c .loop .inv)
+kept c = writing-kept _ (listOf (start c)) _ _ _
+    (start c .pre .1) _ _ _ _ (c .loop .inv)
 
 -- an entry is left
 some : (c : tie.In-loop Inv-loop μ-loop)
-    → c .before .loop .m < length (mergedOf (c .before .before .before .before .before .before .before))
+    → c .before .loop .m < length (mergedOf (start (c .before)))
 some c = omega (
   arith,
   c .loop-test .taken,
-  merged-length (c .before .before .before .before .before .before .before .args .starts .now)
-      (c .before .before .before .before .before .before .before .args .cuts .now),
+  merged-length (start (c .before) .args .starts .now)
+      (start (c .before) .args .cuts .now),
 )
 
 entry-at-requires : tie.Need-entry-at-requires Inv-loop μ-loop
 entry-at-requires c κs = (
-  c .before .before .before .before .before .before .before .pre .1,
-  at-own _ _ _ (c .before .before .before .before .before .before .before .pre .1) _ _ (c .before .loop .inv .at),
+  start (c .before) .pre .1,
+  at-own _ _ _ (start (c .before) .pre .1) _ _ (c .before .loop .inv .at),
 )
 
 next-mark-requires : tie.Need-next-mark-requires Inv-loop μ-loop
 next-mark-requires c κs = let a = c .before .before .loop .inv .at in (
-  c .before .before .before .before .before .before .before .before .pre .1,
-  at-own _ _ _ (c .before .before .before .before .before .before .before .before .pre .1) _ _ a,
+  start (c .before .before) .pre .1,
+  at-own _ _ _ (start (c .before .before) .pre .1) _ _ a,
   omega (
     arith,
     some (c .before),
-    at-sum _ _ _ (c .before .before .before .before .before .before .before .before .pre .1) _ _ a,
+    at-sum _ _ _ (start (c .before .before) .pre .1) _ _ a,
   ),
 )
 
 -- the entry that is written, the mark after it, and the run that has it
 entry : (c : tie.After-entry-at Inv-loop μ-loop)
-    → c .entry-at .result ≡ getD (mergedOf (c .before .before .before .before .before .before .before .before))
+    → c .entry-at .result ≡ getD (mergedOf (start (c .before .before)))
     (c .before .before .loop .m) 0
 entry c =
     c .entry-at .ensures ∙ ap
-    (λ (k : ℕ). getD (mergedOf (c .before .before .before .before .before .before .before .before)) k
-    (c .before .before .before .before .before .before .before .before .args .n))
-    (at-sum _ _ _ (c .before .before .before .before .before .before .before .before .pre .1) _ _
+    (λ (k : ℕ). getD (mergedOf (start (c .before .before))) k
+    (start (c .before .before) .args .n))
+    (at-sum _ _ _ (start (c .before .before) .pre .1) _ _
     (c .before .before .loop .inv .at))
-    ∙ getD-default (mergedOf (c .before .before .before .before .before .before .before .before))
-    (c .before .before .loop .m) (c .before .before .before .before .before .before .before .before .args .n) 0
+    ∙ getD-default (mergedOf (start (c .before .before)))
+    (c .before .before .loop .m) (start (c .before .before) .args .n) 0
     (some (c .before))
 
 passed : (c : tie.After-next-mark Inv-loop μ-loop)
-    → At (c .before .before .before .before .before .before .before .before .before .args .n)
-    (c .before .before .before .before .before .before .before .before .before .args .starts .now)
-    (c .before .before .before .before .before .before .before .before .before .args .cuts .now)
-    (c .next-mark .result) (c .before .before .before .loop .m + 1)
-passed c = let s = at-sum _ _ _ (c .before .before .before .before .before .before .before .before .before .pre .1) _
-    _ (c .before .before .before .loop .inv .at) in rw s at (c .next-mark .ensures)
+    → At (begun c .args .n)
+    (begun c .args .starts .now)
+    (begun c .args .cuts .now)
+    (c .next-mark .result) (turn c .loop .m + 1)
+passed c = let s = at-sum _ _ _ (begun c .pre .1) _
+    _ (turn c .loop .inv .at) in rw s at (c .next-mark .ensures)
 
 had : (c : tie.After-next-mark Inv-loop μ-loop) → let k = c .next-mark .result .starts in
-    (0 < k) × Has (c .before .before .before .before .before .before .before .before .before .args .n)
-    (c .before .before .before .before .before .before .before .before .before .args .starts .now) (k - 1)
+    (0 < k) × Has (begun c .args .n)
+    (begun c .args .starts .now) (k - 1)
     (c .before .entry-at .result)
 had c =
-    let a = c .before .before .before .before .before .before .before .before .before .args in
-    has-passed (a .n) (listOf (c .before .before .before .before .before .before .before .before .before))
+    let a = begun c .args in
+    has-passed (a .n) (listOf (begun c))
     (a .cuts .now) (a .to-starts .now) (a .to-images .now)
-    (c .before .before .before .before .before .before .before .before .before .pre .1)
-    (c .before .before .before .before .before .before .before .before .before .pre .0) _ _ _ (passed c)
+    (begun c .pre .1)
+    (begun c .pre .0) _ _ _ (passed c)
     (some (c .before .before)) (entry (c .before))
 
 mul-to-starts : tie.Need-mul-to-starts Inv-loop μ-loop
 mul-to-starts c = omega (
   arith,
   some (c .before .before),
-  c .before .before .before .before .before .before .before .before .before .pre .2,
-  c .before .before .before .before .before .before .before .before .before .good,
+  begun c .pre .2,
+  begun c .good,
 )
 
 slice-write-to-starts : tie.Need-slice-write-to-starts Inv-loop μ-loop
@@ -125,8 +133,8 @@ slice-write-to-starts c =
     omega (
       arith,
       some (c .before .before),
-      c .before .before .before .before .before .before .before .before .before .pre .2,
-      kept (c .before .before .before) .0,
+      begun c .pre .2,
+      kept (turn c) .0,
     )
 
 sub-image-of : tie.Need-sub-image-of Inv-loop μ-loop
@@ -134,7 +142,7 @@ sub-image-of c = omega (arith, had (c .before) .0)
 
 image-of-requires : tie.Need-image-of-requires Inv-loop μ-loop
 image-of-requires c κs = (
-  c .before .before .before .before .before .before .before .before .before .before .pre .0,
+  begun (c .before) .pre .0,
   had (c .before) .1,
 )
 
@@ -142,24 +150,24 @@ mul-to-images : tie.Need-mul-to-images Inv-loop μ-loop
 mul-to-images c = omega (
   arith,
   some (c .before .before .before .before),
-  c .before .before .before .before .before .before .before .before .before .before .before .pre .3,
-  c .before .before .before .before .before .before .before .before .before .before .before .good,
+  begun (c .before .before) .pre .3,
+  begun (c .before .before) .good,
 )
 
 slice-write-to-images : tie.Need-slice-write-to-images Inv-loop μ-loop
 slice-write-to-images c = omega (
   arith,
   some (c .before .before .before .before),
-  c .before .before .before .before .before .before .before .before .before .before .before .pre .3,
-  kept (c .before .before .before .before .before) .1,
+  begun (c .before .before) .pre .3,
+  kept (turn (c .before .before)) .1,
 )
 
 add-m : tie.Need-add-m Inv-loop μ-loop
 add-m c = omega (
   arith,
   c .before .before .before .before .loop-test .taken,
-  c .before .before .before .before .before .before .before .before .before .before .before .pre .2,
-  c .before .before .before .before .before .before .before .before .before .before .before .good,
+  begun (c .before .before) .pre .2,
+  begun (c .before .before) .good,
 )
 
 loop-less : tie.Need-loop-less Inv-loop μ-loop
@@ -167,9 +175,9 @@ loop-less c = omega arith
 
 loop-again : tie.Need-loop-again Inv-loop μ-loop
 loop-again c = writing-next _
-    (listOf (c .before .before .before .before .before .before .before .before .before .before .before)) _ _ _
-    (c .before .before .before .before .before .before .before .before .before .before .before .pre .1) _ _ _ _
-    (c .before .before .before .before .before .loop .inv) _ _ _ (some (c .before .before .before .before))
+    (listOf (begun (c .before .before))) _ _ _
+    (begun (c .before .before) .pre .1) _ _ _ _
+    (turn (c .before .before) .loop .inv) _ _ _ (some (c .before .before .before .before))
     (passed (c .before .before)) (entry (c .before .before .before)) (c .image-of .ensures)
 
 same-length : tie.Need-same-length Inv-loop μ-loop
@@ -179,13 +187,13 @@ same-length-2 : tie.Need-same-length-2 Inv-loop μ-loop
 same-length-2 c = kept (c .before) .1
 
 returns : tie.Need-returns Inv-loop μ-loop
-returns c = writing-end _ (listOf (c .before .before .before .before .before .before .before)) _ _ _
-    (c .before .before .before .before .before .before .before .pre .1) _ _ _ _ (c .before .loop .inv)
+returns c = writing-end _ (listOf (start (c .before))) _ _ _
+    (start (c .before) .pre .1) _ _ _ _ (c .before .loop .inv)
     (omega (
       arith,
       c .loop-test .left,
-      merged-length (c .before .before .before .before .before .before .before .args .starts .now)
-          (c .before .before .before .before .before .before .before .args .cuts .now),
+      merged-length (start (c .before) .args .starts .now)
+          (start (c .before) .args .cuts .now),
     ))
 
 pub write-list-spec : {M : Type 1} → statement M
