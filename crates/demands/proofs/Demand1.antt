@@ -19,7 +19,7 @@ use Rattle.tables.proofs.Moves.{moves-order}
 use Rattle.bookmarks.proofs.Marks.{bookmark-kept}
 use Rattle.balance.specs.Lent.{Lent, balancedSays, balanceOf, Balances}
 use Rattle.balance.specs.declared.Balanced.{Balanced}
-use Rattle.listfile.specs.File.{countTests, layoutTests, headerTests, bodyTests, fileTests}
+use Rattle.files.specs.File.{countTests, layoutTests, headerTests, bodyTests, fileTests}
 use Rattle.demands.specs.Demands.{NoneOf, RefusedBy, Demand1}
 
 -- the first test decides, or the others do

@@ -25,7 +25,7 @@ use Rattle.bookmarks.specs.declared.Marked.{Marked}
 use Rattle.balance.specs.Balance.{balanced, boundOf}
 use Rattle.balance.specs.Lent.{Lent, firstOf, balancedSays, balanceTests, Balances}
 use Rattle.balance.specs.declared.Balanced.{Balanced}
-use Rattle.listfile.specs.File.{fileTests}
+use Rattle.files.specs.File.{fileTests}
 use Rattle.demands.specs.Calls.{Call, allMoves, allCounts}
 use Rattle.demands.specs.PlainWalk.{plainMove, plainMoves, plainWalk, walkCounts, plainTrail}
 use Rattle.demands.specs.Served.{served, servedTrail, Advancing}
