@@ -2,3 +2,4 @@
 pub mod Reading
 pub mod Heading
 pub mod Bodies
+pub mod Accepted
