@@ -2,7 +2,8 @@
 use Prim.Native.Nat.{ℕ, _+_, _*_, _≤_, _<_}
 use mathlib.Core.Path.{_≡_, refl, sym, ap, _∙_}
 use mathlib.Core.Bool.{true, false}
-use mathlib.Core.List.{List, []}
+use mathlib.Core.Logic.{_≢_}
+use mathlib.Core.List.{List, [], _++_}
 use native.Mathlib.Omega.{arith}
 use lib.ListN.{length}
 use lib.Dec.{eqb}
@@ -13,7 +14,7 @@ use Rattle.runs.proofs.Judging.{judge-append, judge-first, judge-done}
 use Rattle.files.specs.Words.{wordOf, headerOf}
 use Rattle.files.specs.File.{countTests, layoutTests, headerTests}
 use Rattle.files.specs.Right.{RightHeader}
-use Rattle.files.specs.Parts.{layoutOf, headingOf, Laid}
+use Rattle.files.specs.Parts.{layoutOf, numbersOf, headingOf, Laid}
 use Rattle.files.specs.declared.Header.{Header}
 
 -- where the starts and the images stand
@@ -42,47 +43,47 @@ module _ (k : ℕ) (bytes : List ℕ) where
       unfolding layoutOf layoutTests judge
       layout-right h = rw (starts-at, images-at, eq-eqb (length bytes) (20 + 8 * k) h)
 
--- the header's numbers
+-- the numbers that the header says, and then where the list stands
+module _ (most n k : ℕ) (bytes : List ℕ) where
+  pub numbers-no-places : n ≡ 0 → refused 1 0 ≡ numbersOf most n k bytes
+  unfolding numbersOf judge
+  numbers-no-places h = simp (eq-eqb n 0 h)
+
+  module _ (a : n ≢ 0) where
+    pub numbers-no-runs : k ≡ 0 → refused 1 0 ≡ numbersOf most n k bytes
+    unfolding numbersOf judge
+    numbers-no-runs h = simp (ne-eqb n 0 a, eq-eqb k 0 h)
+
+    module _ (b : k ≢ 0) where
+      pub numbers-many : most < k → refused 2 0 ≡ numbersOf most n k bytes
+      unfolding numbersOf judge
+      numbers-many h = simp (ne-eqb n 0 a, ne-eqb k 0 b, lt-ltb _ _ h)
+
+      pub numbers-few : k ≤ most → layoutOf k bytes ≡ numbersOf most n k bytes
+      unfolding numbersOf layoutOf judge
+      numbers-few h = simp (ne-eqb n 0 a, ne-eqb k 0 b, le-ltb _ _ h)
+
+-- the whole header
 module _ (most : ℕ) (bytes : List ℕ) where
   pub heading-short : length bytes < 20 → refused 15 0 ≡ headingOf most bytes
   unfolding headingOf headerTests countTests judge
   heading-short h = simp (lt-ltb _ _ h)
 
-  module _ (l : 20 ≤ length bytes) (n : ℕ) (e : n ≡ wordOf bytes 0) where
-    pub heading-no-places : n ≡ 0 → refused 1 0 ≡ headingOf most bytes
-    unfolding headingOf headerTests countTests judge
-    heading-no-places h = simp (le-ltb _ _ l, ← e, eq-eqb n 0 h)
+  module _ (l : 20 ≤ length bytes) (n : ℕ) (e : n ≡ wordOf bytes 0) (k : ℕ) (f : k ≡ wordOf bytes 1) where
+    heading-rest : headingOf most bytes ≡ andThen (numbersOf most n k bytes) (λ u. done (headerOf bytes))
+    unfolding headingOf headerTests countTests layoutTests numbersOf judge
+    heading-rest =
+        judge-append {A = Unit {0}} (countTests most bytes ++ layoutTests (wordOf bytes 1) bytes) [] tt (headerOf bytes)
+        ∙ simp (le-ltb _ _ l, ← e, ← f)
 
-    module _ (a : n ≡ 0 → ⊥) (k : ℕ) (f : k ≡ wordOf bytes 1) where
-      pub heading-no-runs : k ≡ 0 → refused 1 0 ≡ headingOf most bytes
-      unfolding headingOf headerTests countTests judge
-      heading-no-runs h = simp (le-ltb _ _ l, ← e, ne-eqb n 0 a, ← f, eq-eqb k 0 h)
+    pub heading-refused : (p q : ℕ) → refused p q ≡ numbersOf most n k bytes → refused p q ≡ headingOf most bytes
+    unfolding andThen
+    heading-refused p q h = rw (heading-rest, ← h)
 
-      module _ (b : k ≡ 0 → ⊥) where
-        pub heading-many : most < k → refused 2 0 ≡ headingOf most bytes
-        unfolding headingOf headerTests countTests judge
-        heading-many h = simp (le-ltb _ _ l, ← e, ne-eqb n 0 a, ← f, ne-eqb k 0 b, lt-ltb _ _ h)
-
-        module _ (few : k ≤ most) where
-          counts-pass : judge (countTests most bytes) (tt {0}) ≡ done (tt {0})
-          unfolding countTests judge
-          counts-pass = simp (le-ltb _ _ l, ← e, ne-eqb n 0 a, ← f, ne-eqb k 0 b, le-ltb _ _ few)
-
-          heading-rest : headingOf most bytes ≡ andThen (layoutOf k bytes) (λ u. done (headerOf bytes))
-          unfolding headingOf headerTests layoutTests layoutOf judge andThen
-          heading-rest =
-              judge-append {A = Unit {0}} (countTests most bytes) (layoutTests (wordOf bytes 1) bytes) tt (headerOf bytes)
-              ∙ rw counts-pass (judge-append {A = Unit {0}} (layoutTests (wordOf bytes 1) bytes) [] tt (headerOf bytes))
-              ∙ ap (λ (j : ℕ). andThen (layoutOf j bytes) (λ u. done (headerOf bytes))) (sym f)
-
-          pub heading-refused : (p q : ℕ) → refused p q ≡ layoutOf k bytes → refused p q ≡ headingOf most bytes
-          unfolding andThen
-          heading-refused p q h = rw (heading-rest, ← h)
-
-          pub heading-read : done tt ≡ layoutOf k bytes → (d : ℕ) → d ≡ wordOf bytes 2
-              → done (record { n = n; k = k; d = d }) ≡ headingOf most bytes
-          unfolding andThen
-          heading-read h d g = rw (heading-rest, ← h, e, f, g)
+    pub heading-read : done tt ≡ numbersOf most n k bytes → (d : ℕ) → d ≡ wordOf bytes 2
+        → done (record { n = n; k = k; d = d }) ≡ headingOf most bytes
+    unfolding andThen
+    heading-read h d g = rw (heading-rest, ← h, e, f, g)
 
 -- what holds of a header that was read
 module _ (most : ℕ) (bytes : List ℕ) (h : Header) (e : done h ≡ headingOf most bytes) where
@@ -122,5 +123,7 @@ module _ (most : ℕ) (bytes : List ℕ) (h : Header) (e : done h ≡ headingOf 
 -- and a right header is read
 pub right-heading : (most : ℕ) (bytes : List ℕ) → RightHeader bytes → wordOf bytes 1 ≤ most → done (headerOf bytes) ≡ headingOf most bytes
 right-heading most bytes r few =
-    heading-read most bytes (r .room) _ refl (r .places) _ refl (r .some) few
-    (layout-right (wordOf bytes 1) bytes _ refl (r .starts-offset) _ refl (r .images-offset) (r .byte-count)) _ refl
+    heading-read most bytes (r .room) _ refl _ refl
+    (layout-right (wordOf bytes 1) bytes _ refl (r .starts-offset) _ refl (r .images-offset) (r .byte-count)
+    ∙ numbers-few most (wordOf bytes 0) (wordOf bytes 1) bytes (r .places) (r .some) few)
+    _ refl

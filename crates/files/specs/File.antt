@@ -14,13 +14,13 @@ use Rattle.files.specs.declared.Header.{Header}
 use Rattle.files.specs.declared.FileChecked.{FileChecked}
 use Rattle.files.specs.declared.FileChecked.the-variants.{Read, Refused}
 
--- a file of fewer than 20 bytes; then 1 and 2 of the numbers that its header says, for at most `most` runs
+-- 1 and 2 of the numbers that a header says, for at most `most` runs
+abbrev pub numberTests : ℕ → ℕ → ℕ → List Test
+numberTests most n k = test 1 (eqb n 0 || eqb k 0) 0 ∷ test 2 (ltb most k) 0 ∷ []
+
+-- these come after a test for the header's 20 bytes
 unfoldable pub countTests : ℕ → List ℕ → List Test
-countTests most bytes =
-    test 15 (ltb (length bytes) 20) 0 ∷
-    test 1 (eqb (wordOf bytes 0) 0 || eqb (wordOf bytes 1) 0) 0 ∷
-    test 2 (ltb most (wordOf bytes 1)) 0 ∷
-    []
+countTests most bytes = test 15 (ltb (length bytes) 20) 0 ∷ numberTests most (wordOf bytes 0) (wordOf bytes 1)
 
 -- where the k starts and the k images stand, and that the file ends behind them
 unfoldable pub layoutTests : ℕ → List ℕ → List Test

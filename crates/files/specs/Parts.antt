@@ -1,18 +1,21 @@
 -- What the parts of `check_file` ask and promise: the file's tests, some at a time.
 use Prim.Native.Nat.{ℕ, _+_, _*_, _≤_, _<_}
 use mathlib.Core.Path.{_≡_}
-use mathlib.Core.List.{List, [], _∷_}
+use mathlib.Core.List.{List, [], _∷_, _++_}
 use lib.ListN.{length}
 use Rattle.runs.specs.Outcome.{Outcome, judge, andThen}
 use Rattle.runs.specs.Runs.{Runs}
 use Rattle.runs.specs.Check.{checkOf}
 use Rattle.balance.specs.Lent.{degreeTest}
 use Rattle.files.specs.Words.{headerOf}
-use Rattle.files.specs.File.{layoutTests, headerTests, bodyTests}
+use Rattle.files.specs.File.{numberTests, layoutTests, headerTests, bodyTests}
 use Rattle.files.specs.declared.Header.{Header}
 
 unfoldable pub layoutOf : ℕ → List ℕ → Outcome (Unit {0})
 layoutOf k bytes = judge (layoutTests k bytes) tt
+
+unfoldable pub numbersOf : ℕ → ℕ → ℕ → List ℕ → Outcome (Unit {0})
+numbersOf most n k bytes = judge (numberTests most n k ++ layoutTests k bytes) tt
 
 unfoldable pub headingOf : ℕ → List ℕ → Outcome Header
 headingOf most bytes = judge (headerTests most bytes) (headerOf bytes)

@@ -10,7 +10,7 @@ ghost use lib.ListN.{length};
 ghost use Rattle.runs.specs.Refusal.{checkedSays};
 ghost use Rattle.runs.specs.Check.{maxRuns};
 ghost use Rattle.files.specs.File.{fileSays};
-ghost use Rattle.files.specs.Parts.{layoutOf, headingOf};
+ghost use Rattle.files.specs.Parts.{layoutOf, numbersOf, headingOf};
 
 // Whether the file has its k starts and k images where they belong, and nothing more.
 fn is_laid(file: &[u8], k: u32) -> Checked
@@ -34,7 +34,24 @@ fn is_laid(file: &[u8], k: u32) -> Checked
     Checked::Accepted
 }
 
-// The header's numbers, for a file of at most `most` runs.
+// Whether the numbers that the header says are those of a file of at most `most` runs.
+fn check_numbers(file: &[u8], n: u32, k: u32, most: usize) -> Checked
+    requires { ⌜ (20 ≤ length (now file)) × (most ≤ maxRuns) ⌝ }
+    ensures { λ r. ⌜ checkedSays r ≡ numbersOf most n k (now (file .entry)) ⌝ }
+{
+    if n == 0 {
+        return Checked::Refused(Refusal::ListShape);
+    }
+    if k == 0 {
+        return Checked::Refused(Refusal::ListShape);
+    }
+    if most < k as usize {
+        return Checked::Refused(Refusal::TooManyRuns);
+    }
+    is_laid(file, k)
+}
+
+// The header of a file of at most `most` runs.
 pub fn read_header(file: &[u8], most: usize) -> FileChecked
     requires { ⌜ most ≤ maxRuns ⌝ }
     ensures { λ r. ⌜ fileSays r ≡ headingOf most (now (file .entry)) ⌝ }
@@ -44,17 +61,8 @@ pub fn read_header(file: &[u8], most: usize) -> FileChecked
     }
     let n = word(file, 0);
     let k = word(file, 1);
-    if n == 0 {
-        return FileChecked::Refused(Refusal::ListShape);
-    }
-    if k == 0 {
-        return FileChecked::Refused(Refusal::ListShape);
-    }
-    if most < k as usize {
-        return FileChecked::Refused(Refusal::TooManyRuns);
-    }
     let d = word(file, 2);
-    match is_laid(file, k) {
+    match check_numbers(file, n, k, most) {
         Checked::Refused(r) => FileChecked::Refused(r),
         Checked::Accepted => FileChecked::Read(Header { n: n, k: k, d: d }),
     }

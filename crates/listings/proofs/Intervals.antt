@@ -18,7 +18,7 @@ use Rattle.tables.proofs.LegalTables.{holder-is, legal-weight}
 use Rattle.text.specs.Text.{maxSize}
 use Rattle.text.proofs.Signs.{bits-back}
 use Rattle.listings.specs.Listing.{rowText, rowOf}
-use Rattle.listings.specs.Parts.{Listed}
+use Rattle.listings.specs.Parts.{maxRow, Listed}
 use Rattle.listings.proofs.Lengths.{shift-small, row-length}
 
 module _ (n : ℕ) (t : Tables) (l : Listed n t) (x : ℕ) (h : x < sizeOf t) where
@@ -55,7 +55,7 @@ module _ (n : ℕ) (t : Tables) (l : Listed n t) (x : ℕ) (h : x < sizeOf t) wh
   pub holders-long : length (t .holders) ≡ sizeOf t
   holders-long = ap (λ (τ : Tables). length (τ .holders)) (l .held) ∙ length-map (t .list .images) (runAt n (t .list)) ∙ l .legal .paired
 
-  pub row-most : n < maxSize → length (rowOf n (t .list) x) ≤ 67
+  pub row-most : n < maxSize → length (rowOf n (t .list) x) ≤ maxRow
   unfolding rowOf
   row-most m =
       row-length x (startOf (t .list) x) (imageOf (t .list) x) (shiftOf (t .list) x) (runAt n (t .list) (imageOf (t .list) x)) (weight n (t .list) x)

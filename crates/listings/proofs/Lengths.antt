@@ -12,6 +12,7 @@ use Rattle.text.specs.Text.{maxSize, decimal, signed, pairText}
 use Rattle.text.proofs.Digits.{decimal-length}
 use Rattle.text.proofs.Signs.{signed-length}
 use Rattle.listings.specs.Listing.{headText, rowText}
+use Rattle.listings.specs.Parts.{maxRow, maxHead}
 
 -- a shift of two numbers of 32 bits is small
 pub shift-small : (a b : ℕ) → a < maxSize → b < maxSize → natAbs (subℕ a b) < maxSize
@@ -32,11 +33,11 @@ row-parts x start image shift holder weight = sym (append-assoc (decimal x ++ (3
 
 module _ (x start image : ℕ) (shift : ℤ) (holder weight : ℕ) where
   pub row-length : x < maxSize → start < maxSize → image < maxSize → natAbs shift < maxSize → holder < maxSize
-      → weight < maxSize → length (rowText x start image shift holder weight) ≤ 67
+      → weight < maxSize → length (rowText x start image shift holder weight) ≤ maxRow
   row-length a b c d e f =
       simp (length-append)
       (omega (arith, decimal-length x a, decimal-length start b, decimal-length image c, signed-length shift d, decimal-length holder e, decimal-length weight f))
 
-pub head-length : (n k d size : ℕ) → n < maxSize → k < maxSize → d < maxSize → size < maxSize → length (headText n k d size) ≤ 44
+pub head-length : (n k d size : ℕ) → n < maxSize → k < maxSize → d < maxSize → size < maxSize → length (headText n k d size) ≤ maxHead
 head-length n k d size a b c e =
     simp length-append (omega (arith, decimal-length n a, decimal-length k b, decimal-length d c, decimal-length size e))

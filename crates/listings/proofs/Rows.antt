@@ -11,11 +11,11 @@ use Rattle.text.specs.Page.{Fits, Wrote}
 use Rattle.text.proofs.Writing.{wrote-nothing, fits-second, wrote-both}
 use Rattle.text.proofs.Lines.{texts-suc, texts-next}
 use Rattle.listings.specs.Listing.{rowOf}
-use Rattle.listings.specs.Parts.{Listed}
+use Rattle.listings.specs.Parts.{maxRow, Listed}
 use Rattle.listings.proofs.Intervals.{row-most}
 
 pub texts-most : (n : ℕ) (t : Tables) → Listed n t → n < maxSize → (x : ℕ) → x ≤ sizeOf t
-    → length (texts (rowOf n (t .list)) (upTo x)) ≤ 67 * x
+    → length (texts (rowOf n (t .list)) (upTo x)) ≤ maxRow * x
 texts-most n t l small zero h = omega arith
 texts-most n t l small (suc x) h =
     omega (
@@ -34,7 +34,7 @@ pub record Rows (n : ℕ) (t : Tables) (page₀ : List ℕ) (at : ℕ) (page : L
 pub rows-start : (n : ℕ) (t : Tables) (page : List ℕ) (at : ℕ) → at ≤ length page → Rows n t page at page at 0
 rows-start n t page at h = record { within = omega arith; wrote = wrote-nothing page at h }
 
-module _ (n : ℕ) (t : Tables) (l : Listed n t) (small : n < maxSize) (page₀ : List ℕ) (at : ℕ) (room : at + 67 * sizeOf t ≤ length page₀)
+module _ (n : ℕ) (t : Tables) (l : Listed n t) (small : n < maxSize) (page₀ : List ℕ) (at : ℕ) (room : at + maxRow * sizeOf t ≤ length page₀)
     (page : List ℕ) (next x : ℕ) (r : Rows n t page₀ at page next x) (h : x < sizeOf t) where
   rows-fit : Fits page₀ at (texts (rowOf n (t .list)) (upTo x) ++ rowOf n (t .list) x)
   rows-fit =

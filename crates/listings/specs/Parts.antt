@@ -17,8 +17,14 @@ use Rattle.listings.specs.Listing.{tableText}
 abbrev pub maxIntervals : ℕ
 maxIntervals = 2048
 
--- no listing is longer: four fields of 10 digits and their separators, and for each interval six fields, of which one
--- has a sign
+-- No line of an interval is longer: six numbers of 10 digits, with a byte after each, and a sign. Nor is a first line, of
+-- four such numbers, and so no listing is longer than `maxText`.
+abbrev pub maxRow : ℕ
+maxRow = 67
+
+abbrev pub maxHead : ℕ
+maxHead = 44
+
 abbrev pub maxText : ℕ
 maxText = 137260
 

@@ -12,7 +12,7 @@ ghost use Rattle.tables.specs.Under.{weight};
 ghost use Rattle.text.specs.Text.{texts};
 ghost use Rattle.text.specs.Page.{Fits, Wrote};
 ghost use Rattle.listings.specs.Listing.{rowOf, tableText};
-ghost use Rattle.listings.specs.Parts.{maxText, Listed};
+ghost use Rattle.listings.specs.Parts.{maxRow, maxText, Listed};
 
 // The weight of interval x, which no table of a legal list refuses.
 fn weight_of(n: u32, starts: &[u32], images: &[u32], holders: &[u32], x: u32) -> u32
@@ -63,7 +63,7 @@ fn rows(
     images: &[u32],
     holders: &[u32],
 ) -> usize
-    requires { ⌜ Listed n (tables (now starts) (now images) (now holders)) × (at + 67 * length (now starts) ≤ length (now page)) ⌝ }
+    requires { ⌜ Listed n (tables (now starts) (now images) (now holders)) × (at + maxRow * length (now starts) ≤ length (now page)) ⌝ }
     ensures { λ r. ⌜ Wrote (now (page .entry)) at (texts (rowOf n (runs (now (starts .entry)) (now (images .entry)))) (upTo (length (now (starts .entry))))) (now (page .exit)) r ⌝ }
 {
     let mut next = at;

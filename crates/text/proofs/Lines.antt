@@ -7,10 +7,10 @@ use native.Mathlib.Numerals.{add-one}
 use lib.ListN.{length, length-append}
 use Rattle.order.specs.Order.{upTo}
 use Rattle.order.proofs.Laws.{up-snoc}
-use Rattle.text.specs.Text.{refusalText, texts}
+use Rattle.text.specs.Text.{maxSize, refusalText, texts}
 use Rattle.text.proofs.Digits.{decimal-length}
 
-pub refusal-length : (number place : ℕ) → number < 4294967296 → place < 4294967296 → length (refusalText number place) ≤ 30
+pub refusal-length : (number place : ℕ) → number < maxSize → place < maxSize → length (refusalText number place) ≤ 30
 refusal-length number place a b = simp length-append (omega (arith, decimal-length number a, decimal-length place b))
 
 -- the texts of a list that grows at its end

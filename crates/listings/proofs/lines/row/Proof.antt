@@ -1,6 +1,5 @@
 -- `row` meets its contract: its parts, one after the other; the shift's bits say it.
-use Prim.Native.Nat.{ℕ}
-use mathlib.Core.List.{List, [], _∷_, _++_}
+use mathlib.Core.List.{[], _∷_, _++_}
 use Rattle.text.specs.Text.{decimal, signed, pairText}
 use Rattle.text.specs.Page.{Fits, Wrote}
 use Rattle.text.proofs.Writing.{fits-first, fits-second, wrote-both}
@@ -20,33 +19,22 @@ start₂ c = start₁ (c .before .before .before .before)
 abbrev start₃ : tie.After-signed-field → tie.Start
 start₃ c = start₂ (c .before .before .before .before)
 
--- what is left to be written after each
-abbrev rest₃ : tie.Start → List ℕ
-rest₃ c = pairText (c .args .holder) (c .args .weight) 10
-
-abbrev rest₂ : tie.Start → List ℕ
-rest₂ c = (signed (c .args .shift) ++ (32 ∷ [])) ++ rest₃ c
-
-abbrev rest₁ : tie.Start → List ℕ
-rest₁ c = (decimal (c .args .image) ++ (32 ∷ [])) ++ rest₂ c
-
--- and the room for it
-fit₀ : (c : tie.Start) → Fits (c .args .page .now) (c .args .at) (pairText (c .args .x) (c .args .start) 32 ++ rest₁ c)
+-- the room for what is left to be written after each, and the shift's field
+fit₀ : (c : tie.Start) → Fits (c .args .page .now) (c .args .at) (pairText (c .args .x) (c .args .start) 32
+    ++ ((decimal (c .args .image) ++ (32 ∷ [])) ++ ((signed (c .args .shift) ++ (32 ∷ [])) ++ pairText (c .args .holder) (c .args .weight) 10)))
 fit₀ c = rw row-parts at (c .pre .1)
 
-fit₁ : (c : tie.After-pair) → Fits (c .pair .last .0) (c .pair .result) (rest₁ (start₁ c))
+fit₁ : (c : tie.After-pair) → Fits (c .pair .last .0) (c .pair .result) ((decimal (start₁ c .args .image) ++ (32 ∷ []))
+    ++ ((signed (start₁ c .args .shift) ++ (32 ∷ [])) ++ pairText (start₁ c .args .holder) (start₁ c .args .weight) 10))
 fit₁ c = fits-second _ _ _ _ (fit₀ (start₁ c)) _ _ (c .pair .ensures)
 
-fit₂ : (c : tie.After-field) → Fits (c .field .last .0) (c .field .result) (rest₂ (start₂ c))
+fit₂ : (c : tie.After-field) → Fits (c .field .last .0) (c .field .result)
+    ((signed (start₂ c .args .shift) ++ (32 ∷ [])) ++ pairText (start₂ c .args .holder) (start₂ c .args .weight) 10)
 fit₂ c = fits-second _ _ _ _ (fit₁ (c .before .before .before .before)) _ _ (c .field .ensures)
 
-shifted : (c : tie.After-signed-field)
-    → Wrote (c .before .before .before .before .field .last .0) (c .before .before .before .before .field .result)
-    (signed (start₃ c .args .shift) ++ (32 ∷ [])) (c .signed-field .last .0) (c .signed-field .result)
+shifted : (c : tie.After-signed-field) → let f = c .before .before .before .before .field in
+    Wrote (f .last .0) (f .result) (signed (start₃ c .args .shift) ++ (32 ∷ [])) (c .signed-field .last .0) (c .signed-field .result)
 shifted c = rw (bits-back _ (start₃ c .fits .shift)) at (c .signed-field .ensures)
-
-fit₃ : (c : tie.After-signed-field) → Fits (c .signed-field .last .0) (c .signed-field .result) (rest₃ (start₃ c))
-fit₃ c = fits-second _ _ _ _ (fit₂ (c .before .before .before .before)) _ _ (shifted c)
 
 pair-requires : tie.Need-pair-requires
 pair-requires c κs = fits-first _ _ _ _ (fit₀ (c .before .before))
@@ -57,11 +45,12 @@ field-requires c κs = fits-first _ _ _ _ (fit₁ (c .before .before .before))
 signed-field-requires : tie.Need-signed-field-requires
 signed-field-requires c κs =
     let f = c .before .before .before in
-    let s = start₂ f in
-    rw (bits-back _ (s .fits .shift)) (s .pre .0, fits-first _ _ _ _ (fit₂ f))
+    rw (bits-back _ (start₂ f .fits .shift)) (start₂ f .pre .0, fits-first _ _ _ _ (fit₂ f))
 
 pair-requires-2 : tie.Need-pair-requires-2
-pair-requires-2 c κs = fit₃ (c .before .before .before)
+pair-requires-2 c κs =
+    let p = c .before .before .before in
+    fits-second _ _ _ _ (fit₂ (p .before .before .before .before)) _ _ (shifted p)
 
 same-length : tie.Need-same-length
 same-length c = search needs
