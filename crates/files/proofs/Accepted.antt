@@ -11,10 +11,12 @@ use Rattle.runs.specs.Check.{maxRuns}
 use Rattle.runs.proofs.Judging.{done-refused}
 use Rattle.runs.proofs.Intervals.{accepted-intervals, intervals-accepted}
 use Rattle.files.specs.Words.{wordOf, headerOf, runsOf}
-use Rattle.files.specs.File.{fileOf}
+use Rattle.files.specs.File.{fileOf, fileSays}
 use Rattle.files.specs.Right.{RightHeader, RightFile}
 use Rattle.files.specs.Parts.{headingOf, listedOf, bodyOf}
 use Rattle.files.specs.declared.Header.{Header}
+use Rattle.files.specs.declared.FileChecked.{FileChecked}
+use Rattle.files.specs.declared.FileChecked.the-variants.{Read, Refused}
 use Rattle.files.proofs.Reading.{runs-count}
 use Rattle.files.proofs.Heading.{heading-right, heading-laid, right-heading}
 use Rattle.files.proofs.Bodies.{degree-right, listed-checked, listed-done, body-is, file-is, file-read}
@@ -66,3 +68,11 @@ module _ (bytes : List ℕ) where
   -- exactly the right files are accepted, and what is answered is what their header says
   pub file-accepted : (h : Header) → (fileOf maxRuns bytes ≡ done h) ↔ ((h ≡ headerOf bytes) × RightFile bytes)
   file-accepted h = (accepted-right h, λ r. sym (right-accepted (r .1)) ∙ ap done (sym (r .0)))
+
+  -- the same of the answer that `check_file` promises
+  pub answer-right : (a : FileChecked) → fileSays a ≡ fileOf maxRuns bytes → (h : Header) → (a ≡ Read h) ↔ ((h ≡ headerOf bytes) × RightFile bytes)
+  answer-right a e h = (λ q. accepted-right h (sym e ∙ ap fileSays q), λ r. go a (e ∙ file-accepted h .1 r))
+    where
+      go : (b : FileChecked) → fileSays b ≡ done h → b ≡ Read h
+      go (Read g) q = let z : g ≡ h = cc in ap Read z
+      go (Refused f) q = absurd (done-refused h _ _ (sym q))
