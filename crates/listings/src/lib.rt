@@ -57,10 +57,7 @@ fn answer_text(
 {
     match answer {
         Balanced::Refused(r) => refusal_line(page, r),
-        Balanced::Intervals(size) => {
-            let k = size as usize;
-            table(page, h, &starts[..k], &images[..k], &holders[..k])
-        }
+        Balanced::Intervals(k) => table(page, h, k, starts, images, holders),
     }
 }
 

@@ -4,7 +4,7 @@ use files::Header;
 use tables::Weighed;
 ghost use mathlib.Core.Path.{_≡_};
 ghost use Prim.Native.Nat.{_+_, _*_, _≤_, _<_};
-ghost use lib.ListN.{length};
+ghost use lib.ListN.{length, take};
 ghost use Rattle.order.specs.Order.{upTo};
 ghost use Rattle.runs.specs.Runs.{runs};
 ghost use Rattle.tables.specs.Tables.{tables};
@@ -12,7 +12,7 @@ ghost use Rattle.tables.specs.Under.{weight};
 ghost use Rattle.text.specs.Text.{texts};
 ghost use Rattle.text.specs.Page.{Fits, Wrote};
 ghost use Rattle.listings.specs.Listing.{rowOf, tableText};
-ghost use Rattle.listings.specs.Parts.{maxRow, maxText, Listed};
+ghost use Rattle.listings.specs.Parts.{maxRow, maxText, Listed, Tabled};
 
 // The weight of interval x, which no table of a legal list refuses.
 fn weight_of(n: u32, starts: &[u32], images: &[u32], holders: &[u32], x: u32) -> u32
@@ -75,17 +75,19 @@ fn rows(
     next
 }
 
-// Writes the listing of a balanced list's tables at the page's start.
+// Writes the listing of a balanced list's tables, the first `size` entries of three, at the page's start.
 pub(crate) fn table(
     page: &mut [u8],
     h: Header,
+    size: u32,
     starts: &[u32],
     images: &[u32],
     holders: &[u32],
 ) -> usize
-    requires { ⌜ Listed (h .n) (tables (now starts) (now images) (now holders)) × (maxText ≤ length (now page)) ⌝ }
-    ensures { λ r. ⌜ Wrote (now (page .entry)) 0 (tableText h (runs (now (starts .entry)) (now (images .entry)))) (now (page .exit)) r ⌝ }
+    requires { ⌜ Tabled (h .n) size (now starts) (now images) (now holders) × (maxText ≤ length (now page)) ⌝ }
+    ensures { λ r. ⌜ Wrote (now (page .entry)) 0 (tableText h (runs (take size (now (starts .entry))) (take size (now (images .entry))))) (now (page .exit)) r ⌝ }
 {
-    let next = lines::head(page, 0, h.n, h.k, h.d, starts.len() as u32);
-    rows(page, next, h.n, starts, images, holders)
+    let k = size as usize;
+    let next = lines::head(page, 0, h.n, h.k, h.d, size);
+    rows(page, next, h.n, &starts[..k], &images[..k], &holders[..k])
 }

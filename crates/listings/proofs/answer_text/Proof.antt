@@ -1,14 +1,8 @@
 -- `answer_text` meets its contract: it is the definition's two cases.
-use mathlib.Core.Path.{sym}
-use lib.Seq.{length-take-le}
 use Rattle.listings.specs.Parts.{answerText}
 use borrow.Author.Needs.{needs}
 use Rattle.listings.proofs.answer_text.Statement.{statement}
 use Rattle.listings.proofs.answer_text.Tie as tie
-
--- the call that an answer belongs to
-abbrev start : tie.After-answer2 → tie.Start
-start c = c .before .before .before .before .before .before
 
 enum-known-answer : tie.Need-enum-known-answer
 enum-known-answer c = search needs
@@ -19,28 +13,11 @@ refusal-line-requires c κs = search needs
 enum-known-answer-2 : tie.Need-enum-known-answer-2
 enum-known-answer-2 c = search needs
 
-cast-k : tie.Need-cast-k
-cast-k c = search needs
-
-slice-aggregate-table : tie.Need-slice-aggregate-table
-slice-aggregate-table c =
-    let m = c .before .before .before in
-    sym (length-take-le _ _ (start m .pre .0 _ (m .answer2 .given .1) .in-starts))
-
-slice-aggregate-table-2 : tie.Need-slice-aggregate-table-2
-slice-aggregate-table-2 c =
-    let m = c .before .before .before .before in
-    sym (length-take-le _ _ (start m .pre .0 _ (m .answer2 .given .1) .in-images))
-
-slice-aggregate-table-3 : tie.Need-slice-aggregate-table-3
-slice-aggregate-table-3 c =
-    let m = c .before .before .before .before .before in
-    sym (length-take-le _ _ (start m .pre .0 _ (m .answer2 .given .1) .in-holders))
-
 table-requires : tie.Need-table-requires
 table-requires c κs =
-    let m = c .before .before .before .before .before in
-    (start m .pre .0 _ (m .answer2 .given .1) .listed, start m .pre .1)
+    let m = c .before .before in
+    let a = m .before .before .before .before .before .before in
+    (a .pre .0 _ (m .answer2 .given .1), a .pre .1)
 
 same-length : tie.Need-same-length
 same-length c = search needs
@@ -58,7 +35,7 @@ returns-2 : tie.Need-returns-2
 unfolding answerText
 returns-2 c =
     let f = c .before .before in
-    rw (f .before .before .before .before .before .before .answer2 .given .1) (f .table .ensures)
+    rw (f .before .before .before .answer2 .given .1) (f .table .ensures)
 
 pub answer-text-spec : {M : Type 1} → statement M
 answer-text-spec =
@@ -67,10 +44,6 @@ answer-text-spec =
     enum-known-answer
     refusal-line-requires
     enum-known-answer-2
-    cast-k
-    slice-aggregate-table
-    slice-aggregate-table-2
-    slice-aggregate-table-3
     table-requires
     same-length
     returns
