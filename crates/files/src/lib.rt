@@ -81,7 +81,7 @@ fn check_body(file: &[u8], h: Header) -> FileChecked
     check_list(file, h, &mut starts[..k], &mut images[..k])
 }
 
-// Whether the file is one of a legal list of at most 16,384 runs, and what its header says.
+// Whether the file is one of a legal list of at most 16,384 runs with a degree from 2 to 64, and what its header says.
 pub fn check_file(file: &[u8]) -> FileChecked
     ensures { λ r. ⌜ fileSays r ≡ fileOf maxRuns (now (file .entry)) ⌝ }
 {

@@ -15,7 +15,7 @@ use Rattle.files.specs.Words.{runsOf}
 use Rattle.files.specs.File.{fileOf}
 use Rattle.files.specs.declared.Header.{Header}
 
--- "it takes at most 1,024 runs and gives 2 above that"
+-- the listing has a limit of runs of its own, above which 2 is given
 abbrev pub maxListed : ℕ
 maxListed = 1024
 

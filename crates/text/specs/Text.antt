@@ -1,4 +1,5 @@
--- Numbers and lines as ASCII text: "One space stands between fields; all is decimal."
+-- Numbers and lines as ASCII text: every number is decimal, and one space parts two fields (document 01, "The file and
+-- the listing").
 use Prim.Native.Nat.{ℕ, zero, suc, _+_, _/_, _%_}
 use mathlib.Core.Bool.{Bool, true, false}
 use mathlib.Core.List.{List, [], _∷_, _++_}
@@ -37,7 +38,7 @@ line (field ∷ next ∷ fields) = (field ++ (32 ∷ [])) ++ line (next ∷ fiel
 abbrev pub pairText : ℕ → ℕ → ℕ → List ℕ
 pairText v w after = (decimal v ++ (32 ∷ [])) ++ (decimal w ++ (after ∷ []))
 
--- "A refusal prints `refused`, number, place."
+-- the line of a refusal: the word `refused`, the number and the place
 abbrev pub refusalText : ℕ → ℕ → List ℕ
 refusalText number place = line ((114 ∷ 101 ∷ 102 ∷ 117 ∷ 115 ∷ 101 ∷ 100 ∷ []) ∷ decimal number ∷ decimal place ∷ [])
 
