@@ -24,7 +24,7 @@ use Rattle.bookmarks.specs.Bookmark.{bookmarkOf}
 use Rattle.bookmarks.proofs.Marks.{bookmark-kept}
 use Rattle.balance.specs.Lent.{Lent, balancedSays, balanceOf, Balances}
 use Rattle.balance.specs.declared.Balanced.{Balanced}
-use Rattle.listfile.specs.File.{countTests, layoutTests, headerTests, bodyTests, fileTests, fileOf}
+use Rattle.files.specs.File.{countTests, layoutTests, headerTests, bodyTests, fileTests, fileOf}
 use Rattle.demands.specs.Judged.{NoneOf, RefusedBy, Judged}
 use Rattle.demands.specs.Demands.{Demand1}
 

@@ -24,7 +24,10 @@ use Rattle.bookmarks.specs.declared.Marked.{Marked}
 use Rattle.balance.specs.Balance.{balanced, boundOf}
 use Rattle.balance.specs.Lent.{Lent, firstOf, balancedSays, balanceTests, balanceOf, Balances}
 use Rattle.balance.specs.declared.Balanced.{Balanced}
-use Rattle.listfile.specs.File.{fileTests, headerOf, fileOf}
+use Rattle.files.specs.Words.{headerOf}
+use Rattle.files.specs.File.{fileTests, fileOf}
+use Rattle.files.specs.Right.{RightFile}
+use Rattle.files.specs.declared.Header.{Header}
 use Rattle.demands.specs.Judged.{Judged}
 use Rattle.demands.specs.Calls.{Call, total, movesIn, allMoves, countIn, allCounts, Bounded}
 use Rattle.tables.specs.Plain.{maxCount, plainMove, plainMoves}
@@ -98,6 +101,8 @@ pub record Demand2 : Type 0 where
   pub accepted : (n : ℕ) (r : Runs) → (checkOf n r ≡ done tt) ↔ ((countOf r ≤ maxRuns) × IntervalSequence n r)
   -- the same in the words of source document 002
   pub accepted-disjoint : (n : ℕ) (r : Runs) → (checkOf n r ≡ done tt) ↔ ((countOf r ≤ maxRuns) × DisjointIntervals n r)
+  -- a file is accepted if and only if its header, its list and its degree are right; its header is then given
+  pub accepted-file : (bytes : List ℕ) (h : Header) → (fileOf maxRuns bytes ≡ done h) ↔ ((h ≡ headerOf bytes) × RightFile bytes)
   pub own-tables : (n : ℕ) (r : Runs) → checkOf n r ≡ done tt → Through n r r
   pub balanced-tables : (n : ℕ) (r : Runs) (d : ℕ) → checkOf n r ≡ done tt → 2 ≤ d → d ≤ 64 → Through n r (balanced d n r)
 

@@ -1,6 +1,6 @@
 // Runs the keys of the paper that are run and not proved, and each operation once with each number that it can refuse
 // with. A line has the operation's name, then 0 and its values, or the number and the place of a refusal.
-mod files;
+mod file_calls;
 mod lists;
 mod out;
 mod walks;
@@ -21,6 +21,6 @@ fn main() {
     walks::weights();
     walks::bookmarks();
     walks::marks();
-    files::checks();
-    files::listings();
+    file_calls::checks();
+    file_calls::listings();
 }

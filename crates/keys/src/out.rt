@@ -1,7 +1,7 @@
 // Lines of a name and numbers on standard output.
 use balance::Balanced;
 use bookmarks::Marked;
-use listfile::FileChecked;
+use files::FileChecked;
 use outcomes::Checked;
 use outcomes::Refusal;
 use preimages::Inverted;
