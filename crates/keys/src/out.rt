@@ -8,6 +8,8 @@ use tables::Found;
 use tables::Inverted;
 use tables::Moved;
 use tables::Weighed;
+ghost use Prim.Native.Nat.{_<_};
+ghost use lib.IntN.{natAbs};
 
 pub(crate) fn name(s: &[u8]) {
     io::write_all(1, s);
@@ -18,31 +20,48 @@ pub(crate) fn number(v: u64) {
     io::print_decimal(1, v);
 }
 
-// The first k entries.
-pub(crate) fn first(s: &[u32], k: usize) -> &[u32] {
-    if s.len() < k {
-        return s;
+// The size of v.
+fn magnitude(v: i64) -> u64
+    requires { ⌜ natAbs v < 4294967296 ⌝ }
+{
+    if v < 0 {
+        return (0 - v) as u64;
     }
-    &s[..k]
+    v as u64
 }
 
-// The first k bytes.
-pub(crate) fn first_bytes(s: &[u8], k: usize) -> &[u8] {
-    if s.len() < k {
-        return s;
+// A number with its sign.
+pub(crate) fn integer(v: i64)
+    requires { ⌜ natAbs v < 4294967296 ⌝ }
+{
+    let size = magnitude(v);
+    if v < 0 {
+        io::write_all(1, b" -");
+        io::print_decimal(1, size);
+        return;
     }
-    &s[..k]
+    number(size);
 }
 
-// What a lent table holds.
+pub(crate) fn line(s: &[u8]) {
+    name(s);
+    end();
+}
+
+// Numbers to the line's end.
 pub(crate) fn entries(s: &[u32]) {
-    name(b"now");
     let mut i = 0;
     while i < s.len() {
         number(s[i] as u64);
         i += 1;
     }
     end();
+}
+
+// What a lent table holds.
+pub(crate) fn now(s: &[u32]) {
+    name(b"now");
+    entries(s);
 }
 
 pub(crate) fn end() {
@@ -134,9 +153,9 @@ pub(crate) fn weighed(s: &[u8], a: Weighed) {
 }
 
 // The answer to a bookmark's move, and then the bookmark's four numbers.
-pub(crate) fn marked(m: Marked) {
+pub(crate) fn marked(s: &[u8], m: Marked) {
     let moved_to = m.moved;
-    moved(b"bookmark", moved_to);
+    moved(s, moved_to);
     name(b"now");
     let b = m.bookmark;
     number(b.place as u64);

@@ -1,175 +1,171 @@
-// Walks through the document's tables, and through tables with other numbers in them.
+// Walks through tables, also by a bookmark. The slices are starts, images and holders.
 use super::out;
+use super::row;
+use super::row::Row;
 use bookmarks::Bookmark;
 
-// 9 and 11.
-pub(crate) fn finds() {
-    let s = [0, 2, 4, 6, 8, 12];
-    let i = [14, 12, 10, 8, 0, 4];
-    let h = [5, 5, 4, 4, 0, 2];
-    out::found(b"find", tables::find(16, &s, &i, &h, 11));
-    out::found(b"find", tables::find(16, &s, &i, out::first(&h, 5), 11));
-    out::found(b"find", tables::find(16, &s, &i, &h, 16));
-    out::found(b"find", tables::find(16, &[2, 4], &[10, 8], &[0, 0], 1));
+// find n i
+fn find(row: Row, starts: &[u32], images: &[u32], holders: &[u32]) {
+    out::found(
+        b"find",
+        tables::find(
+            row::number(row, 0),
+            starts,
+            images,
+            holders,
+            row::number(row, 1),
+        ),
+    );
 }
 
-// 9 to 12, and the key from place 11.
-pub(crate) fn moves() {
-    let s = [0, 2, 4, 6, 8, 12];
-    let i = [14, 12, 10, 8, 0, 4];
-    let h = [5, 5, 4, 6, 0, 2];
-    out::moved(b"move", tables::move_query(16, &s, &i, &h, 4, 11));
-    out::moved(b"move", tables::move_query(0, &s, &i, &h, 4, 11));
-    out::moved(b"move", tables::move_query(16, &s, &i, &h, 6, 11));
-    out::moved(b"move", tables::move_query(16, &s, &i, &h, 4, 12));
-    out::moved(b"move", tables::move_query(16, &s, &i, &h, 3, 7));
-    out::moved(b"move", tables::move_query(15, &s, &i, &h, 0, 1));
+// move n x i
+fn move_once(row: Row, starts: &[u32], images: &[u32], holders: &[u32]) {
+    out::moved(
+        b"move",
+        tables::move_query(
+            row::number(row, 0),
+            starts,
+            images,
+            holders,
+            row::number(row, 1),
+            row::number(row, 2),
+        ),
+    );
 }
 
-// The same for repeated moves: four from place 0, and 12 met on the way.
-pub(crate) fn repeated() {
-    let s = [0, 2, 4, 6, 8, 12];
-    let i = [14, 12, 10, 8, 0, 4];
-    let h = [5, 5, 4, 4, 0, 2];
-    let broken = [5, 5, 4, 6, 0, 2];
-    out::moved(b"moves", tables::repeated_moves(16, &s, &i, &h, 0, 0, 4));
-    out::moved(b"moves", tables::repeated_moves(16, &s, &i, &h, 5, 15, 0));
-    out::moved(b"moves", tables::repeated_moves(16, &[], &[], &[], 0, 0, 4));
-    out::moved(b"moves", tables::repeated_moves(16, &s, &i, &h, 6, 0, 0));
-    out::moved(b"moves", tables::repeated_moves(16, &s, &i, &h, 0, 2, 4));
+// moves n x i m
+fn moves(row: Row, starts: &[u32], images: &[u32], holders: &[u32]) {
     out::moved(
         b"moves",
-        tables::repeated_moves(16, &s, &i, &broken, 0, 0, 4),
+        tables::repeated_moves(
+            row::number(row, 0),
+            starts,
+            images,
+            holders,
+            row::number(row, 1),
+            row::number(row, 2),
+            row::number(row, 3),
+        ),
     );
 }
 
-// 9, 11 and 14, and the key at place 9.
-pub(crate) fn inverses() {
-    let s = [0, 2, 4, 6, 8, 12];
-    let i = [14, 12, 10, 8, 0, 4];
-    let h = [5, 5, 4, 4, 0, 2];
-    let high = [14, 12, 10, 8, 1, 5];
-    out::inverted(b"inverse", tables::inverse(16, &s, &i, &h, 9));
+// inverse n j
+fn inverse(row: Row, starts: &[u32], images: &[u32], holders: &[u32]) {
     out::inverted(
         b"inverse",
-        tables::inverse(16, &s, out::first(&i, 5), &h, 9),
+        tables::inverse(
+            row::number(row, 0),
+            starts,
+            images,
+            holders,
+            row::number(row, 1),
+        ),
     );
-    out::inverted(b"inverse", tables::inverse(16, &s, &i, &h, 16));
-    out::inverted(b"inverse", tables::inverse(16, &s, &high, &h, 0));
 }
 
-// 9, 10 and 12, and the stretch itself.
-pub(crate) fn weights() {
-    let s = [0, 2, 4, 6, 8, 12];
-    let i = [14, 12, 10, 8, 0, 4];
-    let h = [5, 5, 4, 6, 0, 2];
-    out::weighed(b"weight", tables::weight(16, &s, &i, &h, 5));
-    out::weighed(b"weight", tables::weight(0, &s, &i, &h, 5));
-    out::weighed(b"weight", tables::weight(16, &s, &i, &h, 6));
-    out::weighed(b"weight", tables::weight(16, &s, &i, &h, 3));
+// weight n x
+fn weight(row: Row, starts: &[u32], images: &[u32], holders: &[u32]) {
+    out::weighed(
+        b"weight",
+        tables::weight(
+            row::number(row, 0),
+            starts,
+            images,
+            holders,
+            row::number(row, 1),
+        ),
+    );
+}
+
+// under n x: how many starts lie under x's image, and which
+fn starts_under(row: Row, starts: &[u32], images: &[u32], holders: &[u32]) {
+    let under = tables::starts_under(
+        row::number(row, 0),
+        starts,
+        images,
+        holders,
+        row::number(row, 1),
+    );
     out::name(b"under");
-    out::number(tables::starts_under(16, &s, &i, &h, 5).len() as u64);
-    out::number(tables::starts_under(16, &s, &i, &h, 3).len() as u64);
-    out::end();
+    out::number(under.len() as u64);
+    out::name(b" :");
+    out::entries(under);
 }
 
-// 9 to 13, and a move; a refused one leaves the bookmark.
-pub(crate) fn bookmarks() {
-    let s = [0, 2, 4, 6, 8, 12];
-    let i = [14, 12, 10, 8, 0, 4];
-    let h = [5, 5, 4, 6, 0, 2];
-    out::marked(bookmarks::advanced(
-        16,
-        &s,
-        &i,
-        &h,
-        Bookmark {
-            place: 11,
-            interval: 4,
-            moves: 3,
-            passed: 2,
-        },
-    ));
-    out::marked(bookmarks::advanced(
-        0,
-        &s,
-        &i,
-        &h,
-        Bookmark {
-            place: 11,
-            interval: 4,
-            moves: 3,
-            passed: 2,
-        },
-    ));
-    out::marked(bookmarks::advanced(
-        16,
-        &s,
-        &i,
-        &h,
-        Bookmark {
-            place: 11,
-            interval: 6,
-            moves: 3,
-            passed: 2,
-        },
-    ));
-    out::marked(bookmarks::advanced(
-        16,
-        &s,
-        &i,
-        &h,
-        Bookmark {
-            place: 12,
-            interval: 4,
-            moves: 3,
-            passed: 2,
-        },
-    ));
-    out::marked(bookmarks::advanced(
-        16,
-        &s,
-        &i,
-        &h,
-        Bookmark {
-            place: 7,
-            interval: 3,
-            moves: 3,
-            passed: 2,
-        },
-    ));
-    out::marked(bookmarks::advanced(
-        16,
-        &s,
-        &i,
-        &h,
-        Bookmark {
-            place: 11,
-            interval: 4,
-            moves: 4294967295,
-            passed: 2,
-        },
-    ));
-    out::marked(bookmarks::advanced(
-        16,
-        &s,
-        &i,
-        &h,
-        Bookmark {
-            place: 11,
-            interval: 4,
-            moves: 3,
-            passed: 18446744073709551615,
-        },
-    ));
+// bookmark n, and the bookmark's place, interval, moves and starts passed
+fn bookmark(row: Row, starts: &[u32], images: &[u32], holders: &[u32]) {
+    let lent = Bookmark {
+        place: row::number(row, 1),
+        interval: row::number(row, 2),
+        moves: row::number(row, 3),
+        passed: row::wide_number(row, 4),
+    };
+    out::marked(
+        b"bookmark",
+        bookmarks::advanced(row::number(row, 0), starts, images, holders, lent),
+    );
 }
 
-// Four moves of a bookmark that is fresh at place 0, and of one that meets 12 on the way.
-pub(crate) fn marks() {
-    let s = [0, 2, 4, 6, 8, 12];
-    let i = [14, 12, 10, 8, 0, 4];
-    let h = [5, 5, 4, 4, 0, 2];
-    let broken = [5, 5, 4, 6, 0, 2];
-    out::marked(bookmarks::bookmark_moves(16, &s, &i, &h, 0, 0, 4));
-    out::marked(bookmarks::bookmark_moves(16, &s, &i, &broken, 0, 0, 4));
+// bookmark-moves n x i m
+fn bookmark_moves(row: Row, starts: &[u32], images: &[u32], holders: &[u32]) {
+    out::marked(
+        b"bookmark-moves",
+        bookmarks::bookmark_moves(
+            row::number(row, 0),
+            starts,
+            images,
+            holders,
+            row::number(row, 1),
+            row::number(row, 2),
+            row::number(row, 3),
+        ),
+    );
+}
+
+// Runs a row with these tables, if it is one of a single table's.
+fn run_on(word: &[u8], row: Row, starts: &[u32], images: &[u32], holders: &[u32]) -> bool {
+    if row::calls(word, row, b"find", 2, 2, 3) {
+        find(row, starts, images, holders);
+        return true;
+    }
+    if row::calls(word, row, b"move", 3, 3, 3) {
+        move_once(row, starts, images, holders);
+        return true;
+    }
+    if row::calls(word, row, b"moves", 4, 4, 3) {
+        moves(row, starts, images, holders);
+        return true;
+    }
+    if row::calls(word, row, b"inverse", 2, 2, 3) {
+        inverse(row, starts, images, holders);
+        return true;
+    }
+    if row::calls(word, row, b"weight", 2, 2, 3) {
+        weight(row, starts, images, holders);
+        return true;
+    }
+    if row::calls(word, row, b"under", 2, 2, 3) {
+        starts_under(row, starts, images, holders);
+        return true;
+    }
+    if row::calls(word, row, b"bookmark", 5, 4, 3) {
+        bookmark(row, starts, images, holders);
+        return true;
+    }
+    if row::calls(word, row, b"bookmark-moves", 4, 4, 3) {
+        bookmark_moves(row, starts, images, holders);
+        return true;
+    }
+    false
+}
+
+// Runs a row of this file, if it is one.
+pub(crate) fn run(word: &[u8], row: Row, entries: &[u32]) -> bool {
+    run_on(
+        word,
+        row,
+        row::slice(entries, row, 0),
+        row::slice(entries, row, 1),
+        row::slice(entries, row, 2),
+    )
 }

@@ -2,7 +2,7 @@
 mod Reading
 mod Writing
 mod Digits
-mod Signs
+pub mod Signs
 mod Heading
 mod Bodies
 mod Rows
