@@ -1,16 +1,17 @@
-// Run lists: check, the inverse list, balancing and the shift of a run. The slices are starts and images.
+// The inverse list and balancing, with lent tables of at most 256 entries.
 use super::out;
-use super::row;
-use super::row::Row;
+use super::row::at_most;
+use balance::Balanced;
+use runs::Checked;
 
-// check n
-fn check(row: Row, entries: &[u32]) {
-    let starts = row::slice(entries, row, 0);
-    let images = row::slice(entries, row, 1);
-    out::checked(b"check", runs::check(row::number(row, 0), starts, images));
+// Prints an answer, and the lent tables.
+fn print_inverse(answer: Checked, to_starts: &[u32], to_images: &[u32]) {
+    out::checked(answer);
+    out::now(to_starts);
+    out::now(to_images);
 }
 
-// Inverts into the lent tables, and prints them.
+// Inverts into the lent tables.
 fn invert_into(
     n: u32,
     starts: &[u32],
@@ -19,98 +20,90 @@ fn invert_into(
     to_images: &mut [u32],
 ) {
     let answer = runs::inverse_list(n, starts, images, to_starts, to_images);
-    out::checked(b"inverse-list", answer);
-    out::now(to_starts);
-    out::now(to_images);
+    print_inverse(answer, to_starts, to_images);
 }
 
 // inverse-list n, and the sizes of the two lent tables
-fn inverse_list(row: Row, entries: &[u32]) {
-    let starts = row::slice(entries, row, 0);
-    let images = row::slice(entries, row, 1);
-    let size_1 = row::size(row, 1);
-    let size_2 = row::size(row, 2);
+pub(crate) fn inverse_list(n: u32, size: u32, size_2: u32, starts: &[u32], images: &[u32]) {
+    let end = at_most(size as usize, 256);
+    let end_2 = at_most(size_2 as usize, 256);
     let mut to_starts = [7u32; 256];
     let mut to_images = [7u32; 256];
     invert_into(
-        row::number(row, 0),
+        n,
         starts,
         images,
-        &mut to_starts[0..size_1],
-        &mut to_images[0..size_2],
+        &mut to_starts[0..end],
+        &mut to_images[0..end_2],
     );
 }
 
-// Balances into the lent tables, and prints them.
-fn balance_into(
-    row: Row,
-    entries: &[u32],
-    to_starts: &mut [u32],
-    to_images: &mut [u32],
-    to_holders: &mut [u32],
-    working: &mut [u32],
+// Prints an answer, and the lent tables.
+fn print_balanced(
+    answer: Balanced,
+    to_starts: &[u32],
+    to_images: &[u32],
+    to_holders: &[u32],
+    working: &[u32],
 ) {
-    let answer = balance::balance(
-        row::number(row, 0),
-        row::slice(entries, row, 0),
-        row::slice(entries, row, 1),
-        row::number(row, 1),
-        to_starts,
-        to_images,
-        to_holders,
-        working,
-    );
-    out::balanced(b"balance", answer);
+    out::balanced(answer);
     out::now(to_starts);
     out::now(to_images);
     out::now(to_holders);
     out::now(working);
 }
 
+// Balances into the lent tables.
+fn balance_into(
+    n: u32,
+    starts: &[u32],
+    images: &[u32],
+    d: u32,
+    to_starts: &mut [u32],
+    to_images: &mut [u32],
+    to_holders: &mut [u32],
+    working: &mut [u32],
+) {
+    let answer = balance::balance(
+        n,
+        starts,
+        images,
+        d,
+        to_starts,
+        to_images,
+        to_holders,
+        working,
+    );
+    print_balanced(answer, to_starts, to_images, to_holders, working);
+}
+
 // balance n d, and the sizes of the three lent tables and of the working table
-fn balance(row: Row, entries: &[u32]) {
-    let size_1 = row::size(row, 2);
-    let size_2 = row::size(row, 3);
-    let size_3 = row::size(row, 4);
-    let size_4 = row::size(row, 5);
+pub(crate) fn balance(
+    n: u32,
+    d: u32,
+    size: u32,
+    size_2: u32,
+    size_3: u32,
+    size_4: u32,
+    starts: &[u32],
+    images: &[u32],
+) {
+    let end = at_most(size as usize, 256);
+    let end_2 = at_most(size_2 as usize, 256);
+    let end_3 = at_most(size_3 as usize, 256);
+    let end_4 = at_most(size_4 as usize, 256);
     let mut to_starts = [7u32; 256];
     let mut to_images = [7u32; 256];
     let mut to_holders = [7u32; 256];
     let mut working = [7u32; 256];
     balance_into(
-        row,
-        entries,
-        &mut to_starts[0..size_1],
-        &mut to_images[0..size_2],
-        &mut to_holders[0..size_3],
-        &mut working[0..size_4],
+        n,
+        starts,
+        images,
+        d,
+        &mut to_starts[0..end],
+        &mut to_images[0..end_2],
+        &mut to_holders[0..end_3],
+        &mut working[0..end_4],
     );
-}
-
-// shift start image
-fn shift(row: Row) {
-    out::name(b"shift");
-    out::integer(runs::shift(row::number(row, 0), row::number(row, 1)));
-    out::end();
-}
-
-// Runs a row of this file, if it is one.
-pub(crate) fn run(word: &[u8], row: Row, entries: &[u32]) -> bool {
-    if row::calls(word, row, b"check", 1, 1, 2) {
-        check(row, entries);
-        return true;
-    }
-    if row::calls(word, row, b"inverse-list", 3, 3, 2) {
-        inverse_list(row, entries);
-        return true;
-    }
-    if row::calls(word, row, b"balance", 6, 6, 2) {
-        balance(row, entries);
-        return true;
-    }
-    if row::calls(word, row, b"shift", 2, 2, 0) {
-        shift(row);
-        return true;
-    }
-    false
 }

@@ -12,25 +12,13 @@
 // sevens, and printed after the call on a line `now ..`, whether it was refused or not.
 mod files;
 mod lists;
+mod operations;
 mod out;
 mod reading;
 mod row;
-mod walks;
 
-use row::Row;
 ghost use Prim.Native.Nat.{_≤_};
 ghost use lib.ListN.{length};
-
-// Runs a row by the part that has its word.
-fn run(word: &[u8], row: Row, entries: &[u32]) -> bool {
-    if lists::run(word, row, entries) {
-        return true;
-    }
-    if walks::run(word, row, entries) {
-        return true;
-    }
-    files::run(word, row, entries)
-}
 
 // Whether a line is copied: it is empty, or starts with #.
 fn is_copied(line: &[u8]) -> bool {
@@ -41,17 +29,21 @@ fn is_copied(line: &[u8]) -> bool {
 }
 
 // Reads a row and runs it.
+fn run_row(line: &[u8], entries: &mut [u32]) {
+    let word_end = bytes::scan::find(line, 0, line.len(), b' ');
+    let row = reading::read(&line[word_end..], entries);
+    let word = &line[0..word_end];
+    out::name(word);
+    operations::run(word, row, entries);
+}
+
+// Copies a line, or runs it as a row.
 fn run_line(line: &[u8], entries: &mut [u32]) {
     if is_copied(line) {
         out::line(line);
         return;
     }
-    let word_end = bytes::scan::find(line, 0, line.len(), b' ');
-    let row = reading::read(&line[word_end..], entries);
-    if !run(&line[0..word_end], row, entries) {
-        out::name(b"no call: ");
-        out::line(line);
-    }
+    run_row(line, entries);
 }
 
 // Runs the rows one after the other.
@@ -71,7 +63,4 @@ fn main() {
     let got = io::read_full(0, &mut text);
     let mut entries = [0u32; reading::ROOM];
     run_lines(&text[0..got], &mut entries);
-    if got == 65536 {
-        out::line(b"no call: the table is longer than 65,535 bytes");
-    }
 }

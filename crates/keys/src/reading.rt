@@ -40,52 +40,59 @@ fn with_times(mut row: Row) -> Row {
     row
 }
 
+// Whether a number may stand behind the last one: that has at most 32 bits, and this one stands there once.
+fn may_follow(last: u64, times: u64) -> bool {
+    if 4294967295 < last {
+        return false;
+    }
+    times == 0
+}
+
 // The row with the number that was read as one of its numbers.
 fn with_number(mut row: Row) -> Row {
     let i = row.count;
     if row::MOST <= i {
         return unreadable(row);
     }
-    if row.times != 0 {
+    if !may_follow(row.last, row.times) {
         return unreadable(row);
     }
-    row.numbers[i] = row.value;
+    row.numbers[i] = row::low(row.value);
+    row.last = row.value;
     row.count = i + 1;
-    if row.value < 4294967296 {
-        if row.narrow == i {
-            row.narrow = i + 1;
-        }
-    }
     row
 }
 
-// The row with so many more entries in its last slice.
-fn with_entries(mut row: Row, times: u64) -> Row {
+// How many entries there are when one more stands there so often, or one more than there is room for.
+fn grown(used: usize, value: u64, times: u64) -> usize {
+    if 4294967295 < value {
+        return ROOM + 1;
+    }
+    if ROOM <= used {
+        return ROOM + 1;
+    }
+    if times == 0 {
+        return used + 1;
+    }
+    if ((ROOM - used) as u64) < times {
+        return ROOM + 1;
+    }
+    used + times as usize
+}
+
+// The row with the number that was read, as often as it stands there, in its last slice.
+fn with_entries(mut row: Row) -> Row {
+    let used = grown(row.used, row.value, row.times);
     let g = row.slices;
     if row::MOST < g {
         return unreadable(row);
     }
-    if (ROOM as u64) < times {
+    if ROOM < used {
         return unreadable(row);
     }
-    if ROOM - (times as usize) < row.used {
-        return unreadable(row);
-    }
-    let used = row.used + times as usize;
     row.used = used;
     row.ends[g] = used;
     row
-}
-
-// The row with the number that was read, as often as it stands there, in its last slice.
-fn with_entry(row: Row) -> Row {
-    if 4294967295 < row.value {
-        return unreadable(row);
-    }
-    if row.times == 0 {
-        return with_entries(row, 1);
-    }
-    with_entries(row, row.times)
 }
 
 // The row with no number that is being read.
@@ -107,7 +114,7 @@ fn with_space(row: Row) -> Row {
     if row.slices == 0 {
         return ready(with_number(row));
     }
-    ready(with_entry(row))
+    ready(with_entries(row))
 }
 
 // The row with one more slice, which has no entries yet.

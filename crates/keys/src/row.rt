@@ -5,10 +5,10 @@ ghost use Prim.Native.Nat.{_≤_, _<_};
 pub(crate) const MOST: usize = 8;
 
 pub(crate) struct Row {
-    pub(crate) numbers: [u64; MOST],
+    pub(crate) numbers: [u32; MOST],
     pub(crate) count: usize,
-    // How many of the numbers, from the first one on, have at most 32 bits.
-    pub(crate) narrow: usize,
+    // The last of the numbers, which alone may have more than 32 bits.
+    pub(crate) last: u64,
     // Slice g has the entries from ends[g] up to ends[g + 1].
     pub(crate) ends: [usize; 9],
     pub(crate) slices: usize,
@@ -27,7 +27,7 @@ pub(crate) fn new() -> Row {
     Row {
         numbers: [0; MOST],
         count: 0,
-        narrow: 0,
+        last: 0,
         ends: [0; 9],
         slices: 0,
         used: 0,
@@ -38,76 +38,29 @@ pub(crate) fn new() -> Row {
     }
 }
 
-// Whether a row calls `name`: it is readable, its word is that, and it has just so many numbers, of which all or all but
-// the last have 32 bits, and so many slices.
-pub(crate) fn calls(
-    word: &[u8],
-    row: Row,
-    name: &[u8],
-    count: usize,
-    narrow: usize,
-    slices: usize,
-) -> bool {
-    if !check::same(word, name) {
-        return false;
-    }
-    if !row.readable {
-        return false;
-    }
-    if row.count != count {
-        return false;
-    }
-    if row.narrow < narrow {
-        return false;
-    }
-    row.slices == slices
-}
-
-// A number that was seen to have 32 bits.
+// A number of at most 32 bits, or the largest one.
 pub(crate) fn low(v: u64) -> u32 {
     if v < 4294967296 {
         return v as u32;
     }
-    0
+    4294967295
 }
 
-// Number i, of 64 bits.
-pub(crate) fn wide_number(row: Row, i: usize) -> u64
-    requires { ⌜ i < 8 ⌝ }
+// v, or `most` where v is more.
+pub(crate) fn at_most(v: usize, most: usize) -> usize
+    ensures { λ r. ⌜ r ≤ most ⌝ }
 {
-    row.numbers[i]
-}
-
-// Number i, of 32 bits.
-pub(crate) fn number(row: Row, i: usize) -> u32
-    requires { ⌜ i < 8 ⌝ }
-{
-    low(wide_number(row, i))
-}
-
-// Number i as the size of a lent table, of which the program has 256 entries.
-pub(crate) fn size(row: Row, i: usize) -> usize
-    requires { ⌜ i < 8 ⌝ }
-    ensures { λ r. ⌜ r ≤ 256 ⌝ }
-{
-    let size = number(row, i) as usize;
-    if 256 < size {
-        return 256;
+    if most < v {
+        return most;
     }
-    size
+    v
 }
 
 // Slice g, which is empty in a row that has fewer.
-pub(crate) fn slice(entries: &[u32], row: Row, g: usize) -> &[u32]
+pub(crate) fn slice(entries: &[u32], ends: [usize; 9], g: usize) -> &[u32]
     requires { ⌜ g < 8 ⌝ }
 {
-    let from = row.ends[g];
-    let to = row.ends[g + 1];
-    if to < from {
-        return &entries[0..0];
-    }
-    if entries.len() < to {
-        return &entries[0..0];
-    }
+    let to = at_most(ends[g + 1], entries.len());
+    let from = at_most(ends[g], to);
     &entries[from..to]
 }

@@ -2,7 +2,7 @@
 mod Reading
 mod Writing
 mod Digits
-pub mod Signs
+mod Signs
 mod Heading
 mod Bodies
 mod Rows

@@ -1,16 +1,18 @@
 -- The lines of a listing: what they say, how long they are at most, and one more of them.
 use Prim.Native.Nat.{ℕ, zero, suc, _+_, _*_, _≤_, _<_}
 use mathlib.Core.Path.{_≡_, refl, sym, ap, _∙_}
+use mathlib.Core.Logic.{_⊎_, inl, inr}
 use mathlib.Core.Bool.{Bool, true, false}
 use mathlib.Core.List.{List, [], _∷_, _++_, append-nil, append-assoc}
 use native.Mathlib.Omega.{arith}
 use native.Mathlib.Numerals.{add-one}
 use lib.ListN.{length, length-append, length-map}
-use lib.IntN.{ℤ, natAbs}
+use lib.IntN.{ℤ, natAbs, subℕ}
 use mir.Syntax.{w64}
 use mir.Val.{SFits, toZ, ofZ}
+use borrow.Author.Tests.{lt-ltb, le-ltb}
 use Rattle.order.specs.Order.{upTo}
-use Rattle.order.proofs.Laws.{count-le, up-snoc}
+use Rattle.order.proofs.Laws.{lt-or-le, count-le, up-snoc}
 use Rattle.runs.specs.Outcome.{done, refused, _then_else_}
 use Rattle.runs.specs.Runs.{startOf, imageOf, imageEnd, shiftOf, runAt}
 use Rattle.runs.proofs.Judging.{done-refused}
@@ -23,8 +25,16 @@ use Rattle.listfile.specs.Text.{decimal, negative, signed, texts}
 use Rattle.listfile.specs.Listing.{headText, rowText, rowOf, refusalText}
 use Rattle.listfile.specs.Page.{Fits, Wrote, Listed}
 use Rattle.listfile.proofs.Digits.{decimal-length}
-use Rattle.listfile.proofs.Signs.{shift-small, bits-back}
+use Rattle.listfile.proofs.Signs.{bits-back}
 use Rattle.listfile.proofs.Writing.{wrote-nothing, fits-second, wrote-both}
+
+-- a shift of two numbers of 32 bits is small
+pub shift-small : (a b : ℕ) → a < 4294967296 → b < 4294967296 → natAbs (subℕ a b) < 4294967296
+shift-small a b h k = go (lt-or-le a b)
+  where
+    go : (a < b) ⊎ (b ≤ a) → natAbs (subℕ a b) < 4294967296
+    go (inl l) = rw (lt-ltb a b l) (omega arith)
+    go (inr l) = rw (le-ltb a b l) (omega arith)
 
 signed-length : (v : ℤ) → natAbs v < 4294967296 → length (signed v) ≤ 11
 unfolding signed

@@ -1,27 +1,17 @@
--- Integers of 64 bits that are small, as shifts are: their sign, their size, and their bits read back.
-use Prim.Native.Nat.{ℕ, _≤_, _<_}
+-- Integers of 64 bits that are small: their sign, their size, and their bits read back.
+use Prim.Native.Nat.{ℕ, _<_}
 use mathlib.Core.Path.{_≡_, refl, sym, ap, _∙_}
-use mathlib.Core.Logic.{_⊎_, inl, inr}
 use mathlib.Core.Bool.{Bool, true, false, false≢true}
 use mathlib.Core.List.{[], _∷_, _++_}
 use native.Mathlib.Omega.{arith}
 use lib.Dec.{T}
-use lib.IntN.{ℤ, pos, negsuc, natAbs, subℕ, _-ℤ_}
+use lib.IntN.{ℤ, pos, negsuc, natAbs, _-ℤ_}
 use lib.Signed.{ltZ, nonNeg}
 use mir.Syntax.{w64}
 use mir.Val.{SFits, toZ, ofZ}
 use mir.ValLaws.{toZ-ofZ}
-use borrow.Author.Tests.{lt-ltb, le-ltb}
-use Rattle.order.proofs.Laws.{lt-or-le}
+use borrow.Author.Tests.{le-ltb}
 use Rattle.listfile.specs.Text.{decimal, negative, signed}
-
--- a shift of two numbers of 32 bits is small
-pub shift-small : (a b : ℕ) → a < 4294967296 → b < 4294967296 → natAbs (subℕ a b) < 4294967296
-shift-small a b h k = go (lt-or-le a b)
-  where
-    go : (a < b) ⊎ (b ≤ a) → natAbs (subℕ a b) < 4294967296
-    go (inl l) = rw (lt-ltb a b l) (omega arith)
-    go (inr l) = rw (le-ltb a b l) (omega arith)
 
 pub below-zero : (v : ℤ) → ltZ v (pos 0) ≡ negative v
 below-zero (pos v) = le-ltb v 0 (omega arith)

@@ -1,16 +1,14 @@
 -- `file_of` meets its contract: each of the 256 bytes is written.
-use mathlib.Core.Path.{_≡_}
 use Prim.Native.Nat.{_≤_, _-_}
-use lib.ListN.{length, length-set}
 use borrow.Author.Needs.{needs}
 use Rattle.keys.proofs.files.file_of.Statement.{statement}
 use Rattle.keys.proofs.files.file_of.Tie as tie
 
 abbrev Inv-loop : tie.InvT-loop
-Inv-loop words bytes file₀ i₀ file i = i ≤ 256
+Inv-loop words file₀ i₀ file i = i ≤ 256
 
 abbrev μ-loop : tie.MeasureT-loop
-μ-loop words bytes file₀ i₀ file i = 256 - i
+μ-loop words file₀ i₀ file i = 256 - i
 
 loop-holds : tie.Need-loop-holds Inv-loop μ-loop
 loop-holds c = search needs
