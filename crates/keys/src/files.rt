@@ -37,13 +37,6 @@ fn file_of(words: &[u32]) -> [u8; 256] {
     file
 }
 
-// file, and how many bytes it has
-pub(crate) fn check_file(size: u32, words: &[u32]) {
-    let file = file_of(words);
-    let end = row::at_most(size as usize, 256);
-    out::file(listfile::check_file(&file[0..end]));
-}
-
 // Prints the count of a listing, and the lent text.
 fn print_listing(count: usize, text: &[u8]) {
     out::number(count as u64);
@@ -52,17 +45,18 @@ fn print_listing(count: usize, text: &[u8]) {
     out::line(b"|");
 }
 
-// Lists into the lent text.
+// Checks a file, and lists it into the lent text.
 fn list_into(file: &[u8], text: &mut [u8]) {
+    out::file(listfile::check_file(file));
     let count = listfile::list_file(file, text);
     print_listing(count, text);
 }
 
-// listing, how many bytes the file has, and the lent text, which is filled with #
-pub(crate) fn list_file(size: u32, lent: u32, words: &[u32]) {
-    let file = file_of(words);
-    let end = row::at_most(size as usize, 256);
-    let room = row::at_most(lent as usize, 256);
+// file, how many bytes it has, and the size of the lent text, which is filled with #
+pub(crate) fn file(numbers: &[u32], words: &[u32]) {
+    let laid = file_of(words);
+    let size = row::size(numbers, 0);
+    let lent = row::size(numbers, 1);
     let mut text = [b'#'; 256];
-    list_into(&file[0..end], &mut text[0..room]);
+    list_into(&laid[0..size], &mut text[0..lent]);
 }

@@ -1,6 +1,6 @@
 // The inverse list and balancing, with lent tables of at most 256 entries.
 use super::out;
-use super::row::at_most;
+use super::row;
 use balance::Balanced;
 use runs::Checked;
 
@@ -24,17 +24,17 @@ fn invert_into(
 }
 
 // inverse-list n, and the sizes of the two lent tables
-pub(crate) fn inverse_list(n: u32, size: u32, size_2: u32, starts: &[u32], images: &[u32]) {
-    let end = at_most(size as usize, 256);
-    let end_2 = at_most(size_2 as usize, 256);
+pub(crate) fn inverse_list(numbers: &[u32], starts: &[u32], images: &[u32]) {
+    let size = row::size(numbers, 1);
+    let size_2 = row::size(numbers, 2);
     let mut to_starts = [7u32; 256];
     let mut to_images = [7u32; 256];
     invert_into(
-        n,
+        row::number(numbers, 0),
         starts,
         images,
-        &mut to_starts[0..end],
-        &mut to_images[0..end_2],
+        &mut to_starts[0..size],
+        &mut to_images[0..size_2],
     );
 }
 
@@ -78,32 +78,23 @@ fn balance_into(
 }
 
 // balance n d, and the sizes of the three lent tables and of the working table
-pub(crate) fn balance(
-    n: u32,
-    d: u32,
-    size: u32,
-    size_2: u32,
-    size_3: u32,
-    size_4: u32,
-    starts: &[u32],
-    images: &[u32],
-) {
-    let end = at_most(size as usize, 256);
-    let end_2 = at_most(size_2 as usize, 256);
-    let end_3 = at_most(size_3 as usize, 256);
-    let end_4 = at_most(size_4 as usize, 256);
+pub(crate) fn balance(numbers: &[u32], starts: &[u32], images: &[u32]) {
+    let size = row::size(numbers, 2);
+    let size_2 = row::size(numbers, 3);
+    let size_3 = row::size(numbers, 4);
+    let size_4 = row::size(numbers, 5);
     let mut to_starts = [7u32; 256];
     let mut to_images = [7u32; 256];
     let mut to_holders = [7u32; 256];
     let mut working = [7u32; 256];
     balance_into(
-        n,
+        row::number(numbers, 0),
         starts,
         images,
-        d,
-        &mut to_starts[0..end],
-        &mut to_images[0..end_2],
-        &mut to_holders[0..end_3],
-        &mut working[0..end_4],
+        row::number(numbers, 1),
+        &mut to_starts[0..size],
+        &mut to_images[0..size_2],
+        &mut to_holders[0..size_3],
+        &mut working[0..size_4],
     );
 }

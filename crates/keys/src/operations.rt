@@ -2,6 +2,7 @@
 use super::files;
 use super::lists;
 use super::out;
+use super::reading;
 use super::row;
 use super::row::Row;
 use bookmarks::Bookmark;
@@ -26,107 +27,91 @@ fn index_of(names: &[u8], word: &[u8]) -> usize
     index
 }
 
-// What a row has: ten for each number, one for each slice, 5,000 where the last number has more than 32 bits, and what no
-// operation wants where the row is not readable.
+// What a row has: ten for each number and one for each slice, or what no operation wants where it is not readable.
 fn has(row: Row) -> usize
-    ensures { λ r. ⌜ r ≤ 9999 ⌝ }
+    ensures { λ r. ⌜ r ≤ 99 ⌝ }
 {
-    let counts = 10 * row::at_most(row.count, 9) + row::at_most(row.slices, 9);
     if !row.readable {
-        return 9999;
+        return 99;
     }
-    if 4294967295 < row.last {
-        return 5000 + counts;
+    if reading::ROOM < row.used {
+        return 99;
     }
-    counts
+    10 * row::at_most(row.ends[1], 9) + row::at_most(row.slices, 9)
 }
 
 // What a row calls: a hundred for each word before its own, and what it has.
 fn code_of(word: &[u8], row: Row) -> usize {
     100
         * index_of(
-            b"check inverse-list balance file listing find move moves inverse weight under bookmark bookmark-moves",
+            b"check inverse-list balance file find move moves inverse weight under bookmark bookmark-moves #",
             word,
         )
         + has(row)
 }
 
 // Runs what is called on a list or a file.
-fn call_list(code: usize, n: u32, p: u32, q: u32, r: u32, s: u32, t: u32, a: &[u32], b: &[u32]) {
+fn call_list(code: usize, numbers: &[u32], a: &[u32], b: &[u32]) {
     match code {
-        12 => out::checked(runs::check(n, a, b)),
-        132 => lists::inverse_list(n, p, q, a, b),
-        262 => lists::balance(n, p, q, r, s, t, a, b),
-        311 => files::check_file(n, a),
-        421 => files::list_file(n, p, a),
+        12 => out::checked(runs::check(row::number(numbers, 0), a, b)),
+        132 => lists::inverse_list(numbers, a, b),
+        262 => lists::balance(numbers, a, b),
+        321 => files::file(numbers, a),
         _ => out::line(b" no call"),
     }
 }
 
-// Moves a bookmark.
-fn advance(n: u32, b: Bookmark, starts: &[u32], images: &[u32], holders: &[u32]) {
-    out::marked(bookmarks::advanced(n, starts, images, holders, b));
+// Moves a bookmark, whose numbers stand behind n: place, interval, moves, and starts passed as two of 32 bits, the high
+// one first.
+fn advance(numbers: &[u32], starts: &[u32], images: &[u32], holders: &[u32]) {
+    let high = row::number(numbers, 4) as u64;
+    let low = row::number(numbers, 5) as u64;
+    let before = Bookmark {
+        place: row::number(numbers, 1),
+        interval: row::number(numbers, 2),
+        moves: row::number(numbers, 3),
+        passed: high * 4294967296 + low,
+    };
+    out::marked(bookmarks::advanced(row::number(numbers, 0), starts, images, holders, before));
 }
 
-// Runs what is called on tables: a, b and c are starts, images and holders.
-fn call_walk(
-    code: usize,
-    n: u32,
-    p: u32,
-    q: u32,
-    r: u32,
-    last: u64,
-    a: &[u32],
-    b: &[u32],
-    c: &[u32],
-) {
+// Runs what is called on tables: a, b and c are starts, images and holders. A heading calls nothing.
+fn call_walk(code: usize, numbers: &[u32], a: &[u32], b: &[u32], c: &[u32]) {
+    let n = row::number(numbers, 0);
+    let p = row::number(numbers, 1);
+    let q = row::number(numbers, 2);
+    let r = row::number(numbers, 3);
     match code {
-        523 => out::found(tables::find(n, a, b, c, p)),
-        633 => out::moved(tables::move_query(n, a, b, c, p, q)),
-        743 => out::moved(tables::repeated_moves(n, a, b, c, p, q, r)),
-        823 => out::inverted(tables::inverse(n, a, b, c, p)),
-        923 => out::weighed(tables::weight(n, a, b, c, p)),
-        1023 => out::stretch(tables::starts_under(n, a, b, c, p)),
-        1153 | 6153 => advance(
-            n,
-            Bookmark {
-                place: p,
-                interval: q,
-                moves: r,
-                passed: last,
-            },
-            a,
-            b,
-            c,
-        ),
-        1243 => out::marked(bookmarks::bookmark_moves(n, a, b, c, p, q, r)),
+        423 => out::found(tables::find(n, a, b, c, p)),
+        533 => out::moved(tables::move_query(n, a, b, c, p, q)),
+        643 => out::moved(tables::repeated_moves(n, a, b, c, p, q, r)),
+        723 => out::inverted(tables::inverse(n, a, b, c, p)),
+        823 => out::weighed(tables::weight(n, a, b, c, p)),
+        923 => out::stretch(tables::starts_under(n, a, b, c, p)),
+        1063 => advance(numbers, a, b, c),
+        1143 => out::marked(bookmarks::bookmark_moves(n, a, b, c, p, q, r)),
+        1200..=1299 => {}
         _ => out::line(b" no call"),
     }
 }
 
 // Runs what is called. A number or a slice that the row lacks is 0 or empty, and is not looked at.
-fn call(code: usize, numbers: [u32; 8], last: u64, a: &[u32], b: &[u32], c: &[u32]) {
-    let n = numbers[0];
-    let p = numbers[1];
-    let q = numbers[2];
-    let r = numbers[3];
-    if code < 500 {
-        call_list(code, n, p, q, r, numbers[4], numbers[5], a, b);
+fn call(code: usize, numbers: &[u32], a: &[u32], b: &[u32], c: &[u32]) {
+    if code < 400 {
+        call_list(code, numbers, a, b);
         return;
     }
-    call_walk(code, n, p, q, r, last, a, b, c);
+    call_walk(code, numbers, a, b, c);
 }
 
-// Runs a row behind its word, which is printed.
+// Runs a row.
 pub(crate) fn run(word: &[u8], row: Row, entries: &[u32]) {
-    let numbers = row.numbers;
     let ends = row.ends;
     call(
         code_of(word, row),
-        numbers,
-        row.last,
-        row::slice(entries, ends, 0),
-        row::slice(entries, ends, 1),
-        row::slice(entries, ends, 2),
+        row::part(entries, ends, 0),
+        row::part(entries, ends, 1),
+        row::part(entries, ends, 2),
+        row::part(entries, ends, 3),
     );
 }
