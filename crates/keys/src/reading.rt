@@ -22,20 +22,6 @@ fn with_digit(mut row: Row, digit: u8) -> Row {
     row
 }
 
-// The row with the number that was read, at least 2, as how often the next one stands there.
-fn with_times(mut row: Row) -> Row {
-    if row.times != 1 {
-        row.readable = false;
-    }
-    if row.value < 2 {
-        row.readable = false;
-    }
-    row.times = row.value;
-    row.begun = false;
-    row.value = 0;
-    row
-}
-
 // So many more entries, where there is room for those before.
 fn grown(used: usize, times: u32) -> usize {
     if ROOM < used {
@@ -44,62 +30,72 @@ fn grown(used: usize, times: u32) -> usize {
     used + times as usize
 }
 
-// The row with the number that was read, as often as it stands there, in its last part.
-fn with_entries(mut row: Row) -> Row {
-    let g = row.slices;
-    if row::MOST < g {
+// The row with so many slices, of which the last one ends behind so many entries, and with no number that is being read.
+fn with_end(mut row: Row, slices: usize, used: usize) -> Row {
+    if row::MOST < slices {
+        row.readable = false;
         return row;
     }
-    let used = grown(row.used, row.times);
+    row.slices = slices;
     row.used = used;
-    row.ends[g + 1] = used;
+    row.ends[slices + 1] = used;
     row.begun = false;
     row.value = 0;
     row.times = 1;
     row
 }
 
-// The row at a space, or its end: the number that was read before it is complete.
-fn with_space(mut row: Row) -> Row {
-    if row.begun {
-        return with_entries(row);
+// Whether no number is being read.
+fn is_between(begun: bool, times: u32) -> bool {
+    if begun {
+        return false;
     }
-    if row.times != 1 {
-        row.readable = false;
-    }
-    row
+    times == 1
 }
 
-// The row with one more slice, which has no entries yet.
-fn with_slice(mut row: Row) -> Row {
-    let g = row.slices;
-    if row::MOST <= g {
-        row.readable = false;
-        return row;
+// Whether the number that was read can say how often the next one stands there.
+fn is_count(value: u32, times: u32) -> bool {
+    if value < 2 {
+        return false;
     }
-    row.slices = g + 1;
-    row.ends[g + 2] = row.used;
+    times == 1
+}
+
+// The row at a byte that is no digit. At a space or the row's end the number before it is complete; a colon stands behind
+// a space; and before a star stands how often the next number does, at least 2.
+fn with_mark(mut row: Row, b: u8) -> Row {
+    if b == b' ' {
+        if row.begun {
+            return with_end(row, row.slices, grown(row.used, row.times));
+        }
+        if row.times == 1 {
+            return row;
+        }
+    }
+    if b == b':' {
+        if is_between(row.begun, row.times) {
+            return with_end(row, row::at_most(row.slices, row::MOST) + 1, row.used);
+        }
+    }
+    if b == b'*' {
+        if is_count(row.value, row.times) {
+            row.times = row.value;
+            row.begun = false;
+            row.value = 0;
+            return row;
+        }
+    }
+    row.readable = false;
     row
 }
 
 // The row read one byte further.
-fn with_byte(mut row: Row, b: u8) -> Row {
-    if b == b' ' {
-        return with_space(row);
-    }
-    if b == b':' {
-        return with_slice(row);
-    }
-    if b == b'*' {
-        return with_times(row);
-    }
+fn with_byte(row: Row, b: u8) -> Row {
     if b < b'0' {
-        row.readable = false;
-        return row;
+        return with_mark(row, b);
     }
     if b'9' < b {
-        row.readable = false;
-        return row;
+        return with_mark(row, b);
     }
     with_digit(row, b - b'0')
 }
