@@ -29,6 +29,9 @@ mod out;
 mod reading;
 mod row;
 
+ghost use Prim.Native.Nat.{_≤_};
+ghost use lib.ListN.{length};
+
 // Prints a row, reads it and runs it.
 fn run_row(line: &[u8], entries: &mut [u32]) {
     out::line(line);
@@ -38,14 +41,13 @@ fn run_row(line: &[u8], entries: &mut [u32]) {
 }
 
 // Runs the rows one after the other.
-fn run_rows(text: &[u8], entries: &mut [u32]) {
+fn run_rows(text: &[u8], entries: &mut [u32])
+    requires { ⌜ length (now text) ≤ 65536 ⌝ }
+{
     let mut at = 0;
     while at < text.len() {
         let end = bytes::scan::find(text, at, text.len(), b'\n');
         run_row(&text[at..end], entries);
-        if end == text.len() {
-            return;
-        }
         at = end + 1;
     }
 }

@@ -75,7 +75,7 @@ fn advance(numbers: &[u32], starts: &[u32], images: &[u32], holders: &[u32]) {
     out::marked(bookmarks::advanced(row::number(numbers, 0), starts, images, holders, before));
 }
 
-// Runs a walk through tables: a, b and c are starts, images and holders.
+// Runs what is called on tables: a, b and c are starts, images and holders. A heading calls nothing.
 fn call_walk(code: usize, numbers: &[u32], a: &[u32], b: &[u32], c: &[u32]) {
     let n = row::number(numbers, 0);
     let p = row::number(numbers, 1);
@@ -86,19 +86,10 @@ fn call_walk(code: usize, numbers: &[u32], a: &[u32], b: &[u32], c: &[u32]) {
         533 => out::moved(tables::move_query(n, a, b, c, p, q)),
         643 => out::moved(tables::repeated_moves(n, a, b, c, p, q, r)),
         723 => out::inverted(tables::inverse(n, a, b, c, p)),
-        1143 => out::marked(bookmarks::bookmark_moves(n, a, b, c, p, q, r)),
-        _ => call_interval(code, numbers, a, b, c),
-    }
-}
-
-// Runs what is called on an interval of tables, or on a bookmark. A heading calls nothing.
-fn call_interval(code: usize, numbers: &[u32], a: &[u32], b: &[u32], c: &[u32]) {
-    let n = row::number(numbers, 0);
-    let x = row::number(numbers, 1);
-    match code {
-        823 => out::weighed(tables::weight(n, a, b, c, x)),
-        923 => out::stretch(tables::starts_under(n, a, b, c, x)),
+        823 => out::weighed(tables::weight(n, a, b, c, p)),
+        923 => out::stretch(tables::starts_under(n, a, b, c, p)),
         1063 => advance(numbers, a, b, c),
+        1143 => out::marked(bookmarks::bookmark_moves(n, a, b, c, p, q, r)),
         1200..=1299 => {}
         _ => out::line(b" no call"),
     }

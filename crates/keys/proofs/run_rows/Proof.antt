@@ -30,12 +30,6 @@ part-run-row-end c = search needs
 run-row-requires : tie.Need-run-row-requires Inv-loop μ-loop
 run-row-requires c κs = search needs
 
-same-length : tie.Need-same-length Inv-loop μ-loop
-same-length c = search needs
-
-returns : tie.Need-returns Inv-loop μ-loop
-returns c = search needs
-
 add-at : tie.Need-add-at Inv-loop μ-loop
 add-at c = search needs
 
@@ -45,11 +39,11 @@ loop-less c = search needs
 loop-again : tie.Need-loop-again Inv-loop μ-loop
 loop-again c = search needs
 
-same-length-2 : tie.Need-same-length-2 Inv-loop μ-loop
-same-length-2 c = search needs
+same-length : tie.Need-same-length Inv-loop μ-loop
+same-length c = search needs
 
-returns-2 : tie.Need-returns-2 Inv-loop μ-loop
-returns-2 c = search needs
+returns : tie.Need-returns Inv-loop μ-loop
+returns c = search needs
 
 pub run-rows-spec : {M : Type 1} → statement M
 run-rows-spec =
@@ -63,10 +57,8 @@ run-rows-spec =
     part-run-row-start
     part-run-row-end
     run-row-requires
-    same-length
-    returns
     add-at
     loop-less
     loop-again
-    same-length-2
-    returns-2)
+    same-length
+    returns)
