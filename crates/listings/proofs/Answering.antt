@@ -14,7 +14,7 @@ use Rattle.outcomes.specs.Refusal.{numberOf, placeOf}
 use Rattle.runs.specs.Runs.{Runs, runs, countOf}
 use Rattle.runs.specs.Check.{checkTests, checkOf}
 use Rattle.outcomes.specs.declared.Refusal.{Refusal}
-use Rattle.outcomes.proofs.Judging.{done-refused, judge-append}
+use Rattle.outcomes.proofs.Judging.{done-refused, judge-append, map-then}
 use Rattle.runs.proofs.Accepted.{accepted-legal}
 use Rattle.tables.specs.Tables.{Tables, tablesOf, sizeOf}
 use Rattle.balance.specs.Balance.{balanced, boundOf}
@@ -27,14 +27,14 @@ use Rattle.files.specs.Parts.{degreeOf, listedOf}
 use Rattle.files.specs.declared.Header.{Header}
 use Rattle.files.proofs.Bodies.{listed-done}
 use Rattle.listings.specs.Listing.{maxListed, tableText, listText}
-use Rattle.listings.specs.Parts.{maxIntervals, Listed, Tabled, Answered, answerText}
+use Rattle.listings.specs.Parts.{maxTabled, Listed, Tabled, Answered, answerText}
 
 -- lent tables with room for the balanced list of 1,024 runs at any degree
 pub record Spacious (l : Lent) : Type 0 where
-  pub starts : maxIntervals ≤ length (l .starts)
-  pub images : maxIntervals ≤ length (l .images)
-  pub holders : maxIntervals ≤ length (l .holders)
-  pub working : maxIntervals ≤ length (l .working)
+  pub starts : maxTabled ≤ length (l .starts)
+  pub images : maxTabled ≤ length (l .images)
+  pub holders : maxTabled ≤ length (l .holders)
+  pub working : maxTabled ≤ length (l .working)
 
 -- the bound is at most twice the count
 bound-twice : (d k : ℕ) → 2 ≤ d → boundOf d k ≤ 2 * k
@@ -43,11 +43,6 @@ bound-twice (suc zero) k h = absurd (omega arith)
 bound-twice (suc (suc f)) k h =
     let z : suc (suc f) - 1 ≡ suc f = omega arith in
     rw z (div-le-of-le-mul (suc f) {m = suc (suc f) * k} {n = 2 * k} (omega arith))
-
-map-then : {A B C : Type 0} (f : B → C) (o : Outcome A) (g : A → Outcome B) → mapDone f (andThen o g) ≡ andThen o (λ a. mapDone f (g a))
-unfolding mapDone andThen
-map-then f (done a) g = refl
-map-then f (refused k p) g = refl
 
 module _ (h : Header) (r : Runs) (few : countOf r ≤ maxListed) (entry : Lent) (s : Spacious entry) where
   -- the tables that balancing is to leave

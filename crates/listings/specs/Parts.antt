@@ -14,8 +14,8 @@ use Rattle.files.specs.declared.Header.{Header}
 use Rattle.listings.specs.Listing.{tableText}
 
 -- balancing makes at most twice as many intervals as there are runs, at any degree
-abbrev pub maxIntervals : ℕ
-maxIntervals = 2048
+abbrev pub maxTabled : ℕ
+maxTabled = 2048
 
 -- No line of an interval is longer: six numbers of 10 digits, with a byte after each, and a sign. Nor is a first line, of
 -- four such numbers, and so no listing is longer than `maxText`.
@@ -32,7 +32,7 @@ maxText = 137260
 pub record Listed (n : ℕ) (t : Tables) : Type 0 where
   pub legal : Legal n (t .list)
   pub held : t ≡ tablesOf n (t .list)
-  pub few : sizeOf t ≤ maxIntervals
+  pub few : sizeOf t ≤ maxTabled
 
 -- what an answer of balancing makes the text, with the first tables as it left them
 unfoldable pub answerText : Header → Balanced → Runs → List ℕ

@@ -27,7 +27,7 @@ ghost use Rattle.listings.specs.Parts.{maxText, Answered, answerText};
 pub const MAX_LISTED: usize = 1024;
 
 // Twice as many: the most intervals.
-const MAX_INTERVALS: usize = 2048;
+const MAX_TABLED: usize = 2048;
 
 // No listing has more bytes.
 pub const MAX_TEXT: usize = 137260;
@@ -66,10 +66,10 @@ fn list_runs(page: &mut [u8], h: Header, starts: &[u32], images: &[u32]) -> usiz
     requires { ⌜ (length (now starts) ≤ maxListed) × (maxText ≤ length (now page)) ⌝ }
     ensures { λ r. ⌜ Wrote (now (page .entry)) 0 (listText (runs (now (starts .entry)) (now (images .entry))) (listedOf h (runs (now (starts .entry)) (now (images .entry))))) (now (page .exit)) r ⌝ }
 {
-    let mut to_starts: [u32; MAX_INTERVALS] = [0; MAX_INTERVALS];
-    let mut to_images: [u32; MAX_INTERVALS] = [0; MAX_INTERVALS];
-    let mut to_holders: [u32; MAX_INTERVALS] = [0; MAX_INTERVALS];
-    let mut working: [u32; MAX_INTERVALS] = [0; MAX_INTERVALS];
+    let mut to_starts: [u32; MAX_TABLED] = [0; MAX_TABLED];
+    let mut to_images: [u32; MAX_TABLED] = [0; MAX_TABLED];
+    let mut to_holders: [u32; MAX_TABLED] = [0; MAX_TABLED];
+    let mut working: [u32; MAX_TABLED] = [0; MAX_TABLED];
     let answer = balance::balance(
         h.n,
         starts,

@@ -1,5 +1,5 @@
--- The starts under an image and their number: of a list (document 01, "The collection's objects"), and as walked on any
--- tables ("Walking"). On the tables of a legal list the two are one (proofs/Walks).
+-- The starts under an image and their number as walked on any tables (document 01, "Walking"). On the tables of a legal
+-- list they are those of the list (proofs/LegalWeights).
 use Prim.Native.Nat.{ℕ, _+_}
 use mathlib.Core.Bool.{Bool, _&&_, _||_}
 use mathlib.Core.List.{List, [], _∷_}
