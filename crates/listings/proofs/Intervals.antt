@@ -11,7 +11,7 @@ use Rattle.outcomes.specs.Outcome.{done, refused}
 use Rattle.runs.specs.Runs.{startOf, imageOf, imageEnd, shiftOf, runAt}
 use Rattle.outcomes.proofs.Judging.{done-refused}
 use Rattle.runs.proofs.Sums.{inside, length-keep}
-use Rattle.runs.proofs.Legality.{homes, home, run-at}
+use Rattle.runs.proofs.Legality.{image-below, own}
 use Rattle.tables.specs.Tables.{Tables, sizeOf, holderOf}
 use Rattle.runs.specs.Weight.{weight}
 use Rattle.weights.specs.Under.{weightOf}
@@ -24,16 +24,14 @@ use Rattle.listings.specs.Parts.{maxRow, Listed}
 use Rattle.listings.proofs.Lengths.{shift-small, row-length}
 
 module _ (n : ℕ) (t : Tables) (l : Listed n t) (x : ℕ) (h : x < sizeOf t) where
-  image-below : imageOf (t .list) x < n
-  image-below = omega (arith, homes n (t .list) (l .legal) .lasting x h, l .legal .within x h)
+  below : imageOf (t .list) x < n
+  below = image-below n (t .list) (l .legal) x h
 
   holder-run : holderOf t x ≡ runAt n (t .list) (imageOf (t .list) x)
   holder-run = ap (λ (τ : Tables). holderOf τ x) (l .held) ∙ holder-is n (t .list) (l .legal) (omega (arith, l .few)) x h
 
   holder-below : runAt n (t .list) (imageOf (t .list) x) < sizeOf t
-  holder-below =
-      let y = home n (t .list) (homes n (t .list) (l .legal)) (imageOf (t .list) x) image-below in
-      rw (run-at n (t .list) (homes n (t .list) (l .legal)) (y .0) (imageOf (t .list) x) (y .1) (y .2) (y .3)) (y .1)
+  holder-below = own n (t .list) (l .legal) (imageOf (t .list) x) below .0
 
   weight-few : weight n (t .list) x ≤ sizeOf t
   weight-few = omega (arith, length-keep (inside (imageOf (t .list) x) (imageEnd n (t .list) x)) (t .list .starts), count-le (inside (imageOf (t .list) x) (imageEnd n (t .list) x)) (t .list .starts))
@@ -48,7 +46,7 @@ module _ (n : ℕ) (t : Tables) (l : Listed n t) (x : ℕ) (h : x < sizeOf t) wh
     pub bits-small : natAbs (toZ w64 (ofZ w64 z)) < maxSize
     bits-small =
         rw (bits-back z f, e)
-        (shift-small (imageOf (t .list) x) (startOf (t .list) x) (omega (arith, image-below)) (omega (arith, l .legal .below x h)))
+        (shift-small (imageOf (t .list) x) (startOf (t .list) x) (omega (arith, below)) (omega (arith, l .legal .below x h)))
 
     pub row-bits : (w : ℕ) → w ≡ weight n (t .list) x
         → rowText x (startOf (t .list) x) (imageOf (t .list) x) (toZ w64 (ofZ w64 z)) (holderOf t x) w ≡ rowOf n (t .list) x
@@ -61,8 +59,8 @@ module _ (n : ℕ) (t : Tables) (l : Listed n t) (x : ℕ) (h : x < sizeOf t) wh
   unfolding rowOf
   row-most m =
       row-length x (startOf (t .list) x) (imageOf (t .list) x) (shiftOf (t .list) x) (runAt n (t .list) (imageOf (t .list) x)) (weight n (t .list) x)
-      (omega (arith, l .few)) (omega (arith, l .legal .below x h)) (omega (arith, image-below))
-      (shift-small (imageOf (t .list) x) (startOf (t .list) x) (omega (arith, image-below)) (omega (arith, l .legal .below x h))) (omega (arith, holder-below, l .few)) (omega (arith, weight-few, l .few))
+      (omega (arith, l .few)) (omega (arith, l .legal .below x h)) (omega (arith, below))
+      (shift-small (imageOf (t .list) x) (startOf (t .list) x) (omega (arith, below)) (omega (arith, l .legal .below x h))) (omega (arith, holder-below, l .few)) (omega (arith, weight-few, l .few))
 
   -- the weight that it is given
   weight-is : weightOf n t x ≡ done (weight n (t .list) x)

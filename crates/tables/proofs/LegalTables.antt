@@ -16,7 +16,7 @@ use Rattle.runs.specs.Runs.{Runs, countOf, startOf, imageOf, endOf, runAt, mapO
 use Rattle.runs.specs.Legal.{Legal}
 use Rattle.order.proofs.Laws.{getD-default}
 use Rattle.outcomes.proofs.Searches.{first-only}
-use Rattle.runs.proofs.Legality.{homes, home, run-at}
+use Rattle.runs.proofs.Legality.{homes, run-at, image-below, own}
 use Rattle.runs.proofs.Bijection.{map-below}
 use Rattle.tables.specs.Tables.{tablesOf, holderOf, unheld, maxIntervals}
 use Rattle.tables.specs.Move.{passed, walkCount, stepTo, stepOf, findOf, moveOf, movesOf, onwards}
@@ -35,21 +35,12 @@ module _ (n : ℕ) (r : Runs) (c : Legal n r) (few : countOf r ≤ maxIntervals)
       let f = e ∙ sym (length-map (r .images) (runAt n r)) in
       shaped n (tablesOf n r) _ refl (fitting n (tablesOf n r) (omega (arith, c .below 0 (c .some))) (c .some) e f few)
 
-  -- the run that has a place
-  pub own : (p : ℕ) → p < n → (runAt n r p < countOf r) × (startOf r (runAt n r p) ≤ p) × (p < endOf n r (runAt n r p))
-  own p h =
-      let x = home n r (homes n r c) p h in
-      rw (run-at n r (homes n r c) (x .0) p (x .1) (x .2) (x .3)) (x .1, x .2, x .3)
-
   pub legal-located : (p : ℕ) → p < n → Located n (tablesOf n r) (runAt n r p) p
   legal-located p h =
-      let x = own p h in
+      let x = own n r c p h in
       record { at = record { shape = shape; index = x .0 }; place = h; low = x .1; high = x .2 }
 
   module _ (x : ℕ) (h : x < countOf r) where
-    image-below : imageOf r x < n
-    image-below = omega (arith, homes n r c .lasting x h, c .within x h)
-
     pub holder-is : holderOf (tablesOf n r) x ≡ runAt n r (imageOf r x)
     holder-is =
         let l : x < length (map (runAt n r) (r .images)) = omega (arith, length-map (r .images) (runAt n r), c .paired) in
@@ -58,7 +49,7 @@ module _ (n : ℕ) (r : Runs) (c : Legal n r) (few : countOf r ≤ maxIntervals)
 
     pub legal-held : unheld (tablesOf n r) x ≡ false
     legal-held =
-        let y = own (imageOf r x) image-below in
+        let y = own n r c (imageOf r x) (image-below n r c x h) in
         held (tablesOf n r) x (rw holder-is (y .0)) (rw holder-is (y .1))
 
   -- find gives the run that has the place
@@ -93,12 +84,12 @@ module _ (n : ℕ) (r : Runs) (c : Legal n r) (few : countOf r ≤ maxIntervals)
     legal-step : stepOf (tablesOf n r) (runAt n r p) p ≡ plainMove n r r p
     unfolding stepOf stepTo plainMove
     legal-step =
-        rw (holder-is (runAt n r p) (own p h .0))
+        rw (holder-is (runAt n r p) (own n r c p h .0))
         (λ i. record { place = mapOf n r p; interval = legal-interval i; count = legal-count i })
 
     pub legal-move : moveOf n (tablesOf n r) (runAt n r p) p ≡ done (plainMove n r r p)
     legal-move =
-        let b = whole n (tablesOf n r) (runAt n r p) p (legal-held (runAt n r p) (own p h .0)) (map-in n r c p h .2) in
+        let b = whole n (tablesOf n r) (runAt n r p) p (legal-held (runAt n r p) (own n r c p h .0)) (map-in n r c p h .2) in
         move-located n (tablesOf n r) (runAt n r p) p (legal-located p h)
         ∙ sym (advance-on n (tablesOf n r) (runAt n r p) p b)
         ∙ ap done legal-step
