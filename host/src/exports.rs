@@ -25,17 +25,29 @@ pub struct BalanceAnswer {
     pub intervals: u32,
 }
 
-/// The answer of [`find`], [`inverse`] and [`weight`].
+/// The answer of [`find`] and [`inverse`].
 #[repr(C)]
 #[derive(Clone, Copy, Debug, PartialEq, Eq)]
 pub struct IntervalAnswer {
     /// 0, or the paper's number.
     pub number: u32,
-    /// The place given with the number. Where the call is done, find's is the place asked about, inverse's the place
-    /// that it is reached from, and weight's 0.
+    /// The place given with the number. Where the call is done, find's is the place asked about, and inverse's the place
+    /// that it is reached from.
     pub place: u32,
-    /// The interval that has the place; of `weight`, the weight.
+    /// The interval that has the place.
     pub interval: u32,
+}
+
+/// The answer of [`weight`].
+#[repr(C)]
+#[derive(Clone, Copy, Debug, PartialEq, Eq)]
+pub struct WeightAnswer {
+    /// 0, or the paper's number.
+    pub number: u32,
+    /// The place given with the number; 0 where the call is done.
+    pub place: u32,
+    /// How many starts lie under the interval's image.
+    pub weight: u32,
 }
 
 /// The answer of [`move_once`].
@@ -94,7 +106,7 @@ unsafe extern "C" {
     ) -> IntervalAnswer;
     fn zibewoka_weight(
         n: u32, starts: Ptr, k: usize, images: Ptr, ki: usize, holders: Ptr, kh: usize, interval: u32,
-    ) -> IntervalAnswer;
+    ) -> WeightAnswer;
 }
 
 /// `zibewoka_check`.
@@ -209,6 +221,6 @@ pub fn inverse(n: u32, starts: &[u32], images: &[u32], holders: &[u32], place: u
 }
 
 /// `zibewoka_weight`.
-pub fn weight(n: u32, starts: &[u32], images: &[u32], holders: &[u32], interval: u32) -> IntervalAnswer {
+pub fn weight(n: u32, starts: &[u32], images: &[u32], holders: &[u32], interval: u32) -> WeightAnswer {
     on_tables!(zibewoka_weight, n, starts, images, holders, interval)
 }

@@ -192,5 +192,5 @@ pub fn inverse(n: u32, starts: &[u32], images: &[u32], holders: &[u32], place: u
 pub fn weight(n: u32, starts: &[u32], images: &[u32], holders: &[u32], interval: u32) -> Result<u32, Refusal> {
     let answer = exports::weight(n, starts, images, holders, interval);
     done(answer.number, answer.place)?;
-    Ok(answer.interval)
+    Ok(answer.weight)
 }

@@ -3,20 +3,14 @@ use Prim.Native.Nat.{ℕ, zero, suc, _≤_}
 use mathlib.Core.Path.{_≡_, refl, ap, _∙_}
 use mathlib.Core.List.{List, [], _∷_}
 use native.Mathlib.Omega.{arith}
-use lib.ListN.{length, take, drop, length-map}
-use lib.Seq.{take-append-seam}
-use Rattle.outcomes.specs.Outcome.{Outcome, done, mapDone, filled}
+use lib.ListN.{length, take, length-map}
+use Rattle.outcomes.specs.Outcome.{done, mapDone}
+use Rattle.outcomes.proofs.Judging.{filled-head}
 use Rattle.runs.specs.Runs.{Runs, countOf, runAt}
 use Rattle.tables.specs.Tables.{Tables, tables, tablesOf, sizeOf}
 use Rattle.cuts.specs.Balance.{balanced}
 use Rattle.balance.specs.Lent.{Lent, firstOf, balancedSays, balanceOf, Balances}
 use Rattle.balance.specs.declared.Balanced.{Balanced}
-
--- what is written to the head of a table stands there
-filled-head : {A : Type 0} (l : A → List ℕ) (a : A) (o : Outcome A) (k : ℕ) (table : List ℕ) → o ≡ done a → length (l a) ≡ k
-    → take k (filled l o table) ≡ l a
-unfolding filled
-filled-head l a o k table e h = rw (e, ← h) (take-append-seam (l a) (drop (length (l a)) table))
 
 -- a head of full length is within its list
 take-full : (k : ℕ) (l : List ℕ) → length (take k l) ≡ k → k ≤ length l

@@ -11,7 +11,7 @@ use Rattle.outcomes.specs.Outcome.{Outcome, done, refused}
 use Rattle.tables.specs.Tables.{Tables}
 use Rattle.tables.specs.Move.{movedSays, movesOf}
 use Rattle.bookmarks.specs.Bookmark.{bookmarkOf, markAfter, Advances, Marking, marking, markingOf, markingsOf}
-use Rattle.bookmarks.specs.Passed.{isRefused}
+use Rattle.bookmarks.specs.Parts.{isRefused}
 use Rattle.tables.specs.declared.Step.{Step}
 use Rattle.bookmarks.specs.declared.Bookmark.{Bookmark}
 use Rattle.tables.specs.declared.Moved.{Moved}

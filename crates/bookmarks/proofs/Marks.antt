@@ -12,7 +12,7 @@ use Rattle.outcomes.proofs.Judging.{judge-append, judge-done}
 use Rattle.tables.specs.Tables.{Tables}
 use Rattle.tables.specs.Move.{movedSays, stepOf, moveOf, moveTests}
 use Rattle.bookmarks.specs.Bookmark.{overflows, bookmarkOf, markAfter, Advances}
-use Rattle.bookmarks.specs.Passed.{markOf}
+use Rattle.bookmarks.specs.Parts.{markOf}
 use Rattle.tables.specs.declared.Step.{Step}
 use Rattle.bookmarks.specs.declared.Bookmark.{Bookmark}
 use Rattle.tables.specs.declared.Moved.{Moved}

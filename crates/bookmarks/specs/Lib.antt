@@ -1,3 +1,3 @@
 -- The definitions of a bookmark and of its moves, in reading order.
 pub mod Bookmark
-pub mod Passed
+pub mod Parts

@@ -8,7 +8,7 @@ ghost use mathlib.Core.Path.{_≡_};
 ghost use Rattle.tables.specs.Tables.{tables};
 ghost use Rattle.bookmarks.specs.Bookmark.{overflows, Advances};
 ghost use Rattle.tables.specs.Move.{movedSays};
-ghost use Rattle.bookmarks.specs.Passed.{Marks, isRefused};
+ghost use Rattle.bookmarks.specs.Parts.{Marks, isRefused};
 
 // Test 13: whether a counter would pass its width.
 fn would_overflow(b: Bookmark, s: Step) -> bool

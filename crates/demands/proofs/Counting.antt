@@ -13,8 +13,9 @@ use Rattle.order.proofs.Laws.{all-append, sum-append}
 use Rattle.outcomes.specs.Outcome.{_then_else_}
 use Rattle.runs.specs.Runs.{Runs, mapOf}
 use Rattle.demands.specs.Calls.{Call, find, move, moves, total, movesIn, countIn}
-use Rattle.demands.specs.PlainWalk.{plainMove, plainMoves, plainWalk, movesCounts, walkCounts}
-use Rattle.demands.proofs.Serving.{move-below, moves-below}
+use Rattle.tables.specs.Plain.{plainMove, plainMoves}
+use Rattle.demands.specs.PlainWalk.{plainWalk, movesCounts, walkCounts}
+use Rattle.tables.proofs.PlainMoves.{move-below, moves-below}
 
 module _ (n : ℕ) (r t : Runs) where
   moves-length : (m p : ℕ) → length (movesCounts n r t m p) ≡ m

@@ -7,13 +7,13 @@ use mathlib.Core.List.{List, [], _∷_, map}
 use native.Mathlib.Nat.{not-suc-le-zero, le-of-suc-le-suc}
 use native.Mathlib.Omega.{arith}
 use lib.ListN.{length}
-use Rattle.outcomes.specs.Outcome.{Outcome, done, refused, Test, test, judge, mapDone, filled, _then_else_}
+use Rattle.outcomes.specs.Outcome.{Outcome, done, refused, Test, test, judge, _then_else_}
 use Rattle.outcomes.specs.Refusal.{checkedSays}
 use Rattle.runs.specs.Runs.{Runs}
 use Rattle.runs.specs.Check.{listTests, checkTests, checkOf}
 use Rattle.runs.specs.Inverse.{inverseListOf, InverseListed}
 use Rattle.outcomes.specs.declared.Checked.{Checked}
-use Rattle.outcomes.proofs.Judging.{done-refused}
+use Rattle.outcomes.proofs.Judging.{done-refused, map-refused, filled-refused}
 use Rattle.tables.specs.Tables.{sizeOf}
 use Rattle.tables.specs.Move.{findOf, moveOf, movesOf}
 use Rattle.preimages.specs.Inverse.{inverseOf}
@@ -24,7 +24,7 @@ use Rattle.bookmarks.specs.Bookmark.{bookmarkOf}
 use Rattle.bookmarks.proofs.Marks.{bookmark-kept}
 use Rattle.balance.specs.Lent.{Lent, balancedSays, balanceOf, Balances}
 use Rattle.balance.specs.declared.Balanced.{Balanced}
-use Rattle.listfile.specs.File.{countTests, layoutTests, headerTests, bodyTests, fileTests, fileOf}
+use Rattle.files.specs.File.{countTests, layoutTests, headerTests, bodyTests, fileTests, fileOf}
 use Rattle.demands.specs.Judged.{NoneOf, RefusedBy, Judged}
 use Rattle.demands.specs.Demands.{Demand1}
 
@@ -68,15 +68,6 @@ module _ {A : Type 0} (a : A) where
       go false q e rest = refused-first t ts k p q (rest e)
 
 -- a refusal goes through to the lent tables
-map-refused : {A B : Type 0} (f : A → B) (o : Outcome A) (k p : ℕ) → mapDone f o ≡ refused k p → o ≡ refused k p
-unfolding mapDone
-map-refused f (done a) k p e = absurd (done-refused (f a) k p e)
-map-refused f (refused k′ p′) k p e = cc
-
-filled-refused : {A : Type 0} (l : A → List ℕ) (o : Outcome A) (k p : ℕ) (t : List ℕ) → o ≡ refused k p → filled l o t ≡ t
-unfolding filled
-filled-refused l o k p t e = rw e
-
 inverse-list-kept : (n : ℕ) (r : Runs) (a b a′ b′ : List ℕ) (o : Checked) → InverseListed n r a b a′ b′ o
     → (k p : ℕ) → checkedSays o ≡ refused k p → (a′ ≡ a) × (b′ ≡ b)
 inverse-list-kept n r a b a′ b′ o c k p e =

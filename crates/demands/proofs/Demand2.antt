@@ -10,6 +10,7 @@ use Rattle.runs.proofs.Accepted.{accepted-legal}
 use Rattle.runs.proofs.Sequences.{accepted-sequence, sequence-accepted}
 use Rattle.runs.proofs.Intervals.{accepted-intervals, intervals-accepted}
 use Rattle.tables.specs.Tables.{maxIntervals}
+use Rattle.files.proofs.Accepted.{file-accepted}
 use Rattle.cuts.specs.Balance.{balanced}
 use Rattle.cuts.proofs.Balancing.{balanced-legal, balanced-map, balanced-cuts}
 use Rattle.demands.specs.Demands.{Through, Demand2}
@@ -27,6 +28,7 @@ pub demand2 : Demand2
 demand2 = record {
   accepted = λ n r. (accepted-sequence n r, λ h. sequence-accepted n r (h .0) (h .1));
   accepted-disjoint = λ n r. (accepted-intervals n r, λ h. intervals-accepted n r (h .0) (h .1));
+  accepted-file = file-accepted;
   own-tables = λ n r a. let l = accepted-legal n r a in through n r r (l .0) (l .0) (omega (arith, l .1)) (λ p h. refl);
   balanced-tables = λ n r d a many few. let l = accepted-legal n r a in through-balanced n r (l .0) (l .1) d many;
 }

@@ -8,15 +8,12 @@ use native.Mathlib.Omega.{arith}
 use lib.ListN.{length}
 use Rattle.order.specs.Lists.{All}
 use Rattle.outcomes.specs.Outcome.{refused}
-use Rattle.runs.specs.Runs.{Runs, countOf, startOf, imageOf, endOf, runAt, carry, mapOf}
+use Rattle.runs.specs.Runs.{Runs, countOf, runAt}
 use Rattle.runs.specs.Legal.{Legal}
 use Rattle.runs.specs.Check.{maxRuns}
 use Rattle.runs.proofs.Accepted.{accepted-legal}
-use Rattle.runs.proofs.Legality.{homes, home, run-at}
 use Rattle.tables.specs.Tables.{tablesOf, maxIntervals}
-use Rattle.runs.specs.Weight.{weight}
 use Rattle.bookmarks.specs.Bookmark.{fresh, Marking, markingsOf}
-use Rattle.runs.proofs.Walks.{above-to, walk-bound}
 use Rattle.tables.proofs.LegalTables.{legal-find-beyond}
 use Rattle.tables.specs.Move.{findOf}
 use Rattle.cuts.specs.Balance.{balanced}
@@ -24,24 +21,15 @@ use Rattle.balance.proofs.Heads.{answer-is, head-is}
 use Rattle.balance.proofs.Outcomes.{balance-done}
 use Rattle.cuts.proofs.Balancing.{balanced-legal, balanced-map, balanced-light, balanced-count}
 use Rattle.demands.specs.Calls.{Call, total, countIn, Bounded}
-use Rattle.demands.specs.PlainWalk.{plainMove, plainMoves, walkCounts, plainTrail}
+use Rattle.tables.specs.Plain.{maxCount, plainMove, plainMoves}
+use Rattle.tables.proofs.PlainMoves.{count-most}
+use Rattle.demands.specs.PlainWalk.{walkCounts, plainTrail}
 use Rattle.demands.specs.Served.{served, servedTrail}
 use Rattle.demands.specs.Demands.{Through, Serves, Demand3}
 use Rattle.demands.proofs.Demand2.{balanced-few, through-balanced}
 use Rattle.demands.proofs.Serving.{same-replies}
 use Rattle.demands.proofs.Counting.{counts-length, counts-sum, counts-most, all-most}
 use Rattle.demands.proofs.Marking.{fresh-stands, same-trail, trail-bounds, end-bounds, advance-bounds, advancing-served, trail-last}
-
--- no move of a walk over a light list passes 2d starts
-move-most : (n d : ℕ) (r t : Runs) → Legal n t → ((p : ℕ) → p < n → mapOf n t p ≡ mapOf n r p)
-    → ((x : ℕ) → x < countOf t → weight n t x < 2 * d) → (p : ℕ) → p < n → plainMove n r t p .count ≤ 2 * d - 1
-unfolding plainMove
-move-most n d r t c same light p h = go (home n t (homes n t c) p h)
-  where
-    go : (x : ℕ) × (x < countOf t) × (startOf t x ≤ p) × (p < endOf n t x) → plainMove n r t p .count ≤ 2 * d - 1
-    go (x, hx, a, b) =
-        rw (← same p h, run-at n t (homes n t c) x p hx a b)
-        (omega (arith, above-to (imageOf t x) (carry t x p) (t .starts), walk-bound n t c x p hx a b, light x hx))
 
 module _ (n : ℕ) (r : Runs) (d : ℕ) (c : Legal n r) (k : countOf r ≤ maxRuns) (many : 2 ≤ d) (few : d ≤ 64) where
   abbrev t : Runs
@@ -53,15 +41,15 @@ module _ (n : ℕ) (r : Runs) (d : ℕ) (c : Legal n r) (k : countOf r ≤ maxRu
   not-found : (i : ℕ) → n ≤ i → findOf n (tablesOf n t) i ≡ refused 11 i
   not-found = legal-find-beyond n t (balanced-legal d n many r c) (balanced-few n r c k d many)
 
-  most : (p : ℕ) → p < n → plainMove n r t p .count ≤ 2 * d - 1
-  most = move-most n d r t (balanced-legal d n many r c) (balanced-map d n many r c) (balanced-light d n many r c)
+  most : (p : ℕ) → p < n → plainMove n r t p .count ≤ maxCount d
+  most = count-most n d r t (balanced-legal d n many r c) (balanced-map d n many r c) (balanced-light d n many r c)
 
-  small : 2 * d - 1 ≤ maxIntervals
+  small : maxCount d ≤ maxIntervals
   small = omega arith
 
   fresh-trail : (m p : ℕ) → p < n → servedTrail n (tablesOf n t) m (fresh p (runAt n t p)) ≡ plainTrail n r t m p 0 0
   fresh-trail m p h =
-      same-trail n (2 * d - 1) r t (tablesOf n t) (walks .move) (walks .inside) most small m p 0 0 h (omega arith) (omega arith)
+      same-trail n (maxCount d) r t (tablesOf n t) (walks .move) (walks .inside) most small m p 0 0 h (omega arith) (omega arith)
 
   fresh-end : (m p : ℕ) → p < n → plainTrail n r t (suc m) p 0 0
       ≡ plainTrail n r t m p 0 0 ++ (markingsOf n (tablesOf n t) (suc m) (fresh p (runAt n t p)) ∷ [])
@@ -71,17 +59,17 @@ module _ (n : ℕ) (r : Runs) (d : ℕ) (c : Legal n r) (k : countOf r ≤ maxRu
       ∙ trail-last n (tablesOf n t) m b
       ∙ ap (λ (l : List Marking). l ++ (markingsOf n (tablesOf n t) (suc m) b ∷ [])) (fresh-trail m p h)
 
-  bounds-at : (m p : ℕ) → p < n → Bounded (2 * d - 1) (markingsOf n (tablesOf n t) m (fresh p (runAt n t p)))
+  bounds-at : (m p : ℕ) → p < n → Bounded (maxCount d) (markingsOf n (tablesOf n t) m (fresh p (runAt n t p)))
   unfolding markingsOf plainMoves
   bounds-at zero p h = record { move = rw (walks .moves 0 p h .0) (omega arith); sum = omega arith }
   bounds-at (suc m) p h =
-      end-bounds n (2 * d - 1) r t (tablesOf n t) (walks .move) (walks .inside) most small m (fresh p (runAt n t p))
-      (fresh-stands n (2 * d - 1) r t p h)
+      end-bounds n (maxCount d) r t (tablesOf n t) (walks .move) (walks .inside) most small m (fresh p (runAt n t p))
+      (fresh-stands n (maxCount d) r t p h)
 
   -- the tables of the balanced list serve the plain walk
   pub tables-serve : Serves n r t d (tablesOf n t)
   tables-serve =
-      let b = 2 * d - 1 in
+      let b = maxCount d in
       let replies = same-replies n r t (tablesOf n t) (walks .find) not-found (walks .move) (λ m q i. walks .moves m q i .0) (walks .inside) in
       let each : (p : ℕ) → p < n → (cs : List Call) → All (All (λ c. c ≤ b)) (walkCounts n r t p cs) =
       λ p h cs. counts-most n b r t (walks .inside) most cs p h in

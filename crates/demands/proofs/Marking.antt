@@ -21,7 +21,8 @@ use Rattle.bookmarks.proofs.Marks.{bookmark-overflow, bookmark-goes}
 use Rattle.bookmarks.proofs.Markings.{advances-marking}
 use Rattle.tables.specs.declared.Step.{Step}
 use Rattle.demands.specs.Calls.{Bounded}
-use Rattle.demands.specs.PlainWalk.{plainMove, plainTrail, standing}
+use Rattle.tables.specs.Plain.{plainMove}
+use Rattle.demands.specs.PlainWalk.{plainTrail, standing}
 use Rattle.demands.specs.Served.{servedTrail, Advancing}
 
 -- one turn of each trail

@@ -1,6 +1,6 @@
 -- A whole list of calls is served as the plain walk answers it, if each single call is (the section's hypotheses): by
 -- induction over the calls, since each leaves the place and the interval that has it.
-use Prim.Native.Nat.{ℕ, zero, suc, _≤_, _<_}
+use Prim.Native.Nat.{ℕ, _≤_, _<_}
 use mathlib.Core.Path.{_≡_, refl, ap}
 use mathlib.Core.Bool.{Bool, true, false}
 use mathlib.Core.List.{List, [], _∷_}
@@ -11,24 +11,10 @@ use Rattle.runs.specs.Runs.{Runs, runAt, mapOf}
 use Rattle.tables.specs.Tables.{Tables}
 use Rattle.tables.specs.Move.{findOf, moveOf, movesOf}
 use Rattle.demands.specs.Calls.{Call, find, move, moves, Reply, found, moved}
-use Rattle.demands.specs.PlainWalk.{plainMove, plainMoves, plainFind, plainWalk}
+use Rattle.tables.specs.Plain.{plainMove, plainMoves}
+use Rattle.tables.proofs.PlainMoves.{moves-interval, moves-below}
+use Rattle.demands.specs.PlainWalk.{plainFind, plainWalk}
 use Rattle.demands.specs.Served.{served}
-
--- a plain move and a repeated one stand at a place below n, and the second in the interval that has it
-module _ (n : ℕ) (r t : Runs) (below : (p : ℕ) → p < n → mapOf n r p < n) where
-  pub move-below : (p : ℕ) → p < n → plainMove n r t p .place < n
-  unfolding plainMove
-  move-below p h = below p h
-
-  pub moves-below : (m p : ℕ) → p < n → plainMoves n r t m p .place < n
-  unfolding plainMoves plainMove
-  moves-below zero p h = h
-  moves-below (suc m) p h = below _ (moves-below m p h)
-
-pub moves-interval : (n : ℕ) (r t : Runs) (m p : ℕ) → plainMoves n r t m p .interval ≡ runAt n t (plainMoves n r t m p .place)
-unfolding plainMoves plainMove
-moves-interval n r t zero p = refl
-moves-interval n r t (suc m) p = refl
 
 pub find-below : (n : ℕ) (r t : Runs) (i : ℕ) → i < n → plainFind n r t i ≡ done (runAt n t i)
 unfolding plainFind judge

@@ -2,77 +2,57 @@
 -- own tables (tables/proofs/LegalTables), said as the plain walk says them.
 use Prim.Native.Nat.{ℕ, zero, suc, _+_, _*_, _^_, _≤_, _<_}
 use mathlib.Core.Path.{_≡_, refl, sym, ap, _∙_}
-use mathlib.Core.Bool.{Bool}
-use mathlib.Core.List.{List}
-use lib.ListN.{length}
 use native.Mathlib.Numerals.{add-one}
 use native.Mathlib.Omega.{arith}
-use Rattle.order.proofs.Laws.{count-le}
 use Rattle.outcomes.specs.Outcome.{done}
-use Rattle.outcomes.specs.Search.{keep}
 use Rattle.runs.specs.Runs.{Runs, countOf, runAt, mapOf, powerOf}
 use Rattle.runs.specs.Legal.{Legal}
-use Rattle.runs.proofs.Sums.{length-keep}
 use Rattle.runs.proofs.Bijection.{map-below, power-below, map-injective, map-onto}
 use Rattle.tables.specs.Tables.{tablesOf, maxIntervals}
-use Rattle.tables.specs.Move.{moveOf}
+use Rattle.tables.specs.Move.{moveOf, countedAfter}
 use Rattle.preimages.specs.Inverse.{inverseOf}
-use Rattle.tables.specs.Function.{passedFrom, stepFrom, passedIn, stepsFrom}
 use Rattle.tables.specs.declared.Step.{Step}
 use Rattle.tables.proofs.LegalTables.{legal-find, legal-move, legal-moves}
 use Rattle.preimages.proofs.LegalPreimages.{legal-inverse}
 use Rattle.bookmarks.specs.declared.Bookmark.{Bookmark}
 use Rattle.bookmarks.specs.Bookmark.{fresh, Marking, marking, markingOf, markingsOf}
-use Rattle.demands.specs.PlainWalk.{plainMove, plainMoves, standing}
+use Rattle.tables.specs.Plain.{plainMove, plainMoves}
+use Rattle.tables.proofs.PlainMoves.{count-few, moves-place, moves-below}
+use Rattle.demands.specs.PlainWalk.{standing}
 use Rattle.demands.specs.Demands.{Through}
 use Rattle.demands.proofs.Marking.{mark-goes}
 
 module _ (n : ℕ) (r t : Runs) (c : Legal n t) (same : (p : ℕ) → p < n → mapOf n t p ≡ mapOf n r p) where
   -- one step of both
-  step-plain : (p : ℕ) → p < n → stepFrom n t p ≡ plainMove n r t p
+  step-plain : (p : ℕ) → p < n → plainMove n t t p ≡ plainMove n r t p
   unfolding plainMove
   step-plain p h = rw (same p h)
 
-  power-same : (m p : ℕ) → p < n → powerOf n t m p ≡ powerOf n r m p
-  unfolding powerOf
-  power-same zero p h = refl
-  power-same (suc m) p h = same _ (power-below n t c m p h) ∙ ap (mapOf n r) (power-same m p h)
-
-  steps-plain : (m p : ℕ) → p < n → stepsFrom n t m p ≡ plainMoves n r t m p
-  unfolding powerOf passedIn plainMoves
+  steps-plain : (m p : ℕ) → p < n → plainMoves n t t m p ≡ plainMoves n r t m p
+  unfolding plainMoves
   steps-plain zero p h = refl
   steps-plain (suc m) p h =
-      let s = plainMoves n r t m p in
-      let e : powerOf n t m p ≡ s .place = ap (λ (u : Step). u .place) (steps-plain m p h) in
-      let q : passedIn n t m p ≡ s .count = ap (λ (u : Step). u .count) (steps-plain m p h) in
-      let f : stepFrom n t (powerOf n t m p) ≡ plainMove n r t (s .place) = step-plain _ (power-below n t c m p h) ∙ ap (plainMove n r t) e in
-      λ i. record { place = f i .place; interval = f i .interval; count = q i + f i .count }
-
--- a walk passes no more starts than there are
-keep-few : (f : ℕ → Bool) (l : List ℕ) → length (keep f l) ≤ length l
-keep-few f l = omega (arith, length-keep f l, count-le f l)
-
-passed-few : (n : ℕ) (t : Runs) (p q : ℕ) → passedFrom n t p q ≤ countOf t
-passed-few n t p q = keep-few _ (t .starts)
+      let s = plainMoves n t t m p in
+      ap (countedAfter (s .count)) (step-plain (s .place) (moves-below n t t (map-below n t c) m p h))
+      ∙ ap (λ (u : Step). countedAfter (u .count) (plainMove n r t (u .place))) (steps-plain m p h)
 
 -- m moves of a bookmark that is fresh at p, by the moves of the list
 module _ (n : ℕ) (r t : Runs) (few : countOf t ≤ maxIntervals)
     (move-to : (p : ℕ) → p < n → moveOf n (tablesOf n t) (runAt n t p) p ≡ done (plainMove n r t p))
-    (place-is : (m p : ℕ) → p < n → plainMoves n r t m p .place ≡ powerOf n r m p)
     (power-below : (m p : ℕ) → p < n → powerOf n r m p < n) where
-  count-few : (p : ℕ) → plainMove n r t p .count ≤ maxIntervals
+  count-small : (p : ℕ) → plainMove n r t p .count ≤ maxIntervals
   unfolding plainMove
-  count-few p = omega (arith, passed-few n t p (mapOf n r p))
+  count-small p = omega (arith, count-few n t p (mapOf n r p))
 
   counts-few : (m p : ℕ) → plainMoves n r t m p .count ≤ m * maxIntervals
   unfolding plainMoves
   counts-few zero p = omega arith
-  counts-few (suc m) p = omega (arith, counts-few m p, count-few (plainMoves n r t m p .place))
+  counts-few (suc m) p = omega (arith, counts-few m p, count-small (plainMoves n r t m p .place))
 
   counts-next : (m p : ℕ) → p < n
       → plainMoves n r t m p .count + plainMove n r t (powerOf n r m p) .count ≡ plainMoves n r t (suc m) p .count
   unfolding plainMoves
-  counts-next m p h = ap (λ (q : ℕ). plainMoves n r t m p .count + plainMove n r t q .count) (sym (place-is m p h))
+  counts-next m p h = ap (λ (q : ℕ). plainMoves n r t m p .count + plainMove n r t q .count) (sym (moves-place n r t m p))
 
   next : (m p : ℕ) → p < n → suc m < 2 ^ 32
       → markingOf n (tablesOf n t) (standing n r t (powerOf n r m p) m (plainMoves n r t m p .count))
@@ -83,7 +63,7 @@ module _ (n : ℕ) (r t : Runs) (few : countOf t ≤ maxIntervals)
       let q = powerOf n r m p in
       let c = plainMoves n r t m p .count in
       mark-goes n r t (tablesOf n t) move-to q m c (power-below m p h) (omega arith)
-      (omega (arith, counts-few m p, count-few q))
+      (omega (arith, counts-few m p, count-small q))
       ∙ rw (add-one, ← counts-next m p h)
 
   marks-lead : (m p : ℕ) → p < n → m < 2 ^ 32
@@ -107,14 +87,12 @@ pub through : (n : ℕ) (r t : Runs) → Legal n r → Legal n t → countOf t �
 through n r t l c few same =
     let move-to : (p : ℕ) → p < n → moveOf n (tablesOf n t) (runAt n t p) p ≡ done (plainMove n r t p) =
     λ p h. legal-move n t c few p h ∙ ap done (step-plain n r t c same p h) in
-    let place-is : (m p : ℕ) → p < n → plainMoves n r t m p .place ≡ powerOf n r m p =
-    λ m p h. sym (ap (λ (u : Step). u .place) (steps-plain n r t c same m p h)) ∙ power-same n r t c same m p h in
     record {
       find = legal-find n t c few;
       move = move-to;
-      moves = λ m p h. (legal-moves n t c few m p h ∙ ap done (steps-plain n r t c same m p h), place-is m p h);
+      moves = λ m p h. (legal-moves n t c few m p h ∙ ap done (steps-plain n r t c same m p h), moves-place n r t m p);
       bookmark = mark-goes n r t (tablesOf n t) move-to;
-      bookmark-moves = marks-are n r t few move-to place-is (power-below n r l);
+      bookmark-moves = marks-are n r t few move-to (power-below n r l);
       inverse = λ p h. ap (inverseOf n (tablesOf n t)) (sym (same p h)) ∙ legal-inverse n t c few p h;
       onto = map-onto n r l;
       inside = map-below n r l;

@@ -14,7 +14,7 @@ use Rattle.runs.specs.Check.{maxRuns, checkTests, checkOf}
 use Rattle.runs.specs.Inverse.{inverseRuns, inverseListTests, inverseListOf, InverseListed}
 use Rattle.outcomes.specs.declared.Checked.{Checked}
 use Rattle.tables.specs.Tables.{Tables, tablesOf}
-use Rattle.tables.specs.Move.{movedSays, findTests, locateTests, moveTests, passed, stepOf, findOf, moveOf, movesOf, Stopped}
+use Rattle.tables.specs.Move.{movedSays, findTests, locateTests, moveTests, passed, stepOf, stayAt, findOf, moveOf, movesOf, Stopped}
 use Rattle.preimages.specs.Inverse.{sourceOf, inverseTests, inverseOf}
 use Rattle.weights.specs.Under.{underTests, underCount, weightOf, startsUnderOf}
 use Rattle.tables.specs.declared.Moved.{Moved}
@@ -24,10 +24,14 @@ use Rattle.bookmarks.specs.declared.Marked.{Marked}
 use Rattle.cuts.specs.Balance.{balanced, boundOf}
 use Rattle.balance.specs.Lent.{Lent, Room, firstOf, balancedSays, balanceTests, balanceOf, Balances}
 use Rattle.balance.specs.declared.Balanced.{Balanced}
-use Rattle.listfile.specs.File.{fileTests, headerOf, fileOf}
+use Rattle.files.specs.Words.{headerOf}
+use Rattle.files.specs.File.{fileTests, fileOf}
+use Rattle.files.specs.Right.{RightFile}
+use Rattle.files.specs.declared.Header.{Header}
 use Rattle.demands.specs.Judged.{Judged}
 use Rattle.demands.specs.Calls.{Call, total, movesIn, allMoves, countIn, allCounts, Bounded}
-use Rattle.demands.specs.PlainWalk.{plainMove, plainMoves, plainWalk, walkCounts, plainTrail, standing}
+use Rattle.tables.specs.Plain.{maxCount, plainMove, plainMoves}
+use Rattle.demands.specs.PlainWalk.{plainWalk, walkCounts, plainTrail, standing}
 use Rattle.demands.specs.Served.{served, servedTrail, Advancing}
 
 -- DEMAND 1. Whatever numbers a list, a file, tables or a bookmark have, the call is worked on or refused with a number, by
@@ -44,7 +48,7 @@ pub record Demand1 : Type 0 where
       → Judged (9 ∷ 10 ∷ 11 ∷ 12 ∷ []) (moveTests n t x i) (stepOf t x i) (moveOf n t x i)
   -- a repeated move of no moves; any other is refused as that one is, or on the way, by the interval it could not leave
   pub no-move : (n : ℕ) (t : Tables) (x i : ℕ)
-      → Judged (9 ∷ 10 ∷ 11 ∷ []) (locateTests n t x i) (record { place = i; interval = x; count = 0 }) (movesOf n t 0 x i)
+      → Judged (9 ∷ 10 ∷ 11 ∷ []) (locateTests n t x i) (stayAt x i) (movesOf n t 0 x i)
   pub moves : (n : ℕ) (t : Tables) (m x i k p : ℕ) → movesOf n t m x i ≡ refused k p
       → (movesOf n t 0 x i ≡ refused k p) ⊎ Stopped n t m x i k p
   pub inverse : (n : ℕ) (t : Tables) (j : ℕ)
@@ -97,6 +101,8 @@ pub record Demand2 : Type 0 where
   pub accepted : (n : ℕ) (r : Runs) → (checkOf n r ≡ done tt) ↔ ((countOf r ≤ maxRuns) × IntervalSequence n r)
   -- the same in the words of source document 002
   pub accepted-disjoint : (n : ℕ) (r : Runs) → (checkOf n r ≡ done tt) ↔ ((countOf r ≤ maxRuns) × DisjointIntervals n r)
+  -- a file is accepted if and only if its header, its list and its degree are right; its header is then given
+  pub accepted-file : (bytes : List ℕ) (h : Header) → (fileOf maxRuns bytes ≡ done h) ↔ ((h ≡ headerOf bytes) × RightFile bytes)
   pub own-tables : (n : ℕ) (r : Runs) → checkOf n r ≡ done tt → Through n r r
   pub balanced-tables : (n : ℕ) (r : Runs) (d : ℕ) → checkOf n r ≡ done tt → 2 ≤ d → d ≤ 64 → Through n r (balanced d n r)
 
@@ -114,20 +120,20 @@ pub record Serves (n : ℕ) (r t : Runs) (d : ℕ) (τ : Tables) : Type 0 where
   pub move-counts : (p : ℕ) → p < n → (cs : List Call) → map length (walkCounts n r t p cs) ≡ map movesIn cs
   pub reply-counts : (p : ℕ) → p < n → (cs : List Call)
       → map countIn (served n τ p (runAt n t p) cs) ≡ map total (walkCounts n r t p cs)
-  pub each-move : (p : ℕ) → p < n → (cs : List Call) → All (All (λ c. c ≤ 2 * d - 1)) (walkCounts n r t p cs)
-  pub all-moves : (p : ℕ) → p < n → (cs : List Call) → allCounts (served n τ p (runAt n t p) cs) ≤ allMoves cs * (2 * d - 1)
+  pub each-move : (p : ℕ) → p < n → (cs : List Call) → All (All (λ c. c ≤ maxCount d)) (walkCounts n r t p cs)
+  pub all-moves : (p : ℕ) → p < n → (cs : List Call) → allCounts (served n τ p (runAt n t p) cs) ≤ allMoves cs * maxCount d
   -- m moves of a bookmark that is fresh at p: each answer, the bookmark after it, and the bounds of both
   pub same-trail : (p : ℕ) → p < n → (m : ℕ) → servedTrail n τ m (fresh p (runAt n t p)) ≡ plainTrail n r t m p 0 0
-  pub trail-bounds : (p : ℕ) → p < n → (m : ℕ) → All (Bounded (2 * d - 1)) (servedTrail n τ m (fresh p (runAt n t p)))
+  pub trail-bounds : (p : ℕ) → p < n → (m : ℕ) → All (Bounded (maxCount d)) (servedTrail n τ m (fresh p (runAt n t p)))
   -- the same over the contract of `advance`: any number of calls on that one bookmark
   pub same-advances : (p : ℕ) → p < n → (ms : List Marked) → Advancing n τ (fresh p (runAt n t p)) ms
       → map markedSays ms ≡ plainTrail n r t (length ms) p 0 0
   pub advance-bounds : (p : ℕ) → p < n → (ms : List Marked) → Advancing n τ (fresh p (runAt n t p)) ms
-      → All (λ m. Bounded (2 * d - 1) (markedSays m)) ms
+      → All (λ m. Bounded (maxCount d) (markedSays m)) ms
   -- and over that of `bookmark_moves`: what m + 1 moves say, and leave, is the last of that trail
   pub same-end : (p : ℕ) → p < n → (m : ℕ)
       → plainTrail n r t (suc m) p 0 0 ≡ plainTrail n r t m p 0 0 ++ (markingsOf n τ (suc m) (fresh p (runAt n t p)) ∷ [])
-  pub end-bounds : (p : ℕ) → p < n → (m : ℕ) → Bounded (2 * d - 1) (markingsOf n τ m (fresh p (runAt n t p)))
+  pub end-bounds : (p : ℕ) → p < n → (m : ℕ) → Bounded (maxCount d) (markingsOf n τ m (fresh p (runAt n t p)))
 
 abbrev pub Demand3 : Type 0
 Demand3 =

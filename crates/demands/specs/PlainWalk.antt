@@ -7,27 +7,13 @@ use lib.Dec.{ltb, leb}
 use Rattle.outcomes.specs.Outcome.{Outcome, done, refused, test, judge, _then_else_}
 use Rattle.runs.specs.Runs.{Runs, runAt, mapOf}
 use Rattle.bookmarks.specs.Bookmark.{Marking, marking}
-use Rattle.tables.specs.Function.{passedFrom}
-use Rattle.tables.specs.declared.Step.{Step}
+use Rattle.tables.specs.Plain.{plainMove, plainMoves}
 use Rattle.bookmarks.specs.declared.Bookmark.{Bookmark}
 use Rattle.demands.specs.Calls.{Call, find, move, moves, Reply, found, moved}
 
--- r is the accepted run list, t the balanced list. The walk stands at a place p, in the interval of t that has it.
+-- r is the accepted run list, t the balanced list. The walk stands at a place p, in the interval of t that has it. Moves and
+-- repeated moves are plainMove and plainMoves (tables/specs/Plain).
 module _ (n : ℕ) (r t : Runs) where
-  -- A move goes from p to q, the place that r sends it to, and answers q, the interval of t that has q, and how many starts
-  -- of t lie above the image of p's interval and not above q (passedFrom).
-  unfoldable pub plainMove : ℕ → Step
-  plainMove p =
-      record { place = mapOf n r p; interval = runAt n t (mapOf n r p); count = passedFrom n t p (mapOf n r p) }
-
-  -- m such moves answer where the last one leads, and the sum of the counts; none answer where the walk stands.
-  unfoldable pub plainMoves : ℕ → ℕ → Step
-  plainMoves zero p = record { place = p; interval = runAt n t p; count = 0 }
-  plainMoves (suc m) p =
-      let s = plainMoves m p in
-      let q = plainMove (s .place) in
-      record { place = q .place; interval = q .interval; count = s .count + q .count }
-
   -- A find at i answers the interval of t that has i; where i is not below n it is refused with 11 and i.
   unfoldable pub plainFind : ℕ → Outcome ℕ
   plainFind i = judge (test 11 (leb n i) i ∷ []) (runAt n t i)
@@ -37,20 +23,20 @@ module _ (n : ℕ) (r t : Runs) where
   unfoldable pub plainWalk : ℕ → List Call → List Reply
   plainWalk p [] = []
   plainWalk p (find i ∷ cs) = found (plainFind i) ∷ plainWalk (ltb i n then i else p) cs
-  plainWalk p (move ∷ cs) = moved (done (plainMove p)) ∷ plainWalk (plainMove p .place) cs
-  plainWalk p (moves m ∷ cs) = moved (done (plainMoves m p)) ∷ plainWalk (plainMoves m p .place) cs
+  plainWalk p (move ∷ cs) = moved (done (plainMove n r t p)) ∷ plainWalk (plainMove n r t p .place) cs
+  plainWalk p (moves m ∷ cs) = moved (done (plainMoves n r t m p)) ∷ plainWalk (plainMoves n r t m p .place) cs
 
   -- the counts of m moves from p, one by one
   unfoldable pub movesCounts : ℕ → ℕ → List ℕ
   movesCounts zero p = []
-  movesCounts (suc m) p = movesCounts m p ++ (plainMove (plainMoves m p .place) .count ∷ [])
+  movesCounts (suc m) p = movesCounts m p ++ (plainMove n r t (plainMoves n r t m p .place) .count ∷ [])
 
   -- for each call of a list, the counts of its single moves
   unfoldable pub walkCounts : ℕ → List Call → List (List ℕ)
   walkCounts p [] = []
   walkCounts p (find i ∷ cs) = [] ∷ walkCounts (ltb i n then i else p) cs
-  walkCounts p (move ∷ cs) = (plainMove p .count ∷ []) ∷ walkCounts (plainMove p .place) cs
-  walkCounts p (moves m ∷ cs) = movesCounts m p ∷ walkCounts (plainMoves m p .place) cs
+  walkCounts p (move ∷ cs) = (plainMove n r t p .count ∷ []) ∷ walkCounts (plainMove n r t p .place) cs
+  walkCounts p (moves m ∷ cs) = movesCounts m p ∷ walkCounts (plainMoves n r t m p .place) cs
 
   -- where the walk stands, as a bookmark: with the moves made and the sum of their counts
   abbrev pub standing : ℕ → ℕ → ℕ → Bookmark
@@ -60,7 +46,7 @@ module _ (n : ℕ) (r t : Runs) where
   unfoldable pub plainTrail : ℕ → ℕ → ℕ → ℕ → List Marking
   plainTrail zero p m c = []
   plainTrail (suc k) p m c =
-      let s = plainMove p in
+      let s = plainMove n r t p in
       elim (leb 4294967295 m) [
         | true ↦ marking (refused 13 0) (standing p m c) ∷ plainTrail k p m c
         | false ↦ marking (done s) (standing (s .place) (m + 1) (c + s .count)) ∷ plainTrail k (s .place) (m + 1) (c + s .count)

@@ -1,192 +1,100 @@
-// Check, the inverse list and balancing.
+// The inverse list and balancing, with lent tables of at most 256 entries.
 use super::out;
+use super::row;
+use balance::Balanced;
+use outcomes::Checked;
 
-// 1 to 6 but 2, and an accepted list.
-pub(crate) fn checks() {
-    out::checked(b"check", runs::check(4, &[0, 2], &[2, 0]));
-    out::checked(b"check", runs::check(0, &[0, 2], &[2, 0]));
-    out::checked(b"check", runs::check(4, &[0, 2], &[2]));
-    out::checked(b"check", runs::check(4, &[1, 2], &[2, 0]));
-    out::checked(b"check", runs::check(4, &[0, 0], &[2, 0]));
-    out::checked(b"check", runs::check(4, &[0, 4], &[2, 0]));
-    out::checked(b"check", runs::check(4, &[0, 2], &[0, 3]));
-    out::checked(b"check", runs::check(4, &[0, 2], &[0, 1]));
+// Prints an answer, and the lent tables.
+fn print_inverse(answer: Checked, to_starts: &[u32], to_images: &[u32]) {
+    out::checked(answer);
+    out::now(to_starts);
+    out::now(to_images);
 }
 
-// 2: one run more than a list may have.
-pub(crate) fn too_many() {
-    let many = [0u32; 16385];
-    let mut a = [7u32; 2];
-    let mut b = [7u32; 2];
-    let mut c = [7u32; 2];
-    let mut w = [7u32; 2];
-    out::checked(b"check", runs::check(4, &many, &many));
-    out::checked(
-        b"inverse-list",
-        runs::inverse_list(4, &many, &many, &mut a, &mut b),
-    );
-    out::balanced(
-        b"balance",
-        balance::balance(4, &many, &many, 2, &mut a, &mut b, &mut c, &mut w),
-    );
+// Inverts into the lent tables.
+fn invert_into(
+    n: u32,
+    starts: &[u32],
+    images: &[u32],
+    to_starts: &mut [u32],
+    to_images: &mut [u32],
+) {
+    let answer = runs::inverse_list(n, starts, images, to_starts, to_images);
+    print_inverse(answer, to_starts, to_images);
 }
 
-// Asks for an inverse list in tables of six entries.
-fn invert_in_six(n: u32, starts: &[u32], images: &[u32]) {
-    let mut a = [7u32; 6];
-    let mut b = [7u32; 6];
-    out::checked(
-        b"inverse-list",
-        runs::inverse_list(n, starts, images, &mut a, &mut b),
+// inverse-list n, and the sizes of the two lent tables
+pub(crate) fn inverse_list(numbers: &[u32], starts: &[u32], images: &[u32]) {
+    let size = row::size(numbers, 1);
+    let size_2 = row::size(numbers, 2);
+    let mut to_starts = [7u32; 256];
+    let mut to_images = [7u32; 256];
+    invert_into(
+        row::number(numbers, 0),
+        starts,
+        images,
+        &mut to_starts[0..size],
+        &mut to_images[0..size_2],
     );
 }
 
-// 1 to 8 of the inverse list but 2, and the document's list inverted.
-pub(crate) fn inverses() {
-    let mut a = [7u32; 6];
-    let mut b = [7u32; 6];
-    let mut c = [7u32; 1];
-    invert_in_six(4, &[], &[]);
-    invert_in_six(4, &[1, 2], &[2, 0]);
-    invert_in_six(4, &[0, 0], &[2, 0]);
-    invert_in_six(4, &[0, 2], &[0, 3]);
-    invert_in_six(4, &[0, 2], &[0, 1]);
-    out::checked(
-        b"inverse-list",
-        runs::inverse_list(4, &[0, 2], &[2, 0], &mut a, &mut c),
-    );
-    out::checked(
-        b"inverse-list",
-        runs::inverse_list(16, &[0, 2, 4, 6, 8], &[14, 12, 10, 8, 0], &mut a, &mut b),
-    );
-    out::entries(&a);
-    out::entries(&b);
+// Prints an answer, and the lent tables.
+fn print_balanced(
+    answer: Balanced,
+    to_starts: &[u32],
+    to_images: &[u32],
+    to_holders: &[u32],
+    working: &[u32],
+) {
+    out::balanced(answer);
+    out::now(to_starts);
+    out::now(to_images);
+    out::now(to_holders);
+    out::now(working);
 }
 
-// Balances in tables of ten entries.
-fn balance_in_ten(n: u32, starts: &[u32], images: &[u32], d: u32) {
-    let mut a = [7u32; 10];
-    let mut b = [7u32; 10];
-    let mut c = [7u32; 10];
-    let mut w = [7u32; 10];
-    out::balanced(
-        b"balance",
-        balance::balance(n, starts, images, d, &mut a, &mut b, &mut c, &mut w),
+// Balances into the lent tables.
+fn balance_into(
+    n: u32,
+    starts: &[u32],
+    images: &[u32],
+    d: u32,
+    to_starts: &mut [u32],
+    to_images: &mut [u32],
+    to_holders: &mut [u32],
+    working: &mut [u32],
+) {
+    let answer = balance::balance(
+        n,
+        starts,
+        images,
+        d,
+        to_starts,
+        to_images,
+        to_holders,
+        working,
     );
+    print_balanced(answer, to_starts, to_images, to_holders, working);
 }
 
-// 1 and 3 to 7 of balancing.
-pub(crate) fn balances() {
-    balance_in_ten(0, &[0], &[0], 2);
-    balance_in_ten(4, &[1, 2], &[2, 0], 2);
-    balance_in_ten(4, &[0, 0], &[2, 0], 2);
-    balance_in_ten(4, &[0, 2], &[0, 3], 2);
-    balance_in_ten(4, &[0, 2], &[0, 1], 2);
-    balance_in_ten(4, &[0, 2], &[2, 0], 65);
-    balance_in_ten(4, &[0, 2], &[2, 0], 1);
-}
-
-// Tables of 9 at d 2, though 6 would do.
-pub(crate) fn nine() {
-    let mut a = [7u32; 9];
-    let mut b = [7u32; 9];
-    let mut c = [7u32; 9];
-    let mut w = [7u32; 9];
-    out::balanced(
-        b"balance",
-        balance::balance(
-            16,
-            &[0, 2, 4, 6, 8],
-            &[14, 12, 10, 8, 0],
-            2,
-            &mut a,
-            &mut b,
-            &mut c,
-            &mut w,
-        ),
-    );
-    out::balanced(
-        b"balance",
-        balance::balance(
-            16,
-            &[0, 2, 4, 6, 8],
-            &[14, 12, 10, 8, 0],
-            3,
-            &mut a,
-            &mut b,
-            &mut c,
-            &mut w,
-        ),
-    );
-}
-
-// d 3, where B is 7: the working table has one entry less.
-pub(crate) fn six() {
-    let mut a = [7u32; 7];
-    let mut b = [7u32; 7];
-    let mut c = [7u32; 7];
-    let mut w = [7u32; 6];
-    out::balanced(
-        b"balance",
-        balance::balance(
-            16,
-            &[0, 2, 4, 6, 8],
-            &[14, 12, 10, 8, 0],
-            3,
-            &mut a,
-            &mut b,
-            &mut c,
-            &mut w,
-        ),
-    );
-}
-
-// The document's list with room, at d 2.
-pub(crate) fn roomy() {
-    let mut a = [7u32; 11];
-    let mut b = [7u32; 11];
-    let mut c = [7u32; 11];
-    let mut w = [7u32; 11];
-    out::balanced(
-        b"balance",
-        balance::balance(
-            16,
-            &[0, 2, 4, 6, 8],
-            &[14, 12, 10, 8, 0],
-            2,
-            &mut a,
-            &mut b,
-            &mut c,
-            &mut w,
-        ),
-    );
-    out::entries(&a);
-    out::entries(&b);
-    out::entries(&c);
-    out::entries(&w);
-}
-
-// Source document 001's psi: no cut at d 2, and place 15.
-pub(crate) fn psi() {
-    let starts = [0, 1, 5, 6, 12, 17, 19, 22, 25, 32, 34, 42, 43];
-    let images = [11, 28, 2, 22, 32, 38, 42, 12, 15, 0, 3, 37, 40];
-    let mut a = [7u32; 26];
-    let mut b = [7u32; 26];
-    let mut c = [7u32; 26];
-    let mut w = [7u32; 26];
-    out::balanced(
-        b"balance",
-        balance::balance(45, &starts, &images, 2, &mut a, &mut b, &mut c, &mut w),
-    );
-    out::moved(
-        b"move",
-        tables::move_query(
-            45,
-            out::first(&a, 13),
-            out::first(&b, 13),
-            out::first(&c, 13),
-            4,
-            15,
-        ),
+// balance n d, and the sizes of the three lent tables and of the working table
+pub(crate) fn balance(numbers: &[u32], starts: &[u32], images: &[u32]) {
+    let size = row::size(numbers, 2);
+    let size_2 = row::size(numbers, 3);
+    let size_3 = row::size(numbers, 4);
+    let size_4 = row::size(numbers, 5);
+    let mut to_starts = [7u32; 256];
+    let mut to_images = [7u32; 256];
+    let mut to_holders = [7u32; 256];
+    let mut working = [7u32; 256];
+    balance_into(
+        row::number(numbers, 0),
+        starts,
+        images,
+        row::number(numbers, 1),
+        &mut to_starts[0..size],
+        &mut to_images[0..size_2],
+        &mut to_holders[0..size_3],
+        &mut working[0..size_4],
     );
 }

@@ -1,7 +1,8 @@
 // Lines of a name and numbers on standard output.
 use balance::Balanced;
+use bookmarks::Bookmark;
 use bookmarks::Marked;
-use listfile::FileChecked;
+use files::FileChecked;
 use outcomes::Checked;
 use outcomes::Refusal;
 use preimages::Inverted;
@@ -18,25 +19,13 @@ pub(crate) fn number(v: u64) {
     io::print_decimal(1, v);
 }
 
-// The first k entries.
-pub(crate) fn first(s: &[u32], k: usize) -> &[u32] {
-    if s.len() < k {
-        return s;
-    }
-    &s[..k]
+pub(crate) fn line(s: &[u8]) {
+    name(s);
+    end();
 }
 
-// The first k bytes.
-pub(crate) fn first_bytes(s: &[u8], k: usize) -> &[u8] {
-    if s.len() < k {
-        return s;
-    }
-    &s[..k]
-}
-
-// What a lent table holds.
+// Numbers to the line's end.
 pub(crate) fn entries(s: &[u32]) {
-    name(b"now");
     let mut i = 0;
     while i < s.len() {
         number(s[i] as u64);
@@ -45,8 +34,45 @@ pub(crate) fn entries(s: &[u32]) {
     end();
 }
 
+// How many entries a part of a table has, and which.
+pub(crate) fn stretch(s: &[u32]) {
+    number(s.len() as u64);
+    name(b" :");
+    entries(s);
+}
+
+// What a lent table holds.
+pub(crate) fn now(s: &[u32]) {
+    name(b"now");
+    entries(s);
+}
+
 pub(crate) fn end() {
     io::write_all(1, b"\n");
+}
+
+// The rest of a line: 0 and a value.
+fn one(a: u64) {
+    number(0);
+    number(a);
+    end();
+}
+
+// The same with two values.
+fn two(a: u64, b: u64) {
+    number(0);
+    number(a);
+    number(b);
+    end();
+}
+
+// The same with three values.
+fn three(a: u64, b: u64, c: u64) {
+    number(0);
+    number(a);
+    number(b);
+    number(c);
+    end();
 }
 
 fn refusal(r: Refusal) {
@@ -55,90 +81,51 @@ fn refusal(r: Refusal) {
     end();
 }
 
-fn done() {
-    number(0);
-}
-
-pub(crate) fn checked(s: &[u8], a: Checked) {
-    name(s);
+pub(crate) fn checked(a: Checked) {
     match a {
         Checked::Refused(r) => refusal(r),
-        Checked::Accepted => {
-            done();
-            end();
-        }
+        Checked::Accepted => line(b" 0"),
     }
 }
 
-pub(crate) fn balanced(s: &[u8], a: Balanced) {
-    name(s);
+pub(crate) fn balanced(a: Balanced) {
     match a {
         Balanced::Refused(r) => refusal(r),
-        Balanced::Intervals(k) => {
-            done();
-            number(k as u64);
-            end();
-        }
+        Balanced::Intervals(k) => one(k as u64),
     }
 }
 
-pub(crate) fn found(s: &[u8], a: Found) {
-    name(s);
+pub(crate) fn found(a: Found) {
     match a {
         Found::Refused(r) => refusal(r),
-        Found::At(x) => {
-            done();
-            number(x as u64);
-            end();
-        }
+        Found::At(x) => one(x as u64),
     }
 }
 
-pub(crate) fn moved(s: &[u8], a: Moved) {
-    name(s);
+pub(crate) fn moved(a: Moved) {
     match a {
         Moved::Refused(r) => refusal(r),
-        Moved::To(t) => {
-            done();
-            number(t.place as u64);
-            number(t.interval as u64);
-            number(t.count);
-            end();
-        }
+        Moved::To(t) => three(t.place as u64, t.interval as u64, t.count),
     }
 }
 
-pub(crate) fn inverted(s: &[u8], a: Inverted) {
-    name(s);
+pub(crate) fn inverted(a: Inverted) {
     match a {
         Inverted::Refused(r) => refusal(r),
-        Inverted::From(t) => {
-            done();
-            number(t.place as u64);
-            number(t.interval as u64);
-            end();
-        }
+        Inverted::From(t) => two(t.place as u64, t.interval as u64),
     }
 }
 
-pub(crate) fn weighed(s: &[u8], a: Weighed) {
-    name(s);
+pub(crate) fn weighed(a: Weighed) {
     match a {
         Weighed::Refused(r) => refusal(r),
-        Weighed::Weight(w) => {
-            done();
-            number(w as u64);
-            end();
-        }
+        Weighed::Weight(w) => one(w as u64),
     }
 }
 
-// The answer to a bookmark's move, and then the bookmark's four numbers.
-pub(crate) fn marked(m: Marked) {
-    let moved_to = m.moved;
-    moved(b"bookmark", moved_to);
+// What a lent bookmark holds: place, interval, moves, and starts passed.
+fn mark(b: Bookmark) {
     name(b"now");
-    let b = m.bookmark;
     number(b.place as u64);
     number(b.interval as u64);
     number(b.moves as u64);
@@ -146,16 +133,16 @@ pub(crate) fn marked(m: Marked) {
     end();
 }
 
-pub(crate) fn file(s: &[u8], a: FileChecked) {
-    name(s);
+pub(crate) fn marked(m: Marked) {
+    let answer = m.moved;
+    let after = m.bookmark;
+    moved(answer);
+    mark(after);
+}
+
+pub(crate) fn file(a: FileChecked) {
     match a {
         FileChecked::Refused(r) => refusal(r),
-        FileChecked::Read(h) => {
-            done();
-            number(h.n as u64);
-            number(h.k as u64);
-            number(h.d as u64);
-            end();
-        }
+        FileChecked::Read(h) => three(h.n as u64, h.k as u64, h.d as u64),
     }
 }

@@ -1,10 +1,13 @@
--- Laws of `judge`: more tests after the first ones, and what a passed or a refused list of tests says.
+-- Laws of outcomes. Of `judge`: more tests after the first ones, and what a passed or a refused list of tests says; of a
+-- function of a result; and of what is left in a lent table.
 use Prim.Native.Nat.{ℕ}
 use mathlib.Core.Path.{_≡_, refl, sym}
 use mathlib.Core.Bool.{Bool, true, false}
 use mathlib.Core.List.{List, [], _∷_, _++_}
 use native.Mathlib.Omega.{arith}
-use Rattle.outcomes.specs.Outcome.{Outcome, done, refused, Test, judge, andThen, _then_else_}
+use lib.ListN.{length, take, drop}
+use lib.Seq.{take-append-seam}
+use Rattle.outcomes.specs.Outcome.{Outcome, done, refused, Test, judge, mapDone, andThen, filled, _then_else_}
 
 -- what is done is not refused
 pub done-refused : {A : Type 0} (a : A) (k p : ℕ) → done a ≡ refused k p → ⊥
@@ -42,3 +45,26 @@ judge-done (t ∷ ts) a b e = judge-done ts a b (sym (judge-first t ts a b (sym 
 pub judge-on : {A : Type 0} (ts us : List Test) (a b : A) → judge ts a ≡ done b → judge (ts ++ us) a ≡ judge us a
 unfolding andThen
 judge-on ts us a b e = rw (judge-append ts us a a, e)
+
+-- a refusal goes through
+pub map-refused : {A B : Type 0} (f : A → B) (o : Outcome A) (k p : ℕ) → mapDone f o ≡ refused k p → o ≡ refused k p
+unfolding mapDone
+map-refused f (done a) k p e = absurd (done-refused (f a) k p e)
+map-refused f (refused k′ p′) k p e = cc
+
+pub map-then : {A B C : Type 0} (f : B → C) (o : Outcome A) (g : A → Outcome B)
+    → mapDone f (andThen o g) ≡ andThen o (λ a. mapDone f (g a))
+unfolding mapDone andThen
+map-then f (done a) g = refl
+map-then f (refused k p) g = refl
+
+-- a refusal leaves a lent table, and what is written to its head stands there
+pub filled-refused : {A : Type 0} (l : A → List ℕ) (o : Outcome A) (k p : ℕ) (table : List ℕ) → o ≡ refused k p
+    → filled l o table ≡ table
+unfolding filled
+filled-refused l o k p table e = rw e
+
+pub filled-head : {A : Type 0} (l : A → List ℕ) (a : A) (o : Outcome A) (k : ℕ) (table : List ℕ) → o ≡ done a → length (l a) ≡ k
+    → take k (filled l o table) ≡ l a
+unfolding filled
+filled-head l a o k table e h = rw (e, ← h) (take-append-seam (l a) (drop (length (l a)) table))

@@ -9,10 +9,11 @@ use Rattle.outcomes.specs.Outcome.{done}
 use Rattle.outcomes.proofs.Searches.{first-only}
 use Rattle.runs.specs.Runs.{Runs, countOf, endOf, runAt, mapOf, carryBack}
 use Rattle.runs.specs.Legal.{Legal}
+use Rattle.runs.proofs.Legality.{own}
 use Rattle.runs.proofs.Bijection.{map-onto}
 use Rattle.runs.proofs.Walks.{map-in}
 use Rattle.tables.specs.Tables.{tablesOf, maxIntervals}
-use Rattle.tables.proofs.LegalTables.{shape, own}
+use Rattle.tables.proofs.LegalTables.{shape}
 use Rattle.preimages.specs.Inverse.{sends, sourceOf, inverseOf}
 use Rattle.preimages.proofs.Sources.{sends-is, inverse-from}
 
@@ -20,14 +21,14 @@ module _ (n : ℕ) (r : Runs) (c : Legal n r) (few : countOf r ≤ maxIntervals)
   sends-own : (p : ℕ) → p < n → sends n r (mapOf n r p) (runAt n r p) ≡ true
   unfolding sends
   sends-own p h =
-      let x = own n r c few p h in
+      let x = own n r c p h in
       let l : carryBack r (runAt n r p) (mapOf n r p) < endOf n r (runAt n r p) = omega arith in
       simp (le-leb _ _ (map-in n r c p h .0), lt-ltb _ _ l)
 
   source-own : (p : ℕ) → p < n → runAt n r p ≡ sourceOf n r (mapOf n r p)
   unfolding sourceOf
   source-own p h =
-      let x = own n r c few p h in
+      let x = own n r c p h in
       let i = map-in n r c p h in
       let one : (y : ℕ) → y < countOf r → sends n r (mapOf n r p) y ≡ true → y ≡ runAt n r p = λ y l e. (
       let j = sends-is n r (mapOf n r p) y e in
@@ -37,7 +38,7 @@ module _ (n : ℕ) (r : Runs) (c : Legal n r) (few : countOf r ≤ maxIntervals)
   pub legal-inverse : (p : ℕ) → p < n
       → inverseOf n (tablesOf n r) (mapOf n r p) ≡ done (record { place = p; interval = runAt n r p })
   legal-inverse p h =
-      let x = own n r c few p h in
+      let x = own n r c p h in
       let z : carryBack r (runAt n r p) (mapOf n r p) ≡ p = omega arith in
       let l = map-in n r c p h .2 in
       sym (inverse-from n (tablesOf n r) (mapOf n r p) (shape n r c few) l (runAt n r p) (source-own p h) (x .0))

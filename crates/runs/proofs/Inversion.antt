@@ -14,11 +14,11 @@ use Rattle.runs.specs.Legal.{Legal}
 use Rattle.runs.specs.Parts.{ranked}
 use Rattle.runs.specs.Check.{checkOf}
 use Rattle.runs.specs.Inverse.{inverseRuns}
-use Rattle.runs.proofs.Legality.{homes, home, home-one, map-at, end-next, end-last}
+use Rattle.runs.proofs.Legality.{homes, home, home-one, map-at, end-next, end-last, image-some}
 use Rattle.runs.proofs.Ranking.{ranked-below, ranked-rises, ranked-occurs, ranked-one}
 use Rattle.runs.proofs.Accepted.{accepted-legal, legal-accepted}
 use Rattle.runs.proofs.Bijection.{map-onto}
-use Rattle.runs.proofs.Tiling.{image-some, legal-tiled}
+use Rattle.runs.proofs.Tiling.{legal-tiled}
 
 -- the inverse list, run by run
 module _ (r : Runs) (p : length (r .images) ≡ countOf r) where

@@ -86,6 +86,19 @@ module _ (n : ℕ) (r : Runs) (c : Parted n r) where
   pub map-at : (x p : ℕ) → x < countOf r → startOf r x ≤ p → p < endOf n r x → mapOf n r p ≡ carry r x p
   map-at x p h a b = rw (run-at x p h a b)
 
+-- an image of a legal list has a place, below n; a place lies in the run that has it
+module _ (n : ℕ) (r : Runs) (c : Legal n r) where
+  pub image-some : (x : ℕ) → x < countOf r → imageOf r x < imageEnd n r x
+  image-some x h = omega (arith, homes n r c .lasting x h)
+
+  pub image-below : (x : ℕ) → x < countOf r → imageOf r x < n
+  image-below x h = omega (arith, image-some x h, c .within x h)
+
+  pub own : (p : ℕ) → p < n → (runAt n r p < countOf r) × (startOf r (runAt n r p) ≤ p) × (p < endOf n r (runAt n r p))
+  own p h =
+      let x = home n r (homes n r c) p h in
+      rw (run-at n r (homes n r c) (x .0) p (x .1) (x .2) (x .3)) (x .1, x .2, x .3)
+
 -- the lengths add up to n
 lengths : (n : ℕ) (l : List ℕ) → ((x : ℕ) → x < length l → getD l x 0 < getD l (suc x) n) → sumTo (length l) (λ x. getD l (suc x) n - getD l x 0) + getD l 0 n ≡ n
 lengths n [] h = omega arith

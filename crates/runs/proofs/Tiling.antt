@@ -7,7 +7,7 @@ use Rattle.order.proofs.Laws.{lt-or-le}
 use Rattle.runs.specs.Runs.{Runs, countOf, imageOf, imageEnd}
 use Rattle.runs.specs.Legal.{Legal}
 use Rattle.runs.specs.Parts.{ranked}
-use Rattle.runs.proofs.Legality.{homes, land}
+use Rattle.runs.proofs.Legality.{image-some, land}
 use Rattle.runs.proofs.Ranking.{ranked-below, ranked-rises, ranked-occurs, ranked-one}
 use Rattle.runs.proofs.Intervals.{legal-disjoint}
 
@@ -18,10 +18,6 @@ pub record Tiled (n : ℕ) (r : Runs) : Type 0 where
   pub last : (j : ℕ) → suc j ≡ countOf r → imageEnd n r (ranked r j) ≡ n
 
 module _ (n : ℕ) (r : Runs) (c : Legal n r) where
-  -- an image has a place
-  pub image-some : (x : ℕ) → x < countOf r → imageOf r x < imageEnd n r x
-  image-some x h = omega (arith, homes n r c .lasting x h)
-
   -- images in rising order end before the next
   rank-ends : (s t : ℕ) → s < t → t < countOf r → imageEnd n r (ranked r s) ≤ imageOf r (ranked r t)
   rank-ends s t h l =
@@ -40,7 +36,7 @@ module _ (n : ℕ) (r : Runs) (c : Legal n r) where
       go : (imageEnd n r (ranked r s) ≤ imageOf r (ranked r t)) ⊎ (imageEnd n r (ranked r t) ≤ imageOf r (ranked r s))
           → imageEnd n r (ranked r s) ≤ imageOf r (ranked r t)
       go (inl d) = d
-      go (inr d) = absurd (omega (arith, ranked-rises r (c .paired) s t (omega arith) l, image-some (ranked r t) b))
+      go (inr d) = absurd (omega (arith, ranked-rises r (c .paired) s t (omega arith) l, image-some n r c (ranked r t) b))
 
   -- a place not before the end of image t lies in a later one
   later : (t p : ℕ) → t < countOf r → imageEnd n r (ranked r t) ≤ p → p < n
@@ -52,7 +48,7 @@ module _ (n : ℕ) (r : Runs) (c : Legal n r) where
           → (s : ℕ) × (t < s) × (s < countOf r) × (imageOf r (ranked r s) ≤ p)
       rank s a b d (inl e) f = (s, e, a, b)
       rank s a b d (inr e) (inl f) =
-          absurd (omega (arith, rank-ends s t f h, image-some (ranked r t) (ranked-below r (c .paired) t h)))
+          absurd (omega (arith, rank-ends s t f h, image-some n r c (ranked r t) (ranked-below r (c .paired) t h)))
       rank s a b d (inr e) (inr f) =
           let q : s ≡ t = omega arith in absurd (omega (arith, ap (λ (u : ℕ). imageEnd n r (ranked r u)) q))
 
@@ -81,7 +77,7 @@ module _ (n : ℕ) (r : Runs) (c : Legal n r) where
           go : (imageEnd n r (ranked r t) < imageOf r (ranked r (suc t))) ⊎ (imageOf r (ranked r (suc t)) ≤ imageEnd n r (ranked r t))
               → imageOf r (ranked r (suc t)) ≡ imageEnd n r (ranked r t)
           go (inl a) =
-              let s = later t (imageEnd n r (ranked r t)) (omega arith) (omega arith) (omega (arith, image-some (ranked r (suc t)) b, c .within (ranked r (suc t)) b)) in
+              let s = later t (imageEnd n r (ranked r t)) (omega arith) (omega arith) (omega (arith, image-some n r c (ranked r (suc t)) b, c .within (ranked r (suc t)) b)) in
               absurd (omega (arith, s .3, ranked-rises r (c .paired) (suc t) (s .0) (s .1) (s .2)))
           go (inr a) = omega (arith, rank-ends t (suc t) (omega arith) h)
 

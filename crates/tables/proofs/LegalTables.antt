@@ -16,15 +16,16 @@ use Rattle.runs.specs.Runs.{Runs, countOf, startOf, imageOf, endOf, runAt, mapO
 use Rattle.runs.specs.Legal.{Legal}
 use Rattle.order.proofs.Laws.{getD-default}
 use Rattle.outcomes.proofs.Searches.{first-only}
-use Rattle.runs.proofs.Legality.{homes, home, run-at}
-use Rattle.runs.proofs.Bijection.{map-below, power-below, map-onto}
+use Rattle.runs.proofs.Legality.{homes, run-at, image-below, own}
+use Rattle.runs.proofs.Bijection.{map-below}
 use Rattle.tables.specs.Tables.{tablesOf, holderOf, unheld, maxIntervals}
-use Rattle.tables.specs.Move.{passed, findOf, moveOf, movesOf, onwards}
+use Rattle.tables.specs.Move.{passed, walkCount, stepTo, stepOf, findOf, moveOf, movesOf, onwards}
 use Rattle.runs.specs.Weight.{under, weight}
-use Rattle.tables.specs.Function.{passedFrom, stepFrom, passedIn, stepsFrom}
+use Rattle.tables.specs.Plain.{plainCount, plainMove, plainMoves}
 use Rattle.tables.specs.Parts.{Shaped, Located, advanceOf}
 use Rattle.tables.proofs.Passing.{fitting, shaped, held, whole}
-use Rattle.tables.proofs.Steps.{find-far, find-at, locate-in, move-located, advance-to}
+use Rattle.tables.proofs.Steps.{find-far, find-at, locate-in, move-located, advance-on}
+use Rattle.tables.proofs.PlainMoves.{moves-interval, moves-below}
 use Rattle.runs.proofs.Walks.{walk-passed, walk-count, above-to, map-in, under-first, under-count, under-is}
 
 module _ (n : ℕ) (r : Runs) (c : Legal n r) (few : countOf r ≤ maxIntervals) where
@@ -34,19 +35,12 @@ module _ (n : ℕ) (r : Runs) (c : Legal n r) (few : countOf r ≤ maxIntervals)
       let f = e ∙ sym (length-map (r .images) (runAt n r)) in
       shaped n (tablesOf n r) _ refl (fitting n (tablesOf n r) (omega (arith, c .below 0 (c .some))) (c .some) e f few)
 
-  -- the run that has a place
-  pub own : (p : ℕ) → p < n → (runAt n r p < countOf r) × (startOf r (runAt n r p) ≤ p) × (p < endOf n r (runAt n r p))
-  own p h =
-      let x = home n r (homes n r c) p h in
-      rw (run-at n r (homes n r c) (x .0) p (x .1) (x .2) (x .3)) (x .1, x .2, x .3)
-
   pub legal-located : (p : ℕ) → p < n → Located n (tablesOf n r) (runAt n r p) p
-  legal-located p h = let x = own p h in record { shape = shape; index = x .0; place = h; low = x .1; high = x .2 }
+  legal-located p h =
+      let x = own n r c p h in
+      record { at = record { shape = shape; index = x .0 }; place = h; low = x .1; high = x .2 }
 
   module _ (x : ℕ) (h : x < countOf r) where
-    image-below : imageOf r x < n
-    image-below = omega (arith, homes n r c .lasting x h, c .within x h)
-
     pub holder-is : holderOf (tablesOf n r) x ≡ runAt n r (imageOf r x)
     holder-is =
         let l : x < length (map (runAt n r) (r .images)) = omega (arith, length-map (r .images) (runAt n r), c .paired) in
@@ -55,7 +49,7 @@ module _ (n : ℕ) (r : Runs) (c : Legal n r) (few : countOf r ≤ maxIntervals)
 
     pub legal-held : unheld (tablesOf n r) x ≡ false
     legal-held =
-        let y = own (imageOf r x) image-below in
+        let y = own n r c (imageOf r x) (image-below n r c x h) in
         held (tablesOf n r) x (rw holder-is (y .0)) (rw holder-is (y .1))
 
   -- find gives the run that has the place
@@ -71,33 +65,39 @@ module _ (n : ℕ) (r : Runs) (c : Legal n r) (few : countOf r ≤ maxIntervals)
 
   -- a move gives the function's value, the run that has it, and the starts above the image and not above it
   module _ (p : ℕ) (h : p < n) where
-    legal-passed : leading (λ s. leb s (mapOf n r p)) (drop (suc (runAt n r (imageOf r (runAt n r p)))) (r .starts))
-        ≡ passedFrom n r p (mapOf n r p)
-    legal-passed =
+    legal-count : walkCount (r .starts) (runAt n r (imageOf r (runAt n r p))) (mapOf n r p) ≡ plainCount n r p (mapOf n r p)
+    unfolding walkCount passed
+    legal-count =
         let i = imageOf r (runAt n r p) in
         let j = map-in n r c p h in
         let w = walk-passed n r (homes n r c) i (mapOf n r p) (j .0) (j .2) in
         omega (arith, walk-count n r (homes n r c) i (mapOf n r p) (j .0) (j .2), above-to i (mapOf n r p) (r .starts))
 
-    legal-interval : runAt n r (imageOf r (runAt n r p)) + passedFrom n r p (mapOf n r p) ≡ runAt n r (mapOf n r p)
+    legal-interval : runAt n r (imageOf r (runAt n r p)) + passed (r .starts) (runAt n r (imageOf r (runAt n r p))) (mapOf n r p)
+        ≡ runAt n r (mapOf n r p)
+    unfolding passed
     legal-interval =
         let i = imageOf r (runAt n r p) in
         let j = map-in n r c p h in
-        omega (arith, walk-passed n r (homes n r c) i (mapOf n r p) (j .0) (j .2), legal-passed)
+        omega (arith, walk-passed n r (homes n r c) i (mapOf n r p) (j .0) (j .2))
 
-    legal-advance : advanceOf n (tablesOf n r) (runAt n r p) p ≡ done (stepFrom n r p)
-    legal-advance =
-        let x = own p h .0 in
-        let b = whole n (tablesOf n r) (runAt n r p) p (legal-held (runAt n r p) x) (map-in n r c p h .2) in
-        let h = sym (holder-is (runAt n r p) x) in
-        sym (advance-to n (tablesOf n r) (runAt n r p) p b _ (mapOf n r p) (stepFrom n r p .count) h refl (rw add-one (sym legal-passed)))
-        ∙ ap (λ (y : ℕ). done (record { place = mapOf n r p; interval = y; count = stepFrom n r p .count })) legal-interval
+    legal-step : stepOf (tablesOf n r) (runAt n r p) p ≡ plainMove n r r p
+    unfolding stepOf stepTo plainMove
+    legal-step =
+        rw (holder-is (runAt n r p) (own n r c p h .0))
+        (λ i. record { place = mapOf n r p; interval = legal-interval i; count = legal-count i })
 
-    pub legal-move : moveOf n (tablesOf n r) (runAt n r p) p ≡ done (stepFrom n r p)
-    legal-move = move-located n (tablesOf n r) (runAt n r p) p (legal-located p h) ∙ legal-advance
+    pub legal-move : moveOf n (tablesOf n r) (runAt n r p) p ≡ done (plainMove n r r p)
+    legal-move =
+        let b = whole n (tablesOf n r) (runAt n r p) p (legal-held (runAt n r p) (own n r c p h .0)) (map-in n r c p h .2) in
+        move-located n (tablesOf n r) (runAt n r p) p (legal-located p h)
+        ∙ sym (advance-on n (tablesOf n r) (runAt n r p) p b)
+        ∙ ap done legal-step
 
   -- repeated moves give the m-fold function, the run that has its value, and the sum of the counts
-  pub legal-moves : (m p : ℕ) → p < n → movesOf n (tablesOf n r) m (runAt n r p) p ≡ done (stepsFrom n r m p)
-  unfolding movesOf onwards andThen mapDone powerOf passedIn
+  pub legal-moves : (m p : ℕ) → p < n → movesOf n (tablesOf n r) m (runAt n r p) p ≡ done (plainMoves n r r m p)
+  unfolding movesOf onwards andThen mapDone plainMoves
   legal-moves zero p h = sym (locate-in n (tablesOf n r) (runAt n r p) p (legal-located p h))
-  legal-moves (suc m) p h = rw (legal-moves m p h, legal-move (powerOf n r m p) (power-below n r c m p h))
+  legal-moves (suc m) p h =
+      let s = plainMoves n r r m p in
+      rw (legal-moves m p h, moves-interval n r r m p, legal-move (s .place) (moves-below n r r (map-below n r c) m p h))

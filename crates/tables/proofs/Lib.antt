@@ -2,4 +2,5 @@
 pub mod Passing
 pub mod Steps
 pub mod Moves
+pub mod PlainMoves
 pub mod LegalTables

@@ -16,7 +16,7 @@ use Rattle.outcomes.specs.Outcome.{Outcome, done, refused, judge, mapDone, andT
 use Rattle.order.specs.Lists.{leading}
 use Rattle.runs.specs.Runs.{carry}
 use Rattle.tables.specs.Tables.{Tables, holderOf, maxIntervals, unheld, broken, brokenTest}
-use Rattle.tables.specs.Move.{passed, stepOf, moveOf, movesOf, counted, onwards, Stopped}
+use Rattle.tables.specs.Move.{passed, walkCount, stepTo, stayAt, stepOf, moveOf, movesOf, countedAfter, onwards, Stopped}
 use Rattle.tables.specs.Parts.{Shaped, Located, advanceOf}
 use Rattle.tables.specs.declared.Step.{Step}
 use Rattle.outcomes.proofs.Judging.{done-refused, judge-first}
@@ -63,21 +63,20 @@ module _ (n : ℕ) (t : Tables) (x i : ℕ) (s : Step) (e : done s ≡ advanceOf
 
   -- it ends in the interval reached
   pub step-located : Located n t x i → Located n t (s .interval) (s .place)
-  unfolding stepOf
+  unfolding stepOf stepTo
   step-located l =
       let w = step-is in
       let h = held-is t x (w .0) in
       let k = carry (t .list) x i in
       rw (w .2) (record {
-        shape = l .shape;
-        index = reached-index (t .list .starts) (holderOf t x) k (h .0);
+        at = record { shape = l .at .shape; index = reached-index (t .list .starts) (holderOf t x) k (h .0) };
         place = w .1;
         low = reached-low (t .list .starts) (holderOf t x) k (h .0) (omega arith);
         high = reached-high (t .list .starts) (holderOf t x) k (h .0) n (w .1);
       })
 
   pub step-count : Shaped n t → s .count ≤ maxIntervals
-  unfolding stepOf
+  unfolding stepOf stepTo walkCount
   step-count f =
       let w = step-is in
       let h = held-is t x (w .0) in
@@ -91,7 +90,7 @@ move-count n t x i s e = go (movesOf n t 0 x i) refl (e ∙ move-is n t x i)
   where
     go : (o : Outcome Step) → o ≡ movesOf n t 0 x i → done s ≡ andThen o (λ _. advanceOf n t x i)
         → s .count ≤ maxIntervals
-    go (done a) f g = step-count n t x i s g (located n t x i a f .shape)
+    go (done a) f g = step-count n t x i s g (located n t x i a f .at .shape)
     go (refused k p) f g = absurd (done-refused s k p g)
 
 -- one move more
@@ -113,44 +112,47 @@ moves-refused n t k (suc m) x i p q l e = go (lt-or-le m k) (moves-refused n t k
     go (inr h) r = rw (← r h e)
 
 -- the state of a repeated move after some of its m moves
-pub record Walking (n : ℕ) (t : Tables) (x i m place interval count made : ℕ) : Type 0 where
+pub record Walking (n : ℕ) (t : Tables) (x i m : ℕ) (a : Step) (made : ℕ) : Type 0 where
   pub within : made ≤ m
-  pub here : Located n t interval place
-  pub said : done (record { place = place; interval = interval; count = count }) ≡ movesOf n t made x i
-  pub small : count ≤ made * maxIntervals
+  pub here : Located n t (a .interval) (a .place)
+  pub said : done a ≡ movesOf n t made x i
+  pub small : a .count ≤ made * maxIntervals
 
-pub walking-start : (n : ℕ) (t : Tables) (x i m : ℕ) → Located n t x i → Walking n t x i m i x 0 0
-walking-start n t x i m l = record { within = omega arith; here = l; said = locate-in n t x i l; small = omega arith }
+pub walking-start : (n : ℕ) (t : Tables) (x i m : ℕ) → Located n t x i → (a : Step) → a ≡ stayAt x i → Walking n t x i m a 0
+walking-start n t x i m l a e =
+    rw e (record { within = omega arith; here = l; said = locate-in n t x i l; small = omega arith })
 
-module _ (n : ℕ) (t : Tables) (x i m place interval count made : ℕ)
-    (w : Walking n t x i m place interval count made) where
-  next-move : (a : Outcome Step) → a ≡ advanceOf n t interval place
-      → mapDone (counted count) a ≡ movesOf n t (made + 1) x i
+module _ (n : ℕ) (t : Tables) (x i m : ℕ) (a : Step) (made : ℕ) (w : Walking n t x i m a made) where
+  next-move : (o : Outcome Step) → o ≡ advanceOf n t (a .interval) (a .place)
+      → mapDone (countedAfter (a .count)) o ≡ movesOf n t (made + 1) x i
   unfolding onwards andThen
-  next-move a e =
-      ap (mapDone (counted count)) (e ∙ sym (move-located n t interval place (w .here)))
+  next-move o e =
+      ap (mapDone (countedAfter (a .count))) (e ∙ sym (move-located n t (a .interval) (a .place) (w .here)))
       ∙ sym (moves-more n t made x i _ (w .said))
 
-  module _ (s : Step) (e : done s ≡ advanceOf n t interval place) (l : made < m) where
-    pub walking-sum : count + s .count ≤ (made + 1) * maxIntervals
-    walking-sum = omega (arith, w .small, step-count n t interval place s e (w .here .shape))
+  module _ (s : Step) (e : done s ≡ advanceOf n t (a .interval) (a .place)) (l : made < m) where
+    walking-sum : a .count + s .count ≤ (made + 1) * maxIntervals
+    walking-sum = omega (arith, w .small, step-count n t (a .interval) (a .place) s e (w .here .at .shape))
 
-    pub walking-more : Walking n t x i m (s .place) (s .interval) (count + s .count) (made + 1)
+    pub walking-fits : made < 4294967296 → a .count + s .count < 18446744073709551616
+    walking-fits h = omega (arith, walking-sum)
+
+    pub walking-more : (b : Step) → b ≡ countedAfter (a .count) s → Walking n t x i m b (made + 1)
     unfolding mapDone
-    walking-more =
-        record {
+    walking-more b f =
+        rw f (record {
           within = omega arith;
-          here = step-located n t interval place s e (w .here);
+          here = step-located n t (a .interval) (a .place) s e (w .here);
           said = next-move (done s) e;
           small = walking-sum;
-        }
+        })
 
-  pub walking-refused : (p q : ℕ) → refused p q ≡ advanceOf n t interval place → made < m
+  pub walking-refused : (p q : ℕ) → refused p q ≡ advanceOf n t (a .interval) (a .place) → made < m
       → refused p q ≡ movesOf n t m x i
   unfolding mapDone
   walking-refused p q e l = moves-refused n t (made + 1) m x i p q (omega arith) (next-move (refused p q) e)
 
-  pub walking-end : m ≤ made → done (record { place = place; interval = interval; count = count }) ≡ movesOf n t m x i
+  pub walking-end : m ≤ made → done a ≡ movesOf n t m x i
   walking-end l = let z : made ≡ m = omega (arith, w .within) in rw z at (w .said)
 
 module _ (n : ℕ) (t : Tables) (x i : ℕ) (l : Located n t x i) where
@@ -158,15 +160,15 @@ module _ (n : ℕ) (t : Tables) (x i : ℕ) (l : Located n t x i) where
   pub moves-located : (m : ℕ) (s : Step) → movesOf n t m x i ≡ done s → Located n t (s .interval) (s .place)
   unfolding movesOf andThen onwards mapDone
   moves-located zero s e =
-      let z : record { place = i; interval = x; count = 0 } ≡ s = cc (locate-in n t x i l) in
+      let z : stayAt x i ≡ s = cc (locate-in n t x i l) in
       rw (← z) l
   moves-located (suc m) s e = go (movesOf n t m x i) refl e (moves-located m)
     where
       next : (a : Step) → Located n t (a .interval) (a .place)
           → (o : Outcome Step) → o ≡ advanceOf n t (a .interval) (a .place)
-          → mapDone (counted (a .count)) o ≡ done s → Located n t (s .interval) (s .place)
+          → mapDone (countedAfter (a .count)) o ≡ done s → Located n t (s .interval) (s .place)
       next a k (done b) f g =
-          let z : counted (a .count) b ≡ s = cc in
+          let z : countedAfter (a .count) b ≡ s = cc in
           rw (← z) (step-located n t (a .interval) (a .place) b f k)
       next a k (refused p q) f g = absurd (done-refused s p q (sym g))
 
@@ -184,7 +186,7 @@ module _ (n : ℕ) (t : Tables) (x i : ℕ) (l : Located n t x i) where
   moves-stopped (suc m) p q e = go (movesOf n t m x i) refl e (moves-stopped m)
     where
       at : (a : Step) → movesOf n t m x i ≡ done a → (b : Bool) → broken n t (a .interval) (a .place) ≡ b
-          → mapDone (counted (a .count)) (b then refused 12 (a .interval) else done (stepOf t (a .interval) (a .place)))
+          → mapDone (countedAfter (a .count)) (b then refused 12 (a .interval) else done (stepOf t (a .interval) (a .place)))
           ≡ refused p q
           → Stopped n t (suc m) x i p q
       at a f true g h =
@@ -206,7 +208,7 @@ module _ (n : ℕ) (t : Tables) (x i : ℕ) (l : Located n t x i) where
           → ((p q : ℕ) → movesOf n t m x i ≡ refused p q → Stopped n t m x i p q) → Stopped n t (suc m) x i p q
       go (done a) f g r =
           let e = move-located n t (a .interval) (a .place) (moves-located m a f) in
-          at a f (broken n t (a .interval) (a .place)) refl (ap (mapDone (counted (a .count))) (sym e) ∙ g)
+          at a f (broken n t (a .interval) (a .place)) refl (ap (mapDone (countedAfter (a .count))) (sym e) ∙ g)
       go (refused v w) f g r =
           let s = r p q (f ∙ g) in
           record {

@@ -8,7 +8,7 @@ use lib.Dec.{leb, ltb, eqb}
 use borrow.Author.Tests.{lt-ltb, le-ltb, le-leb, lt-leb, ltb-false, leb-false, eq-eqb, ne-eqb, eqb-true, eqb-false, not-false}
 use Rattle.order.proofs.Laws.{or-false}
 use Rattle.runs.specs.Runs.{startOf, imageOf, endOf, carry}
-use Rattle.tables.specs.Tables.{Tables, sizeOf, holderOf, maxIntervals, misshapen, outside, unheld, broken}
+use Rattle.tables.specs.Tables.{Tables, sizeOf, holderOf, columns, unequal, maxIntervals, misshapen, outside, unheld, broken}
 use Rattle.tables.specs.Parts.{Shaped}
 
 -- 9 passed
@@ -18,15 +18,18 @@ shaped n t s q f =
     let e : misshapen n t ≡ false = sym q ∙ f in
     let a = or-false (eqb n 0) _ e in
     let b = or-false (eqb (sizeOf t) 0) _ (a .1) in
-    let c = or-false (not (eqb (sizeOf t) (length (t .list .images)))) _ (b .1) in
-    let d = or-false (not (eqb (sizeOf t) (length (t .holders)))) _ (c .1) in
+    let c = or-false (unequal (sizeOf t) (columns t)) _ (b .1) in
+    let d = or-false (not (eqb (sizeOf t) (length (t .list .images)))) _ (c .0) in
+    let f = or-false (not (eqb (sizeOf t) (length (t .holders)))) _ (d .1) in
     record {
       fits = e;
       places = omega (arith, eqb-false n 0 (a .0));
       some = omega (arith, eqb-false (sizeOf t) 0 (b .0));
-      few = ltb-false maxIntervals (sizeOf t) (d .1);
-      imaged = sym (eqb-true (sizeOf t) _ (not-false _ (c .0)));
-      held = sym (eqb-true (sizeOf t) _ (not-false _ (d .0)));
+      few = ltb-false maxIntervals (sizeOf t) (c .1);
+      full = record {
+        imaged = sym (eqb-true (sizeOf t) _ (not-false _ (d .0)));
+        held = sym (eqb-true (sizeOf t) _ (not-false _ (f .0)));
+      };
     }
 
 pub fitting : (n : ℕ) (t : Tables) → 0 < n → 0 < sizeOf t

@@ -13,8 +13,8 @@ use Rattle.outcomes.specs.Outcome.{done, refused, judge, andThen}
 use Rattle.order.specs.Lists.{leading}
 use Rattle.runs.specs.Runs.{startOf, carry}
 use Rattle.tables.specs.Tables.{Tables, sizeOf, holderOf, misshapen, outside, broken, shapeTest, indexTest, placeTest, brokenTest}
-use Rattle.tables.specs.Move.{passed, findOf, stepOf, moveOf, movesOf, locateTests}
-use Rattle.tables.specs.Parts.{Shaped, Located, advanceOf}
+use Rattle.tables.specs.Move.{passed, walkCount, stepTo, stayAt, findOf, stepOf, moveOf, movesOf, locateTests}
+use Rattle.tables.specs.Parts.{Shaped, Indexed, Located, advanceOf}
 use Rattle.tables.specs.declared.Step.{Step}
 use Rattle.outcomes.proofs.Judging.{judge-append, judge-first}
 use Rattle.tables.proofs.Passing.{shaped, inside, inside-is}
@@ -53,9 +53,9 @@ module _ (n : ℕ) (t : Tables) (x i : ℕ) where
   unfolding movesOf judge
   locate-place s h o = simp (s .fits, lt-leb _ _ h, o)
 
-  pub locate-in : Located n t x i → done (record { place = i; interval = x; count = 0 }) ≡ movesOf n t 0 x i
+  pub locate-in : Located n t x i → done (stayAt x i) ≡ movesOf n t 0 x i
   unfolding movesOf judge
-  locate-in l = simp (l .shape .fits, lt-leb _ _ (l .index), inside n t x i (l .place) (l .low) (l .high))
+  locate-in l = simp (l .at .shape .fits, lt-leb _ _ (l .at .index), inside n t x i (l .place) (l .low) (l .high))
 
   pub located : (s : Step) → done s ≡ movesOf n t 0 x i → Located n t x i
   unfolding movesOf
@@ -64,7 +64,8 @@ module _ (n : ℕ) (t : Tables) (x i : ℕ) where
       let g = judge-first (indexTest t x) _ _ s (f .1) in
       let h = judge-first (placeTest n t x i) _ _ s (g .1) in
       let p = inside-is n t x i (h .0) in
-      record { shape = shaped n t _ refl (f .0); index = leb-false _ _ (g .0); place = p .0; low = p .1; high = p .2 }
+      let a : Indexed n t x = record { shape = shaped n t _ refl (f .0); index = leb-false _ _ (g .0) } in
+      record { at = a; place = p .0; low = p .1; high = p .2 }
 
   -- a move is 9 to 11, and what is left
   pub move-is : moveOf n t x i ≡ andThen (movesOf n t 0 x i) (λ _. advanceOf n t x i)
@@ -84,11 +85,16 @@ module _ (n : ℕ) (t : Tables) (x i : ℕ) where
   unfolding advanceOf judge
   advance-broken b = simp b
 
-  pub advance-to : broken n t x i ≡ false
+  pub advance-on : broken n t x i ≡ false → done (stepOf t x i) ≡ advanceOf n t x i
+  unfolding advanceOf judge
+  advance-on b = simp b
+
+  -- the step by its numbers
+  advance-to : broken n t x i ≡ false
       → (h j c : ℕ) → h ≡ holderOf t x → j ≡ carry (t .list) x i
       → c ≡ leading (λ s. leb s j) (drop (h + 1) (t .list .starts))
       → done (record { place = j; interval = h + c; count = c }) ≡ advanceOf n t x i
-  unfolding advanceOf stepOf passed judge
+  unfolding advanceOf stepOf stepTo walkCount passed judge
   advance-to b h j c p q r = simp (b, r, add-one, p, q)
 
   -- the same by the index after the last start passed

@@ -36,12 +36,23 @@ findTests n t i = shapeTest n t ∷ test 11 (leb n i || ltb i (startOf (t .list)
 unfoldable pub findOf : ℕ → Tables → ℕ → Outcome ℕ
 findOf n t i = judge (findTests n t i) (passed (t .list .starts) 0 i)
 
--- Move: the place reached, the interval that the walk from the holder reaches, and as count the starts passed: on any
--- tables the interval reached is the holder plus the count.
+-- what a walk from interval h to place j counts: the starts passed
+unfoldable pub walkCount : List ℕ → ℕ → ℕ → ℕ
+walkCount starts h j = passed starts h j
+
+-- The step of a walk from interval h to place j: the place, the interval reached, which lies as far from h as starts were
+-- passed, and the count.
+unfoldable pub stepTo : Tables → ℕ → ℕ → Step
+stepTo t h j =
+    record { place = j; interval = h + passed (t .list .starts) h j; count = walkCount (t .list .starts) h j }
+
+-- Move: the step from the holder to the place reached.
 unfoldable pub stepOf : Tables → ℕ → ℕ → Step
-stepOf t x i =
-    let c = passed (t .list .starts) (holderOf t x) (carry (t .list) x i) in
-    record { place = carry (t .list) x i; interval = holderOf t x + c; count = c }
+stepOf t x i = stepTo t (holderOf t x) (carry (t .list) x i)
+
+-- no move, at place i of interval x
+abbrev pub stayAt : ℕ → ℕ → Step
+stayAt x i = record { place = i; interval = x; count = 0 }
 
 abbrev pub locateTests : ℕ → Tables → ℕ → ℕ → List Test
 locateTests n t x i = shapeTest n t ∷ indexTest t x ∷ placeTest n t x i ∷ []
@@ -52,18 +63,18 @@ moveTests n t x i = shapeTest n t ∷ indexTest t x ∷ placeTest n t x i ∷ br
 unfoldable pub moveOf : ℕ → Tables → ℕ → ℕ → Outcome Step
 moveOf n t x i = judge (moveTests n t x i) (stepOf t x i)
 
--- a step with what was counted before it
-abbrev pub counted : ℕ → Step → Step
-counted c s = record { place = s .place; interval = s .interval; count = c + s .count }
+-- a step with what was countedAfter before it
+abbrev pub countedAfter : ℕ → Step → Step
+countedAfter c s = record { place = s .place; interval = s .interval; count = c + s .count }
 
 -- one move more after a step
 unfoldable pub onwards : ℕ → Tables → Step → Outcome Step
-onwards n t s = mapDone (counted (s .count)) (moveOf n t (s .interval) (s .place))
+onwards n t s = mapDone (countedAfter (s .count)) (moveOf n t (s .interval) (s .place))
 
--- Repeated move: m moves, each from where the one before led, and the sum of their counts. With no moves it is i and x
--- with count 0, after tests 9, 10 and 11.
+-- Repeated move: m moves, each from where the one before led, and the sum of their counts. With no moves it stays, after
+-- tests 9, 10 and 11.
 unfoldable pub movesOf : ℕ → Tables → ℕ → ℕ → ℕ → Outcome Step
-movesOf n t zero x i = judge (locateTests n t x i) (record { place = i; interval = x; count = 0 })
+movesOf n t zero x i = judge (locateTests n t x i) (stayAt x i)
 movesOf n t (suc m) x i = andThen (movesOf n t m x i) (onwards n t)
 
 -- Where a repeated move stopped on the way: after fewer moves than it was asked for, it stood in an interval that it

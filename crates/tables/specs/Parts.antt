@@ -4,11 +4,16 @@ use mathlib.Core.Path.{_≡_}
 use mathlib.Core.Bool.{false}
 use mathlib.Core.List.{[], _∷_}
 use lib.ListN.{length}
-use Rattle.outcomes.specs.Outcome.{Outcome, test, judge}
-use Rattle.runs.specs.Runs.{startOf, endOf}
-use Rattle.tables.specs.Tables.{Tables, sizeOf, maxIntervals, misshapen, brokenTest}
+use Rattle.outcomes.specs.Outcome.{Outcome, judge}
+use Rattle.runs.specs.Runs.{startOf}
+use Rattle.tables.specs.Tables.{Tables, sizeOf, maxIntervals, misshapen, endAt, brokenTest}
 use Rattle.tables.specs.Move.{stepOf}
 use Rattle.tables.specs.declared.Step.{Step}
+
+-- all columns have an entry for each interval
+pub record Columns (t : Tables) : Type 0 where
+  pub imaged : length (t .list .images) ≡ sizeOf t
+  pub held : length (t .holders) ≡ sizeOf t
 
 -- after 9
 pub record Shaped (n : ℕ) (t : Tables) : Type 0 where
@@ -16,27 +21,24 @@ pub record Shaped (n : ℕ) (t : Tables) : Type 0 where
   pub places : 0 < n
   pub some : 0 < sizeOf t
   pub few : sizeOf t ≤ maxIntervals
-  pub imaged : length (t .list .images) ≡ sizeOf t
-  pub held : length (t .holders) ≡ sizeOf t
+  pub full : Columns t
 
 -- after 9 and 10
 pub record Indexed (n : ℕ) (t : Tables) (x : ℕ) : Type 0 where
   pub shape : Shaped n t
   pub index : x < sizeOf t
 
--- x has an entry in each table, as it has then
+-- x has an entry in each column, as it has then
 pub record Entered (t : Tables) (x : ℕ) : Type 0 where
   pub index : x < sizeOf t
-  pub imaged : length (t .list .images) ≡ sizeOf t
-  pub held : length (t .holders) ≡ sizeOf t
+  pub full : Columns t
 
 -- after 9, 10 and 11
 pub record Located (n : ℕ) (t : Tables) (x i : ℕ) : Type 0 where
-  pub shape : Shaped n t
-  pub index : x < sizeOf t
+  pub at : Indexed n t x
   pub place : i < n
   pub low : startOf (t .list) x ≤ i
-  pub high : i < endOf n (t .list) x
+  pub high : i < endAt n t x
 
 -- what is left of a move then: 12 and the step
 unfoldable pub advanceOf : ℕ → Tables → ℕ → ℕ → Outcome Step

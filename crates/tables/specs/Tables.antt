@@ -1,7 +1,7 @@
 -- Move tables (document 01, "The collection's objects"), and the tests of 9 to 12 on any numbers in them.
 use Prim.Native.Nat.{ℕ}
-use mathlib.Core.Bool.{Bool, not, _||_}
-use mathlib.Core.List.{List, map}
+use mathlib.Core.Bool.{Bool, false, not, _||_}
+use mathlib.Core.List.{List, [], _∷_, map}
 use lib.ListN.{length, getD}
 use lib.Dec.{ltb, leb, eqb}
 use Rattle.outcomes.specs.Outcome.{Test, test}
@@ -30,17 +30,26 @@ holderOf t x = getD (t .holders) x 0
 abbrev pub maxIntervals : ℕ
 maxIntervals = 32768
 
--- 9: n is 0, or the tables are empty, differ in count, or have too many entries
+-- the columns beside the starts, and whether one of them has not k entries
+abbrev pub columns : Tables → List (List ℕ)
+columns t = t .list .images ∷ t .holders ∷ []
+
+abbrev pub unequal : ℕ → List (List ℕ) → Bool
+unequal k [] = false
+unequal k (l ∷ ls) = not (eqb k (length l)) || unequal k ls
+
+-- 9: n is 0, or the tables are empty, of unequal count, or have more entries than they may
 unfoldable pub misshapen : ℕ → Tables → Bool
 misshapen n t =
-    eqb n 0 ||
-    (eqb (sizeOf t) 0 ||
-    (not (eqb (sizeOf t) (length (t .list .images))) ||
-    (not (eqb (sizeOf t) (length (t .holders))) || ltb maxIntervals (sizeOf t))))
+    eqb n 0 || (eqb (sizeOf t) 0 || (unequal (sizeOf t) (columns t) || ltb maxIntervals (sizeOf t)))
+
+-- where interval x ends
+abbrev pub endAt : ℕ → Tables → ℕ → ℕ
+endAt n t x = endOf n (t .list) x
 
 -- 11, where interval x is handed in with place i: i is not below n, or x does not have it
 unfoldable pub outside : ℕ → Tables → ℕ → ℕ → Bool
-outside n t x i = leb n i || (ltb i (startOf (t .list) x) || leb (endOf n (t .list) x) i)
+outside n t x i = leb n i || (ltb i (startOf (t .list) x) || leb (endAt n t x) i)
 
 -- 12, the part about the holder: there is no such interval, or it starts above x's image
 unfoldable pub unheld : Tables → ℕ → Bool

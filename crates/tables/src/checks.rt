@@ -1,10 +1,11 @@
 // The tests of 9 to 11, and the part of 12 that speaks of the holder alone.
+use super::MAX_INTERVALS;
 use super::Moved;
 use super::Step;
 use outcomes::Refusal;
 ghost use mathlib.Core.Path.{_≡_};
 ghost use Rattle.tables.specs.Tables.{tables, misshapen, unheld};
-ghost use Rattle.tables.specs.Move.{movedSays, movesOf};
+ghost use Rattle.tables.specs.Move.{movedSays, movesOf, stayAt};
 ghost use Rattle.tables.specs.Parts.{Entered};
 
 // Test 9.
@@ -23,7 +24,7 @@ pub fn is_misshapen(n: u32, starts: &[u32], images: &[u32], holders: &[u32]) -> 
     if starts.len() != holders.len() {
         return true;
     }
-    32768 < starts.len()
+    MAX_INTERVALS < starts.len()
 }
 
 // Whether interval x has no holder that can be: test 12 but for what is reached.
@@ -39,7 +40,18 @@ pub fn is_unheld(starts: &[u32], images: &[u32], holders: &[u32], x: u32) -> boo
     images[at] < starts[h]
 }
 
-// Tests 9 to 11: where no moves lead.
+// Where no moves lead.
+pub(crate) fn stay(x: u32, i: u32) -> Step
+    ensures { λ r. ⌜ r ≡ stayAt x i ⌝ }
+{
+    Step {
+        place: i,
+        interval: x,
+        count: 0,
+    }
+}
+
+// Tests 9 to 11, and no move.
 pub(crate) fn locate(
     n: u32,
     starts: &[u32],
@@ -66,9 +78,5 @@ pub(crate) fn locate(
     if order::entry_or(starts, at + 1, n) <= i {
         return Moved::Refused(Refusal::PlaceRange(i)); // not below x's end
     }
-    Moved::To(Step {
-        place: i,
-        interval: x,
-        count: 0,
-    })
+    Moved::To(stay(x, i))
 }

@@ -9,6 +9,9 @@ ghost use mathlib.Core.Path.{_≡_};
 ghost use Rattle.tables.specs.Tables.{tables};
 ghost use Rattle.tables.specs.Move.{foundSays, movedSays, findOf, moveOf, movesOf};
 
+// The most intervals that tables may have.
+pub const MAX_INTERVALS: usize = 32768;
+
 // Where a move or a repeated move ends, and how many interval starts it passed.
 pub struct Step {
     pub place: u32,

@@ -5,8 +5,9 @@ use super::checks;
 use order::wide;
 use outcomes::Refusal;
 ghost use mathlib.Core.Path.{_≡_};
+ghost use Prim.Native.Nat.{_+_, _<_};
 ghost use Rattle.tables.specs.Tables.{tables};
-ghost use Rattle.tables.specs.Move.{movedSays, movesOf};
+ghost use Rattle.tables.specs.Move.{movedSays, movesOf, countedAfter};
 ghost use Rattle.tables.specs.Parts.{Located, advanceOf};
 
 // Test 12 and the step, from a place that lies in interval x.
@@ -38,6 +39,18 @@ pub(crate) fn advance(
     })
 }
 
+// A step with what was counted before it.
+fn counted(before: u64, s: Step) -> Step
+    requires { ⌜ before + s .count < 18446744073709551616 ⌝ }
+    ensures { λ r. ⌜ r ≡ countedAfter before s ⌝ }
+{
+    Step {
+        place: s.place,
+        interval: s.interval,
+        count: before + s.count,
+    }
+}
+
 // m moves from a place that lies in interval x, with the sum of the counts. After a move the place lies in the interval
 // reached, so that only 12 is left to test.
 pub(crate) fn moves_from(
@@ -52,24 +65,14 @@ pub(crate) fn moves_from(
     requires { ⌜ Located n (tables (now starts) (now images) (now holders)) x i ⌝ }
     ensures { λ r. ⌜ movedSays r ≡ movesOf n (tables (now (starts .entry)) (now (images .entry)) (now (holders .entry))) m x i ⌝ }
 {
-    let mut place = i;
-    let mut interval = x;
-    let mut count: u64 = 0;
+    let mut step = checks::stay(x, i);
     let mut made: u32 = 0;
     while made < m {
-        match advance(n, starts, images, holders, interval, place) {
+        match advance(n, starts, images, holders, step.interval, step.place) {
             Moved::Refused(r) => return Moved::Refused(r),
-            Moved::To(s) => {
-                place = s.place;
-                interval = s.interval;
-                count += s.count;
-            }
+            Moved::To(next) => step = counted(step.count, next),
         }
         made += 1;
     }
-    Moved::To(Step {
-        place,
-        interval,
-        count,
-    })
+    Moved::To(step)
 }

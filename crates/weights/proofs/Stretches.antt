@@ -111,8 +111,7 @@ module _ (n : ℕ) (t : Tables) (x : ℕ) where
 
     pub weight-entered : Entered t x
     weight-entered =
-        let i = passes .0 in
-        record { index = i .index; imaged = i .shape .imaged; held = i .shape .held }
+        let i = passes .0 in record { index = i .index; full = i .shape .full }
 
     pub stretch-within : (f : ℕ) → f ≡ underFirst t x → f + w ≤ sizeOf t
     unfolding underCount unplaced

@@ -1,5 +1,5 @@
--- The starts under an image and their number: of a list (document 01, "The collection's objects"), and as walked on any
--- tables ("Walking"). On the tables of a legal list the two are one (proofs/Walks).
+-- The starts under an image and their number as walked on any tables (document 01, "Walking"). On the tables of a legal
+-- list they are those of the list (proofs/LegalWeights).
 use Prim.Native.Nat.{ℕ, _+_}
 use mathlib.Core.Bool.{Bool, _&&_, _||_}
 use mathlib.Core.List.{List, [], _∷_}
@@ -9,8 +9,8 @@ use Rattle.outcomes.specs.Outcome.{Outcome, done, refused, Test, test, judge, _
 use Rattle.outcomes.specs.Refusal.{refusalSays}
 use Rattle.order.specs.Lists.{leading}
 use Rattle.outcomes.specs.Search.{keep}
-use Rattle.runs.specs.Runs.{Runs, startOf, imageOf, endOf, imageEnd}
-use Rattle.tables.specs.Tables.{Tables, holderOf, unheld, shapeTest, indexTest}
+use Rattle.runs.specs.Runs.{Runs, startOf, imageOf, imageEnd}
+use Rattle.tables.specs.Tables.{Tables, holderOf, unheld, shapeTest, indexTest, endAt}
 use Rattle.weights.specs.declared.Weighed.{Weighed}
 use Rattle.weights.specs.declared.Weighed.the-variants.{Weight, Refused}
 
@@ -21,7 +21,7 @@ weighedSays (Refused r) = refusalSays r
 -- 12 here: the part about the holder, or x has no length, or its image ends beyond n
 unfoldable pub unplaced : ℕ → Tables → ℕ → Bool
 unplaced n t x =
-    unheld t x || (leb (endOf n (t .list) x) (startOf (t .list) x) || ltb n (imageEnd n (t .list) x))
+    unheld t x || (leb (endAt n t x) (startOf (t .list) x) || ltb n (imageEnd n (t .list) x))
 
 -- where the stretch begins: at the holder if that starts at the image, else at the next interval
 unfoldable pub underFirst : Tables → ℕ → ℕ

@@ -5,7 +5,7 @@
 use crate::definition::{self as second, Outcome, Tables};
 use crate::random::{damage, damaged, legal, list_of, List, Random};
 use std::collections::BTreeSet;
-use zibewoka::exports::{self, BalanceAnswer, IntervalAnswer, ListAnswer, MoveAnswer, MovesAnswer};
+use zibewoka::exports::{self, BalanceAnswer, IntervalAnswer, ListAnswer, MoveAnswer, MovesAnswer, WeightAnswer};
 use zibewoka::Refusal;
 
 /// The numbers that each export gave.
@@ -139,11 +139,11 @@ impl Given {
     fn weight(&mut self, n: u32, t: &Tables, x: u32) {
         let wanted = second::weight(n, t, x);
         let answer = exports::weight(n, &t.starts, &t.images, &t.holders, x);
-        let (number, place, interval) = match wanted {
+        let (number, place, weight) = match wanted {
             Ok(weight) => (0, 0, weight),
             Err((number, place)) => (number, place, 0),
         };
-        assert_eq!(answer, IntervalAnswer { number, place, interval });
+        assert_eq!(answer, WeightAnswer { number, place, weight });
         assert_eq!(zibewoka::weight(n, &t.starts, &t.images, &t.holders, x), refusal(wanted));
         self.weight.insert(number);
     }

@@ -1,7 +1,7 @@
 -- `main` meets its contract: the bytes that `list_file` counts stand in the text.
 use mathlib.Core.Path.{sym}
 use lib.Seq.{length-take-le}
-use Rattle.listfile.proofs.Listings.{listed-within}
+use Rattle.listings.proofs.Listings.{listed-within}
 use borrow.Author.Needs.{needs}
 use Rattle.listing.proofs.main.Statement.{statement}
 use Rattle.listing.proofs.main.Tie as tie

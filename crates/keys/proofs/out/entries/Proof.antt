@@ -12,12 +12,6 @@ Inv-loop s i₀ i = i ≤ length s
 abbrev μ-loop : tie.MeasureT-loop
 μ-loop s i₀ i = length s - i
 
-slice-aggregate-name : tie.Need-slice-aggregate-name Inv-loop μ-loop
-slice-aggregate-name c = search needs
-
-name-requires : tie.Need-name-requires Inv-loop μ-loop
-name-requires c κs = search needs
-
 loop-holds : tie.Need-loop-holds Inv-loop μ-loop
 loop-holds c = search needs
 
@@ -54,8 +48,6 @@ entries-spec =
     (tie.spec
     Inv-loop
     μ-loop
-    slice-aggregate-name
-    name-requires
     loop-holds
     mul-number
     shared-slice-read-number

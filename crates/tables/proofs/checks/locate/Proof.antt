@@ -2,7 +2,9 @@
 use Rattle.tables.proofs.Steps.{locate-shape, locate-index, locate-place, locate-in}
 use Rattle.tables.proofs.Passing.{shaped, outside-far, outside-low, outside-high}
 use Rattle.order.proofs.Laws.{entry-after}
+use mathlib.Core.Path.{ap, _∙_}
 use native.Mathlib.Omega.{arith}
+use Rattle.outcomes.specs.Outcome.{done}
 use borrow.Author.Needs.{needs}
 use Rattle.tables.proofs.checks.locate.Statement.{statement}
 use Rattle.tables.proofs.checks.locate.Tie as tie
@@ -50,14 +52,23 @@ returns-5 c =
     let end = entry-after (a .starts .now) (a .x) (a .n) in
     locate-place _ _ _ _ s (omega arith) (outside-high _ _ _ _ (omega arith) (omega arith) (omega (arith, end)))
 
+stay-requires : tie.Need-stay-requires
+stay-requires c κs = search needs
+
 returns-6 : tie.Need-returns-6
 returns-6 c =
-    let e = c .before .before .before .before .before .before in
+    let e = c .before .before .before .before .before .before .before in
     let s = shaped _ _ _ (e .before .is-misshapen .ensures) (e .if1 .left) in
     let a = e .before .before .before .before .before .args in
     let end = entry-after (a .starts .now) (a .x) (a .n) in
-    locate-in _ _ _ _
-    (record { shape = s; index = omega arith; place = omega arith; low = omega arith; high = omega (arith, end) })
+    ap done (c .stay .ensures)
+    ∙ locate-in _ _ _ _
+    (record {
+      at = record { shape = s; index = omega arith };
+      place = omega arith;
+      low = omega arith;
+      high = omega (arith, end);
+    })
 
 pub locate-spec : {M : Type 1} → statement M
 locate-spec =
@@ -73,4 +84,5 @@ locate-spec =
     add-entry-or
     entry-or-requires
     returns-5
+    stay-requires
     returns-6)

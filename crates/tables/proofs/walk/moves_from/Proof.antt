@@ -1,6 +1,6 @@
--- `moves_from` meets its contract. The invariant is `Walking`: the place lies in its interval, and the state is what so
+-- `moves_from` meets its contract. The invariant is `Walking`: the place lies in its interval, and the step is what so
 -- many moves come to.
-use Rattle.tables.proofs.Moves.{Walking, walking-start, walking-sum, walking-more, walking-refused, walking-end}
+use Rattle.tables.proofs.Moves.{Walking, walking-start, walking-fits, walking-more, walking-refused, walking-end}
 use Rattle.tables.specs.Move.{movedSays}
 use Rattle.tables.specs.Tables.{tables}
 use borrow.Author.Needs.{needs}
@@ -11,14 +11,17 @@ use Rattle.tables.proofs.walk.moves_from.Statement.{statement}
 use Rattle.tables.proofs.walk.moves_from.Tie as tie
 
 abbrev Inv-loop : tie.InvT-loop
-Inv-loop n starts images holders x i m place₀ interval₀ count₀ made₀ place interval count made =
-    Walking n (tables starts images holders) x i m place interval count made
+Inv-loop n starts images holders x i m step₀ made₀ step made =
+    Walking n (tables starts images holders) x i m step made
 
 abbrev μ-loop : tie.MeasureT-loop
-μ-loop n starts images holders x i m place₀ interval₀ count₀ made₀ place interval count made = m - made
+μ-loop n starts images holders x i m step₀ made₀ step made = m - made
+
+stay-requires : tie.Need-stay-requires Inv-loop μ-loop
+stay-requires c κs = search needs
 
 loop-holds : tie.Need-loop-holds Inv-loop μ-loop
-loop-holds c = walking-start _ _ _ _ _ (c .before .before .before .pre)
+loop-holds c = walking-start _ _ _ _ _ (c .before .before .before .before .pre) _ (c .stay .ensures)
 
 advance-requires : tie.Need-advance-requires Inv-loop μ-loop
 advance-requires c κs = c .before .loop .inv .here
@@ -31,19 +34,19 @@ returns c =
     let a = c .before .before .before in
     let l = a .before .before in
     let e = ap movedSays (sym (c .before .r .given .1)) ∙ a .advance .ensures in
-    walking-refused _ _ _ _ _ _ _ _ _ (l .loop .inv) _ _ e (omega arith)
+    walking-refused _ _ _ _ _ _ _ (l .loop .inv) _ _ e (omega arith)
 
-enum-known-s : tie.Need-enum-known-s Inv-loop μ-loop
-enum-known-s c = search needs
+enum-known-next : tie.Need-enum-known-next Inv-loop μ-loop
+enum-known-next c = search needs
 
-add-count : tie.Need-add-count Inv-loop μ-loop
-add-count c =
-    let s = c .before .before in
+counted-requires : tie.Need-counted-requires Inv-loop μ-loop
+counted-requires c κs =
+    let s = c .before in
     let a = s .before .before in
     let l = a .before .before in
-    let e = ap movedSays (sym (s .s .given .1)) ∙ a .advance .ensures in
-    let h = walking-sum _ _ _ _ _ _ _ _ _ (l .loop .inv) _ e (a .before .loop-test .taken) in
-    omega arith
+    let e = ap movedSays (sym (s .next .given .1)) ∙ a .advance .ensures in
+    let begun = l .before .before .before .before .before in
+    walking-fits _ _ _ _ _ _ _ (l .loop .inv) _ e (a .before .loop-test .taken) (omega (arith, begun .fits .m))
 
 add-made : tie.Need-add-made Inv-loop μ-loop
 add-made c = omega arith
@@ -56,11 +59,11 @@ loop-again c =
     let s = c .before .before in
     let a = s .before .before in
     let l = a .before .before in
-    let e = ap movedSays (sym (s .s .given .1)) ∙ a .advance .ensures in
-    walking-more _ _ _ _ _ _ _ _ _ (l .loop .inv) _ e (a .before .loop-test .taken)
+    let e = ap movedSays (sym (s .next .given .1)) ∙ a .advance .ensures in
+    walking-more _ _ _ _ _ _ _ (l .loop .inv) _ e (a .before .loop-test .taken) _ (c .counted .ensures)
 
 returns-2 : tie.Need-returns-2 Inv-loop μ-loop
-returns-2 c = walking-end _ _ _ _ _ _ _ _ _ (c .before .loop .inv) (omega arith)
+returns-2 c = walking-end _ _ _ _ _ _ _ (c .before .loop .inv) (omega arith)
 
 pub moves-from-spec : {M : Type 1} → statement M
 moves-from-spec =
@@ -68,12 +71,13 @@ moves-from-spec =
     (tie.spec
     Inv-loop
     μ-loop
+    stay-requires
     loop-holds
     advance-requires
     enum-known-r
     returns
-    enum-known-s
-    add-count
+    enum-known-next
+    counted-requires
     add-made
     loop-less
     loop-again

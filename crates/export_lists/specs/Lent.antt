@@ -1,0 +1,26 @@
+-- What the exports that write promise: the answer, and of the lent tables at exit what the library promises. The
+-- library's own answer is there because its promise names it.
+use Prim.Native.Nat.{ℕ}
+use mathlib.Core.Path.{_≡_}
+use mathlib.Core.List.{List}
+use Rattle.outcomes.specs.Outcome.{mapDone}
+use Rattle.runs.specs.Runs.{Runs}
+use Rattle.runs.specs.Inverse.{InverseListed, inverseListOf}
+use Rattle.outcomes.specs.declared.Checked.{Checked}
+use Rattle.tables.specs.Tables.{sizeOf}
+use Rattle.balance.specs.Lent.{Lent, Balances, balanceOf}
+use Rattle.balance.specs.declared.Balanced.{Balanced}
+use Rattle.export_lists.specs.Answers.{listAnswer, balanceAnswer}
+use Rattle.export_lists.specs.declared.ListAnswer.{ListAnswer}
+use Rattle.export_lists.specs.declared.BalanceAnswer.{BalanceAnswer}
+
+pub record BalanceAnswered (n : ℕ) (r : Runs) (d : ℕ) (entry exit : Lent) (answer : BalanceAnswer) : Type 0 where
+  pub says : answer ≡ balanceAnswer (mapDone sizeOf (balanceOf n r d entry))
+  pub library : Balanced
+  pub at-exit : Balances n r d entry exit library
+
+pub record InverseListAnswered (n : ℕ) (r : Runs) (starts images starts′ images′ : List ℕ) (answer : ListAnswer)
+    : Type 0 where
+  pub says : answer ≡ listAnswer (inverseListOf n r starts images)
+  pub library : Checked
+  pub at-exit : InverseListed n r starts images starts′ images′ library

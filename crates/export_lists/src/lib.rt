@@ -1,0 +1,79 @@
+// Check, the inverse list and balance as C functions on numbers and slices, for a host program in Rust or C: thin above the proved operations.
+//
+// A slice passes as pointer and length. Each answer is a struct by value: `number` 0 means done; else it is the paper's
+// number, `place` is the place given with it, and the other fields are 0. specs/Answers.antt says which answer each
+// outcome is.
+mod answers;
+
+ghost use mathlib.Core.Path.{_≡_};
+ghost use Rattle.runs.specs.Runs.{runs};
+ghost use Rattle.runs.specs.Check.{checkOf};
+ghost use Rattle.balance.specs.Lent.{lent};
+ghost use Rattle.export_lists.specs.Answers.{listAnswer};
+ghost use Rattle.export_lists.specs.Lent.{BalanceAnswered, InverseListAnswered};
+
+// The answer of check and inverse list.
+#[repr(C)]
+pub struct ListAnswer {
+    pub number: u32,
+    pub place: u32,
+}
+
+// The answer of balance: how many intervals the balanced list has.
+#[repr(C)]
+pub struct BalanceAnswer {
+    pub number: u32,
+    pub place: u32,
+    pub intervals: u32,
+}
+
+// Whether a list is legal and has at most 16,384 runs.
+#[no_mangle]
+pub extern "C" fn zibewoka_check(n: u32, starts: &[u32], images: &[u32]) -> ListAnswer
+    ensures { λ r. ⌜ r ≡ listAnswer (checkOf n (runs (now (starts .entry)) (now (images .entry)))) ⌝ }
+{
+    answers::of_list(runs::check(n, starts, images))
+}
+
+// Balances a list into three lent tables, over a lent working table.
+#[no_mangle]
+pub extern "C" fn zibewoka_balance(
+    n: u32,
+    starts: &[u32],
+    images: &[u32],
+    d: u32,
+    to_starts: &mut [u32],
+    to_images: &mut [u32],
+    to_holders: &mut [u32],
+    working: &mut [u32],
+) -> BalanceAnswer
+    ensures { λ r. ⌜ BalanceAnswered n (runs (now (starts .entry)) (now (images .entry))) d
+        (lent (now («to_starts» .entry)) (now («to_images» .entry)) (now («to_holders» .entry)) (now (working .entry)))
+        (lent (now («to_starts» .exit)) (now («to_images» .exit)) (now («to_holders» .exit)) (now (working .exit))) r ⌝ }
+{
+    answers::of_balance(balance::balance(
+        n,
+        starts,
+        images,
+        d,
+        to_starts,
+        to_images,
+        to_holders,
+        working,
+    ))
+}
+
+// Writes the inverse list to two lent tables.
+#[no_mangle]
+pub extern "C" fn zibewoka_inverse_list(
+    n: u32,
+    starts: &[u32],
+    images: &[u32],
+    to_starts: &mut [u32],
+    to_images: &mut [u32],
+) -> ListAnswer
+    ensures { λ r. ⌜ InverseListAnswered n (runs (now (starts .entry)) (now (images .entry)))
+        (now («to_starts» .entry)) (now («to_images» .entry)) (now («to_starts» .exit)) (now («to_images» .exit)) r ⌝ }
+{
+    answers::of_list(runs::inverse_list(n, starts, images, to_starts, to_images))
+}

@@ -1,0 +1,126 @@
+// The walks through a move table as C functions on numbers and slices, for a host program in Rust or C: thin above the proved operations.
+//
+// A slice passes as pointer and length. Each answer is a struct by value: `number` 0 means done; else it is the paper's
+// number, `place` is the place given with it, and the other fields are 0. specs/Answers.antt says which answer each
+// outcome is.
+mod answers;
+
+ghost use mathlib.Core.Path.{_≡_};
+ghost use Rattle.tables.specs.Tables.{tables};
+ghost use Rattle.tables.specs.Move.{findOf, moveOf, movesOf};
+ghost use Rattle.preimages.specs.Inverse.{inverseOf};
+ghost use Rattle.weights.specs.Under.{weightOf};
+ghost use Rattle.export_walks.specs.Answers.{findAnswer, moveAnswer, movesAnswer, inverseAnswer, weightAnswer};
+
+// The answer of find and inverse. Find's place is the one asked about, inverse's the one that it was reached from.
+#[repr(C)]
+pub struct IntervalAnswer {
+    pub number: u32,
+    pub place: u32,
+    pub interval: u32,
+}
+
+// The answer of weight; its place is 0 where it is done.
+#[repr(C)]
+pub struct WeightAnswer {
+    pub number: u32,
+    pub place: u32,
+    pub weight: u32,
+}
+
+// The answer of a move.
+#[repr(C)]
+pub struct MoveAnswer {
+    pub number: u32,
+    pub place: u32,
+    pub interval: u32,
+    pub count: u32,
+}
+
+// The answer of a repeated move.
+#[repr(C)]
+pub struct MovesAnswer {
+    pub number: u32,
+    pub place: u32,
+    pub interval: u32,
+    pub count: u64,
+}
+
+// The interval that has a place.
+#[no_mangle]
+pub extern "C" fn zibewoka_find(
+    n: u32,
+    starts: &[u32],
+    images: &[u32],
+    holders: &[u32],
+    place: u32,
+) -> IntervalAnswer
+    ensures { λ r. ⌜ r ≡ findAnswer place (findOf n (tables (now (starts .entry)) (now (images .entry)) (now (holders .entry))) place) ⌝ }
+{
+    answers::of_find(tables::find(n, starts, images, holders, place), place)
+}
+
+// One move from a place of an interval.
+#[no_mangle]
+pub extern "C" fn zibewoka_move(
+    n: u32,
+    starts: &[u32],
+    images: &[u32],
+    holders: &[u32],
+    interval: u32,
+    place: u32,
+) -> MoveAnswer
+    ensures { λ r. ⌜ r ≡ moveAnswer (moveOf n (tables (now (starts .entry)) (now (images .entry)) (now (holders .entry))) interval place) ⌝ }
+{
+    let wide = answers::of_moves(tables::move_query(n, starts, images, holders, interval, place));
+    MoveAnswer {
+        number: wide.number,
+        place: wide.place,
+        interval: wide.interval,
+        count: wide.count as u32,
+    }
+}
+
+// m moves from a place of an interval, with the sum of their counts.
+#[no_mangle]
+pub extern "C" fn zibewoka_moves(
+    n: u32,
+    starts: &[u32],
+    images: &[u32],
+    holders: &[u32],
+    interval: u32,
+    place: u32,
+    m: u32,
+) -> MovesAnswer
+    ensures { λ r. ⌜ r ≡ movesAnswer (movesOf n (tables (now (starts .entry)) (now (images .entry)) (now (holders .entry))) m interval place) ⌝ }
+{
+    answers::of_moves(tables::repeated_moves(n, starts, images, holders, interval, place, m))
+}
+
+// The place that a place is reached from, and its interval.
+#[no_mangle]
+pub extern "C" fn zibewoka_inverse(
+    n: u32,
+    starts: &[u32],
+    images: &[u32],
+    holders: &[u32],
+    place: u32,
+) -> IntervalAnswer
+    ensures { λ r. ⌜ r ≡ inverseAnswer (inverseOf n (tables (now (starts .entry)) (now (images .entry)) (now (holders .entry))) place) ⌝ }
+{
+    answers::of_inverse(preimages::inverse(n, starts, images, holders, place))
+}
+
+// How many starts lie under an interval's image.
+#[no_mangle]
+pub extern "C" fn zibewoka_weight(
+    n: u32,
+    starts: &[u32],
+    images: &[u32],
+    holders: &[u32],
+    interval: u32,
+) -> WeightAnswer
+    ensures { λ r. ⌜ r ≡ weightAnswer (weightOf n (tables (now (starts .entry)) (now (images .entry)) (now (holders .entry))) interval) ⌝ }
+{
+    answers::of_weight(weights::weight(n, starts, images, holders, interval))
+}

@@ -1,0 +1,151 @@
+-- Balancing a list that is short enough to be listed, in tables with room for twice as many intervals: test 8 does not
+-- apply, and what is answered makes the text.
+use Prim.Native.Nat.{ℕ, zero, suc, _-_, _*_, _≤_, _<_}
+use mathlib.Core.Path.{_≡_, refl, sym, ap, subst, _∙_}
+use mathlib.Core.Logic.{_⊎_, inl, inr}
+use mathlib.Core.List.{List, [], _∷_}
+use native.Mathlib.Omega.{arith}
+use native.Mathlib.Nat.{div-le-of-le-mul}
+use lib.ListN.{length}
+use borrow.Author.Tests.{lt-ltb, le-ltb}
+use Rattle.order.proofs.Laws.{lt-or-le}
+use Rattle.outcomes.specs.Outcome.{Outcome, done, refused, judge, mapDone, andThen, test}
+use Rattle.outcomes.specs.Refusal.{numberOf, placeOf}
+use Rattle.runs.specs.Runs.{Runs, runs, countOf}
+use Rattle.runs.specs.Check.{checkTests, checkOf}
+use Rattle.outcomes.specs.declared.Refusal.{Refusal}
+use Rattle.outcomes.proofs.Judging.{done-refused, judge-append, map-then}
+use Rattle.runs.proofs.Accepted.{accepted-legal}
+use Rattle.tables.specs.Tables.{Tables, tablesOf, sizeOf}
+use Rattle.cuts.specs.Balance.{balanced, boundOf}
+use Rattle.balance.specs.Lent.{Lent, firstOf, balancedSays, degreeTest, tooShort, balanceOf, Balances}
+use Rattle.balance.specs.declared.Balanced.{Balanced}
+use Rattle.balance.specs.declared.Balanced.the-variants.{Intervals, Refused}
+use Rattle.cuts.proofs.Balancing.{balanced-legal, balanced-cuts}
+use Rattle.balance.proofs.Heads.{head-is, head-room}
+use Rattle.files.specs.Parts.{degreeOf, listedOf}
+use Rattle.files.specs.declared.Header.{Header}
+use Rattle.files.proofs.Bodies.{listed-done}
+use Rattle.listings.specs.Listing.{maxListed, tableText, listText}
+use Rattle.listings.specs.Parts.{maxTabled, Listed, Tabled, Answered, answerText}
+
+-- lent tables with room for the balanced list of 1,024 runs at any degree
+pub record Spacious (l : Lent) : Type 0 where
+  pub starts : maxTabled ≤ length (l .starts)
+  pub images : maxTabled ≤ length (l .images)
+  pub holders : maxTabled ≤ length (l .holders)
+  pub working : maxTabled ≤ length (l .working)
+
+-- the bound is at most twice the count
+bound-twice : (d k : ℕ) → 2 ≤ d → boundOf d k ≤ 2 * k
+bound-twice zero k h = absurd (omega arith)
+bound-twice (suc zero) k h = absurd (omega arith)
+bound-twice (suc (suc f)) k h =
+    let z : suc (suc f) - 1 ≡ suc f = omega arith in
+    rw z (div-le-of-le-mul (suc f) {m = suc (suc f) * k} {n = 2 * k} (omega arith))
+
+module _ (h : Header) (r : Runs) (few : countOf r ≤ maxListed) (entry : Lent) (s : Spacious entry) where
+  -- the tables that balancing is to leave
+  abbrev goal : Tables
+  goal = tablesOf (h .n) (balanced (h .d) (h .n) r)
+
+  -- 7, and then 8, which has room
+  degrees : judge (degreeTest (h .d) ∷ test 8 (tooShort (boundOf (h .d) (countOf r)) entry) (boundOf (h .d) (countOf r)) ∷ []) goal
+      ≡ mapDone (λ g. goal) (degreeOf h)
+  unfolding degreeOf judge mapDone tooShort
+  degrees = go (lt-or-le (h .d) 2) (lt-or-le 64 (h .d))
+    where
+      go : (h .d < 2) ⊎ (2 ≤ h .d) → (64 < h .d) ⊎ (h .d ≤ 64)
+          → judge (degreeTest (h .d) ∷ test 8 (tooShort (boundOf (h .d) (countOf r)) entry) (boundOf (h .d) (countOf r)) ∷ []) goal
+          ≡ mapDone (λ g. goal) (degreeOf h)
+      go (inl a) b = simp (lt-ltb _ _ a)
+      go (inr a) (inl b) = simp (le-ltb _ _ a, lt-ltb _ _ b)
+      go (inr a) (inr b) =
+          let m = bound-twice (h .d) (countOf r) a in
+          simp (
+            le-ltb _ _ a,
+            le-ltb _ _ b,
+            le-ltb (length (entry .starts)) (boundOf (h .d) (countOf r)) (omega (arith, s .starts)),
+            le-ltb (length (entry .images)) (boundOf (h .d) (countOf r)) (omega (arith, s .images)),
+            le-ltb (length (entry .holders)) (boundOf (h .d) (countOf r)) (omega (arith, s .holders)),
+            le-ltb (length (entry .working)) (boundOf (h .d) (countOf r)) (omega (arith, s .working)),
+          )
+
+  balance-listed : balanceOf (h .n) r (h .d) entry ≡ mapDone (λ g. goal) (listedOf h r)
+  unfolding balanceOf checkOf listedOf
+  balance-listed =
+      judge-append {A = Unit {0}} (checkTests (h .n) r) _ tt goal
+      ∙ ap (λ (o : Outcome Tables). andThen (checkOf (h .n) r) (λ u. o)) degrees
+      ∙ sym (map-then (λ g. goal) (checkOf (h .n) r) (λ u. degreeOf h))
+
+  module _ (exit : Lent) (answer : Balanced) (b : Balances (h .n) r (h .d) entry exit answer) where
+    says : balancedSays answer ≡ mapDone (λ g. sizeOf goal) (listedOf h r)
+    unfolding mapDone
+    says = b .says ∙ ap (mapDone sizeOf) balance-listed ∙ go (listedOf h r)
+      where
+        go : (o : Outcome Header) → mapDone sizeOf (mapDone (λ g. goal) o) ≡ mapDone (λ g. sizeOf goal) o
+        go (done g) = refl
+        go (refused k p) = refl
+
+    -- a refusal
+    refused-text : (f : Refusal) → answer ≡ Refused f → listText r (listedOf h r) ≡ answerText h answer (runs (exit .starts) (exit .images))
+    unfolding mapDone listText answerText
+    refused-text f q = rw q (go (listedOf h r) (sym (ap balancedSays q) ∙ says))
+      where
+        go : (o : Outcome Header) → refused (numberOf f) (placeOf f) ≡ mapDone (λ g. sizeOf goal) o
+            → listText r o ≡ answerText h (Refused f) (runs (exit .starts) (exit .images))
+        go (done g) z = absurd (done-refused (sizeOf goal) (numberOf f) (placeOf f) (sym z))
+        go (refused k p) z =
+            let u : k ≡ numberOf f = cc in
+            let v : p ≡ placeOf f = cc in
+            rw (u, v)
+
+    -- an answer of k intervals: the tests have passed
+    module _ (k : ℕ) (q : answer ≡ Intervals k) where
+      passed : (listedOf h r ≡ done h) × (k ≡ countOf (balanced (h .d) (h .n) r))
+      unfolding mapDone
+      passed = go (listedOf h r) refl (sym (ap balancedSays q) ∙ says)
+        where
+          go : (o : Outcome Header) → listedOf h r ≡ o → done k ≡ mapDone (λ g. sizeOf goal) o
+              → (listedOf h r ≡ done h) × (k ≡ countOf (balanced (h .d) (h .n) r))
+          go (done g) z w = (z ∙ ap done (listed-done h r g z .0), cc)
+          go (refused j p) z w = absurd (done-refused k j p w)
+
+      heads : Tabled (h .n) k (exit .starts) (exit .images) (exit .holders) × (firstOf k exit ≡ goal)
+      unfolding mapDone
+      heads =
+          let parts = listed-done h r h (passed .0) in
+          let c = accepted-legal (h .n) r (parts .1) .0 in
+          let legal = balanced-legal (h .d) (h .n) (parts .2) r c in
+          let cuts = balanced-cuts (h .d) (h .n) (parts .2) r c in
+          let balances : balanceOf (h .n) r (h .d) entry ≡ done goal = balance-listed ∙ ap (mapDone (λ g. goal)) (passed .0) in
+          let rooms = head-room (h .n) r (h .d) entry exit answer b balances (legal .paired) in
+          let first : firstOf k exit ≡ goal = rw (passed .1) (head-is (h .n) r (h .d) entry exit answer b balances (legal .paired)) in (
+            record {
+              in-starts = rw (passed .1) (rooms .0);
+              in-images = rw (passed .1) (rooms .1);
+              in-holders = rw (passed .1) (rooms .2);
+              listed = subst (λ (τ : Tables). Listed (h .n) τ) (sym first)
+                  (record { legal = legal; held = refl; few = omega (arith, cuts .counted, cuts .fuelled) });
+            },
+            first,
+          )
+
+      table-text : listText r (listedOf h r) ≡ answerText h answer (runs (exit .starts) (exit .images))
+      unfolding listText answerText
+      table-text = rw (q, passed .0) (ap (λ (τ : Tables). tableText h (τ .list)) (sym (heads .1)))
+
+    text-is : listText r (listedOf h r) ≡ answerText h answer (runs (exit .starts) (exit .images))
+    text-is = go answer refl
+      where
+        go : (a : Balanced) → answer ≡ a → listText r (listedOf h r) ≡ answerText h answer (runs (exit .starts) (exit .images))
+        go (Intervals k) q = table-text k q
+        go (Refused f) q = refused-text f q
+
+module _ (h : Header) (r : Runs) (few : countOf r ≤ maxListed) (entry exit : Lent) (answer : Balanced)
+    (b : Balances (h .n) r (h .d) entry exit answer) (s : Spacious entry) where
+  pub answered : Answered (h .n) answer (exit .starts) (exit .images) (exit .holders)
+  answered k q = heads h r few entry s exit answer b k q .0
+
+  pub answer-is : listText r (listedOf h r) ≡ answerText h answer (runs (exit .starts) (exit .images))
+  answer-is = text-is h r few entry s exit answer b

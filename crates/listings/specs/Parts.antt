@@ -1,0 +1,51 @@
+-- What the parts of `list_file` ask and promise.
+use Prim.Native.Nat.{ℕ, _≤_}
+use mathlib.Core.Path.{_≡_}
+use mathlib.Core.List.{List}
+use lib.ListN.{length, take}
+use Rattle.runs.specs.Runs.{Runs, runs}
+use Rattle.runs.specs.Legal.{Legal}
+use Rattle.outcomes.specs.Refusal.{numberOf, placeOf}
+use Rattle.tables.specs.Tables.{Tables, tables, tablesOf, sizeOf}
+use Rattle.balance.specs.declared.Balanced.{Balanced}
+use Rattle.balance.specs.declared.Balanced.the-variants.{Intervals, Refused}
+use Rattle.text.specs.Text.{refusalText}
+use Rattle.files.specs.declared.Header.{Header}
+use Rattle.listings.specs.Listing.{tableText}
+
+-- balancing makes at most twice as many intervals as there are runs, at any degree
+abbrev pub maxTabled : ℕ
+maxTabled = 2048
+
+-- No line of an interval is longer: six numbers of 10 digits, with a byte after each, and a sign. Nor is a first line, of
+-- four such numbers, and so no listing is longer than `maxText`.
+abbrev pub maxRow : ℕ
+maxRow = 67
+
+abbrev pub maxHead : ℕ
+maxHead = 44
+
+abbrev pub maxText : ℕ
+maxText = 137260
+
+-- tables of a legal list that is short enough to be listed
+pub record Listed (n : ℕ) (t : Tables) : Type 0 where
+  pub legal : Legal n (t .list)
+  pub held : t ≡ tablesOf n (t .list)
+  pub few : sizeOf t ≤ maxTabled
+
+-- what an answer of balancing makes the text, with the first tables as it left them
+unfoldable pub answerText : Header → Balanced → Runs → List ℕ
+answerText h (Intervals k) t = tableText h (runs (take k (t .starts)) (take k (t .images)))
+answerText h (Refused r) t = refusalText (numberOf r) (placeOf r)
+
+-- the first k entries of three tables are to be listed
+pub record Tabled (n k : ℕ) (starts images holders : List ℕ) : Type 0 where
+  pub in-starts : k ≤ length starts
+  pub in-images : k ≤ length images
+  pub in-holders : k ≤ length holders
+  pub listed : Listed n (tables (take k starts) (take k images) (take k holders))
+
+-- and these are they, where balancing answered k intervals
+abbrev pub Answered : ℕ → Balanced → List ℕ → List ℕ → List ℕ → Type 0
+Answered n answer starts images holders = (k : ℕ) → answer ≡ Intervals k → Tabled n k starts images holders

@@ -1,0 +1,33 @@
+-- What moves come to by a list's function and the starts of a list, with no holders: what walks through the tables of a
+-- legal list give (proofs/LegalTables), and what the plain walk answers.
+use Prim.Native.Nat.{ℕ, zero, suc, _-_, _*_}
+use mathlib.Core.Bool.{_&&_}
+use lib.ListN.{length}
+use lib.Dec.{ltb, leb}
+use Rattle.outcomes.specs.Search.{keep}
+use Rattle.runs.specs.Runs.{Runs, imageOf, runAt, mapOf}
+use Rattle.tables.specs.Move.{countedAfter}
+use Rattle.tables.specs.declared.Step.{Step}
+
+-- what a move from p to q counts: the starts of t that lie above the image of t's interval that has p, and not above q
+abbrev pub plainCount : ℕ → Runs → ℕ → ℕ → ℕ
+plainCount n t p q = length (keep (λ s. ltb (imageOf t (runAt n t p)) s && leb s q) (t .starts))
+
+-- the most that a move counts in tables balanced at degree d
+abbrev pub maxCount : ℕ → ℕ
+maxCount d = 2 * d - 1
+
+-- at place q, in the interval of t that has it
+abbrev pub plainStep : ℕ → Runs → ℕ → ℕ → Step
+plainStep n t q c = record { place = q; interval = runAt n t q; count = c }
+
+-- r is the list whose function is followed, t the list whose intervals are told.
+module _ (n : ℕ) (r t : Runs) where
+  -- A move goes from p to the place that r sends it to.
+  unfoldable pub plainMove : ℕ → Step
+  plainMove p = plainStep n t (mapOf n r p) (plainCount n t p (mapOf n r p))
+
+  -- m such moves answer where the last one leads, and the sum of the counts; none answer where the walk stands.
+  unfoldable pub plainMoves : ℕ → ℕ → Step
+  plainMoves zero p = plainStep n t p 0
+  plainMoves (suc m) p = let s = plainMoves m p in countedAfter (s .count) (plainMove (s .place))

@@ -1,0 +1,3 @@
+-- The text of numbers and lines, and the page that it is written on.
+pub mod Text
+pub mod Page

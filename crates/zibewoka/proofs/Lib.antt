@@ -1,2 +1,0 @@
--- What the proofs of the exports rest on.
-mod Counts

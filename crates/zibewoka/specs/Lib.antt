@@ -1,3 +1,0 @@
--- The answers that cross the boundary.
-pub mod Answers
-pub mod Lent
