@@ -34,7 +34,7 @@ use denote.Plain.{uint-vals, uint-tells}
 use denote.Builtin.{u32}
 use denote.Ref.{RefT, MutRef, now, ptr-vals, mut-tells}
 use denote.Signature.{Slot, plain, shrSliceOf}
-use denote.Slice.{ShrSlice, sliceVal, slice-vals, shr-slice-tells, shr-slice-lawful}
+use denote.Slice.{ShrSlice, slice-vals, shr-slice-tells, shr-slice-lawful}
 use denote.Steps.{only, opens, closes, owned, peeks, heard, nothing}
 use denote.Struct.Steps.{spelt}
 use denote.Struct.Laws as LL
@@ -52,6 +52,7 @@ use Rattle.tables.specs.Tables.{tables as tablesIn}
 use Rattle.bookmarks.specs.Bookmark.{Advances}
 use Rattle.bookmarks.specs.declared.Bookmark.{Bookmark}
 use Rattle.bookmarks.specs.declared.Marked.{Marked}
+use Rattle.bookmarks.proofs.Held.{Xs, v, Number, Slice}
 use Rattle.bookmarks.proofs.Bookmark as T
 use Rattle.bookmarks.proofs.Bookmark.Laws as T′
 use Rattle.tables.proofs.Moved as S
@@ -66,9 +67,6 @@ use Rattle.bookmarks.proofs.advance.Key.{name as #bookmarks·advance}
 use Rattle.bookmarks.proofs.advance as advance
 use Rattle.bookmarks.proofs.advance.Statement as stated
 use Rattle.bookmarks.proofs.advance.Code as code
-
-abbrev Xs : Type 0
-Xs = RefT (List ℕ)
 
 -- the places of the number and of the slices in the signature
 abbrev num : Slot 4
@@ -115,24 +113,21 @@ module _ {M : Type 1} (𝓤 : URA M) (H : Heap 𝓤) (A : Atoms 𝓤) (W : Given
   abbrev x : ℕ × (Xs × (Xs × (Xs × (RefT Bookmark × Unit {0}))))
   x = (n, (s₁, (s₂, (s₃, (record { ptr = (b, o); name = γ; now = h }, tt)))))
 
-  abbrev v : Xs → Val
-  v s = sliceVal (s .ptr) (length (s .now))
-
   abbrev at : Vals advance.signature κs
   at = (vint w32 n ∷ [], (v s₁ ∷ [], (v s₂ ∷ [], (v s₃ ∷ [], (vptr b o ∷ [], tt)))))
 
   -- what the number and the slices own
   abbrev O₀ : Fml
-  O₀ = u32 .own n (vint w32 n ∷ [])
+  O₀ = Number n
 
   abbrev O₁ : Fml
-  O₁ = ShrSlice (named 0) κ₁ u32 .own s₁ (v s₁ ∷ [])
+  O₁ = Slice 0 κ₁ s₁
 
   abbrev O₂ : Fml
-  O₂ = ShrSlice (named 1) κ₂ u32 .own s₂ (v s₂ ∷ [])
+  O₂ = Slice 1 κ₂ s₂
 
   abbrev O₃ : Fml
-  O₃ = ShrSlice (named 2) κ₃ u32 .own s₃ (v s₃ ∷ [])
+  O₃ = Slice 2 κ₃ s₃
 
   -- what the contract says
   abbrev Said : Marked → Type 0
