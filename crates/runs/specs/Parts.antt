@@ -1,4 +1,4 @@
--- What the private parts of `check` and `inverse_list` ask and promise.
+-- What the parts of `check` and `inverse_list` ask and promise, `check_order` among them, which crates of our own call.
 use Prim.Native.Nat.{ℕ, suc, _≤_, _<_}
 use mathlib.Core.Path.{_≡_}
 use mathlib.Core.Bool.{Bool, _&&_, _||_}
