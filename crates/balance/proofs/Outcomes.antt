@@ -31,7 +31,7 @@ lentTests r d l = degreeTest d ∷ test 8 (tooShort (boundOf d (countOf r)) l) (
 
 module _ (n : ℕ) (r : Runs) (d : ℕ) (l : Lent) where
   parts : balanceOf n r d l ≡ andThen (checkOf n r) (λ _. judge (lentTests r d l) (tablesOf n (balanced d n r)))
-  unfolding balanceOf checkOf
+  unfolding balanceOf
   parts = judge-append (checkTests n r) (lentTests r d l) tt (tablesOf n (balanced d n r))
 
   refuses : (x : Refusal) → balanceOf n r d l ≡ refusalSays x → Balances n r d l l (Refused x)

@@ -36,7 +36,7 @@ use Rattle.demands.proofs.Marking.{fresh-stands, same-trail, trail-boun
 -- balancing an accepted list into roomy tables is not refused
 balance-done : (n : ℕ) (r : Runs) (d : ℕ) (l : Lent) → checkOf n r ≡ done tt → 2 ≤ d → d ≤ 64 → Roomy (boundOf d (countOf r)) l
     → balanceOf n r d l ≡ done (tablesOf n (balanced d n r))
-unfolding balanceOf checkOf tooShort judge andThen
+unfolding balanceOf tooShort judge andThen
 balance-done n r d l a many few m =
     judge-append {A = Unit {0}} (checkTests n r) _ tt (tablesOf n (balanced d n r))
     ∙ rw a

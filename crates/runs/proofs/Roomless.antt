@@ -9,7 +9,7 @@ use borrow.Author.Tests.{lt-ltb, eq-eqb, ne-eqb}
 use Rattle.outcomes.specs.Outcome.{Outcome, Test, done, refused, judge, andThen, mapDone, _then_else_}
 use Rattle.outcomes.specs.Refusal.{checkedSays}
 use Rattle.runs.specs.Runs.{Runs, countOf}
-use Rattle.runs.specs.Check.{listTests, checkTests, checkOf}
+use Rattle.runs.specs.Check.{listTests, testsUpTo, checkTests, checkOf}
 use Rattle.runs.specs.Inverse.{inverseListOf, InverseListed}
 use Rattle.runs.specs.Parts.{writtenOf, butForRoom}
 use Rattle.outcomes.specs.declared.Checked.{Checked}
@@ -37,7 +37,7 @@ roomless (t ∷ ts) h k = go (t .applies) (roomless ts (h .1) k)
 
 pub checked-roomless : (n : ℕ) (r : Runs) (a′ b′ : List ℕ) (o : Checked) → 0 < countOf r → InverseListed n r [] [] a′ b′ o
     → butForRoom (checkedSays o) ≡ checkOf n r
-unfolding NotEight checkOf checkTests listTests writtenOf judge
+unfolding NotEight testsUpTo listTests writtenOf judge
 checked-roomless n r a′ b′ o h l =
     let short : writtenOf r [] [] ≡ refused 8 (countOf r) = simp (lt-ltb 0 (countOf r) h) in
     let f : inverseListOf n r [] [] ≡ andThen (checkOf n r) (λ _. refused 8 (countOf r)) =

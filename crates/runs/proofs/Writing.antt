@@ -73,7 +73,7 @@ module _ (r : Runs) (a b : List ℕ) where
 -- the whole of `inverse_list`: tests 1 to 6, and then what is written
 module _ (n : ℕ) (r : Runs) (a b : List ℕ) where
   pub listed-parts : inverseListOf n r a b ≡ andThen (checkOf n r) (λ _. writtenOf r a b)
-  unfolding inverseListOf checkOf writtenOf
+  unfolding inverseListOf writtenOf
   listed-parts = judge-append (checkTests n r) (roomTest r a b) tt (inverseRuns r)
 
   pub listed-refused : (x : Refusal) → refusalSays x ≡ checkOf n r → InverseListed n r a b a b (Refused x)

@@ -10,7 +10,7 @@ use Rattle.outcomes.specs.Outcome.{Outcome, Test, done, refused, test, judge, m
 use Rattle.outcomes.specs.Refusal.{checkedSays}
 use Rattle.outcomes.specs.Search.{firstBelow}
 use Rattle.runs.specs.Runs.{Runs, countOf, startOf, imageOf, endOf}
-use Rattle.runs.specs.Check.{maxRuns, overlaps, checkOf}
+use Rattle.runs.specs.Check.{overlaps, checkUpTo}
 use Rattle.runs.specs.Inverse.{inverseRuns}
 use Rattle.outcomes.specs.declared.Checked.{Checked}
 
@@ -27,9 +27,9 @@ pub record Lasting (n : ℕ) (r : Runs) : Type 0 where
   pub paired : length (r .images) ≡ countOf r
   pub lasting : (x : ℕ) → x < countOf r → startOf r x < endOf n r x
 
--- a table has an entry for each run, where there are not too many
-abbrev pub Roomy : List ℕ → List ℕ → Type 0
-Roomy starts table = length starts ≤ maxRuns → length starts ≤ length table
+-- a table has an entry for each run of a list that is not refused for its many runs
+abbrev pub HoldsRuns : ℕ → List ℕ → List ℕ → Type 0
+HoldsRuns most starts table = length starts ≤ most → length starts ≤ length table
 
 -- the first entries of `order` are the runs in rising order of image
 pub record Ordered (r : Runs) (order : List ℕ) : Type 0 where
@@ -48,9 +48,9 @@ pub record OverlapFound (n : ℕ) (r : Runs) (order : List ℕ) (x : ℕ) : Type
   pub ordered : Ordered r order
 
 -- the answer of a check, and the order that it leaves of a list that it accepts
-pub record CheckedInto (n : ℕ) (r : Runs) (order : List ℕ) (answer : Checked) : Type 0 where
-  pub says : checkedSays answer ≡ checkOf n r
-  pub ordered : checkOf n r ≡ done tt → Ordered r order
+pub record OrderChecked (most n : ℕ) (r : Runs) (order : List ℕ) (answer : Checked) : Type 0 where
+  pub says : checkedSays answer ≡ checkUpTo most n r
+  pub ordered : checkUpTo most n r ≡ done tt → Ordered r order
 
 -- test 8 by itself, and what is written where it passes
 abbrev pub roomTest : Runs → List ℕ → List ℕ → List Test

@@ -16,10 +16,12 @@ ghost use Rattle.outcomes.specs.Refusal.{checkedSays};
 ghost use Rattle.runs.specs.Runs.{runs};
 ghost use Rattle.runs.specs.Check.{checkOf};
 ghost use Rattle.runs.specs.Inverse.{InverseListed};
-ghost use Rattle.runs.specs.Parts.{Roomy, CheckedInto, butForRoom};
+ghost use Rattle.runs.specs.Parts.{HoldsRuns, OrderChecked, butForRoom};
 
 // The most runs that a list may have.
 pub const MAX_RUNS: usize = 16384;
+
+const MOST_RUNS: u32 = 16384;
 
 // Lists of so few runs get smaller tables to work in: clearing larger ones would take longer than their check.
 const FEW_RUNS: usize = 64;
@@ -27,23 +29,24 @@ const FEW_RUNS: usize = 64;
 // The same for lists between short and long ones.
 pub const SOME_RUNS: usize = 1024;
 
-// Tests 1 to 6. `order` is room for the order of the runs by image, and holds it if the list is accepted; `spare` is
-// room to work in.
-fn check_into(
+// Tests 1 to 6, of a list that may have `most` runs. `order` is room for the order of the runs by image, and holds it if
+// the list is accepted; `spare` is room to work in. Public for our own crates, which lend that room.
+pub fn check_order(
     n: u32,
     starts: &[u32],
     images: &[u32],
+    most: u32,
     order: &mut [u32],
     spare: &mut [u32],
 ) -> Checked
-    requires { ⌜ Roomy (now starts) (now order) × Roomy (now starts) (now spare) ⌝ }
-    ensures { λ r. ⌜ CheckedInto n (runs (now (starts .entry)) (now (images .entry))) (now (order .exit)) r ⌝ }
+    requires { ⌜ HoldsRuns most (now starts) (now order) × HoldsRuns most (now starts) (now spare) ⌝ }
+    ensures { λ r. ⌜ OrderChecked most n (runs (now (starts .entry)) (now (images .entry))) (now (order .exit)) r ⌝ }
 {
     if conditions::is_unmatched(n, starts, images) {
         return Checked::Refused(Refusal::ListShape);
     }
     let k = starts.len();
-    if MAX_RUNS < k {
+    if (most as usize) < k {
         return Checked::Refused(Refusal::TooManyRuns);
     }
     if starts[0] != 0 {
@@ -88,7 +91,7 @@ pub fn check(n: u32, starts: &[u32], images: &[u32]) -> Checked
     if starts.len() <= FEW_RUNS {
         let mut order: [u32; FEW_RUNS] = [0; FEW_RUNS];
         let mut spare: [u32; FEW_RUNS] = [0; FEW_RUNS];
-        return check_into(n, starts, images, &mut order, &mut spare);
+        return check_order(n, starts, images, MOST_RUNS, &mut order, &mut spare);
     }
     but_for_room(inverse_list(n, starts, images, &mut [], &mut []))
 }
@@ -103,11 +106,11 @@ fn invert_into(
     to_starts: &mut [u32],
     to_images: &mut [u32],
 ) -> Checked
-    requires { ⌜ Roomy (now starts) (now order) × Roomy (now starts) (now spare) ⌝ }
+    requires { ⌜ HoldsRuns 16384 (now starts) (now order) × HoldsRuns 16384 (now starts) (now spare) ⌝ }
     ensures { λ r. ⌜ InverseListed n (runs (now (starts .entry)) (now (images .entry)))
         (now («to_starts» .entry)) (now («to_images» .entry)) (now («to_starts» .exit)) (now («to_images» .exit)) r ⌝ }
 {
-    let checked = check_into(n, starts, images, order, spare);
+    let checked = check_order(n, starts, images, MOST_RUNS, order, spare);
     match checked {
         Checked::Refused(refusal) => Checked::Refused(refusal),
         Checked::Accepted => inverse::write(starts, images, order, to_starts, to_images),

@@ -7,14 +7,14 @@ use borrow.Author.Needs.{needs}
 use Rattle.runs.proofs.check.Statement.{statement}
 use Rattle.runs.proofs.check.Tie as tie
 
-slice-aggregate-check-into : tie.Need-slice-aggregate-check-into
-slice-aggregate-check-into c = search needs
+slice-aggregate-check-order : tie.Need-slice-aggregate-check-order
+slice-aggregate-check-order c = search needs
 
-slice-aggregate-check-into-2 : tie.Need-slice-aggregate-check-into-2
-slice-aggregate-check-into-2 c = search needs
+slice-aggregate-check-order-2 : tie.Need-slice-aggregate-check-order-2
+slice-aggregate-check-order-2 c = search needs
 
-check-into-requires : tie.Need-check-into-requires
-check-into-requires c κs = search needs
+check-order-requires : tie.Need-check-order-requires
+check-order-requires c κs = search needs
 
 returns : tie.Need-returns
 returns c = search needs
@@ -40,9 +40,9 @@ pub check-spec : {M : Type 1} → statement M
 check-spec =
     tie.close
     (tie.spec
-    slice-aggregate-check-into
-    slice-aggregate-check-into-2
-    check-into-requires
+    slice-aggregate-check-order
+    slice-aggregate-check-order-2
+    check-order-requires
     returns
     slice-aggregate-inverse-list
     slice-aggregate-inverse-list-2

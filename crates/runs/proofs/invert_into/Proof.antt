@@ -14,10 +14,10 @@ use Rattle.runs.proofs.invert_into.Tie as tie
 passed : (c : tie.After-enum-told)
     → let a = c .before .before .before .before .before .before .before .before .before .before .before .before .before .before .before in
     done tt ≡ checkOf (a .args .n) (runs (a .args .starts .now) (a .args .images .now))
-passed c = ap checkedSays (sym (c .enum-told .given .1)) ∙ c .before .before .before .before .before .before .check-into .ensures .says
+passed c = ap checkedSays (sym (c .enum-told .given .1)) ∙ c .before .before .before .before .before .before .check-order .ensures .says
 
-check-into-requires : tie.Need-check-into-requires
-check-into-requires c κs = search needs
+check-order-requires : tie.Need-check-order-requires
+check-order-requires c κs = search needs
 
 enum-known-checked : tie.Need-enum-known-checked
 enum-known-checked c = search needs
@@ -28,7 +28,7 @@ enum-told c = search needs
 write-requires : tie.Need-write-requires
 write-requires c κs =
     let e = sym (passed (c .before .before .before)) in
-    (c .before .before .before .before .before .before .before .before .before .check-into .ensures .ordered e, accepted-legal _ _ e .1)
+    (c .before .before .before .before .before .before .before .before .before .check-order .ensures .ordered e, accepted-legal _ _ e .1)
 
 same-length : tie.Need-same-length
 same-length c = search needs
@@ -39,7 +39,7 @@ same-length-2 c = search needs
 returns : tie.Need-returns
 returns c =
     listed-refused _ _ _ _ _
-    (ap checkedSays (sym (c .before .checked .given .1)) ∙ c .before .before .before .before .before .before .before .check-into .ensures .says)
+    (ap checkedSays (sym (c .before .checked .given .1)) ∙ c .before .before .before .before .before .before .before .check-order .ensures .says)
 
 same-length-3 : tie.Need-same-length-3
 same-length-3 c = search needs
@@ -60,7 +60,7 @@ pub invert-into-spec : {M : Type 1} → statement M
 invert-into-spec =
     tie.close
     (tie.spec
-    check-into-requires
+    check-order-requires
     enum-known-checked
     enum-told
     write-requires
