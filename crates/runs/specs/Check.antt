@@ -4,7 +4,7 @@ use mathlib.Core.Bool.{Bool, not, _&&_, _||_}
 use mathlib.Core.List.{List, [], _∷_, _++_}
 use lib.ListN.{length, getD}
 use lib.Dec.{ltb, leb, eqb}
-use Rattle.outcomes.specs.Outcome.{Outcome, Test, test, judge}
+use Rattle.outcomes.specs.Outcome.{Outcome, Test, test, shortTest, judge}
 use Rattle.outcomes.specs.Search.{firstBelow, anyBelow}
 use Rattle.runs.specs.Runs.{Runs, countOf, imageOf, imageEnd}
 
@@ -65,3 +65,7 @@ checkTests n r = testsUpTo maxRuns n r
 
 abbrev pub checkOf : ℕ → Runs → Outcome (Unit {0})
 checkOf n r = checkUpTo maxRuns n r
+
+-- tests 1 to 6, then 8: of a call that writes k entries to lent tables
+abbrev pub writeTests : ℕ → Runs → List (List ℕ) → List Test
+writeTests n r tables = checkTests n r ++ (shortTest (countOf r) tables ∷ [])
