@@ -16,7 +16,7 @@ use Rattle.outcomes.proofs.Judging.{judge-append}
 use Rattle.runs.specs.Runs.{Runs, countOf}
 use Rattle.runs.specs.Check.{maxRuns, checkTests, checkOf}
 use Rattle.runs.specs.Legal.{Legal}
-use Rattle.runs.specs.Parts.{Roomy, Ordered}
+use Rattle.runs.specs.Parts.{HoldsRuns, Ordered}
 use Rattle.runs.proofs.Accepted.{accepted-legal}
 use Rattle.tables.specs.Tables.{Tables, tablesOf}
 use Rattle.cuts.specs.Balance.{balanced}
@@ -102,7 +102,7 @@ module _ (n : ℕ) (r : Runs) (d : ℕ) (s : Sizes) where
 module _ (n : ℕ) (r : Runs) (d : ℕ) (l : Lent) where
   -- the tests of what is lent are those of its lengths
   pub balance-planned : balanceOf n r d l ≡ mapDone (λ _. tablesOf n (balanced d n r)) (plannedOf n r d (sizesOf l))
-  unfolding balanceOf checkOf plannedOf sizedOf tooShort judge mapDone andThen
+  unfolding balanceOf plannedOf sizedOf tooShort judge mapDone andThen
   balance-planned =
       judge-append {A = Unit {0}} (checkTests n r) (degreeTest d ∷ test 8 (shortSizes b (sizesOf l)) b ∷ []) tt t
       ∙ go (checkOf n r)
@@ -145,8 +145,8 @@ module _ (n : ℕ) (r : Runs) (d : ℕ) (s : Sizes) (p : plannedOf n r d s ≡ d
       (i .0, i .1, e .1)
 
   -- the tables to work in have an entry for each run
-  pub planned-cuttable : (order ranked working : List ℕ) → Ordered r order → Roomy (r .starts) order
-      → Roomy (r .starts) ranked → s .working ≡ length working → Cuttable n r order ranked d working
+  pub planned-cuttable : (order ranked working : List ℕ) → Ordered r order → HoldsRuns maxRuns (r .starts) order
+      → HoldsRuns maxRuns (r .starts) ranked → s .working ≡ length working → Cuttable n r order ranked d working
   planned-cuttable order ranked working o a b e =
       let l = planned-list in
       let t = planned-sizes in

@@ -8,8 +8,8 @@ use lib.Dec.{ltb}
 use Rattle.outcomes.specs.Outcome.{Outcome, done, Test, test, judge, andThen}
 use Rattle.outcomes.specs.Refusal.{refusalSays, checkedSays}
 use Rattle.outcomes.specs.declared.Checked.{Checked}
-use Rattle.runs.specs.Check.{checkOf}
-use Rattle.runs.specs.Parts.{Roomy, Ordered}
+use Rattle.runs.specs.Check.{maxRuns, checkOf}
+use Rattle.runs.specs.Parts.{HoldsRuns, Ordered}
 use Rattle.runs.specs.Runs.{Runs, countOf}
 use Rattle.cuts.specs.Merged.{BalancingCuts}
 use Rattle.balance.specs.Lent.{Lent, degreeTest, tableSize}
@@ -45,8 +45,8 @@ pub record Decided (n : ℕ) (r : Runs) (d : ℕ) (s : Sizes) (order : List ℕ)
 
 -- what planning asks: room for the order, and the length of the working table
 pub record Plannable (starts : List ℕ) (s : Sizes) (order spare working : List ℕ) : Type 0 where
-  pub in-order : Roomy starts order
-  pub in-spare : Roomy starts spare
+  pub in-order : HoldsRuns maxRuns starts order
+  pub in-spare : HoldsRuns maxRuns starts spare
   pub working-is : s .working ≡ length working
 
 -- what it comes to: the cuts stand in the working table, or a test applies and that table is as it was

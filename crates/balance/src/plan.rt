@@ -8,7 +8,7 @@ ghost use Prim.Native.Nat.{_≤_};
 ghost use lib.ListN.{length};
 ghost use Rattle.outcomes.specs.Refusal.{checkedSays};
 ghost use Rattle.runs.specs.Check.{maxRuns};
-ghost use Rattle.runs.specs.Parts.{Roomy};
+ghost use Rattle.runs.specs.Parts.{HoldsRuns};
 ghost use Rattle.runs.specs.Runs.{runs};
 ghost use Rattle.cuts.specs.Balance.{boundOf};
 ghost use Rattle.balance.specs.Plan.{shortSizes, sizedOf, Decided, Plannable, Plans};
@@ -64,10 +64,10 @@ fn decide_list(
     order: &mut [u32],
     spare: &mut [u32],
 ) -> Checked
-    requires { ⌜ Roomy (now starts) (now order) × Roomy (now starts) (now spare) ⌝ }
+    requires { ⌜ HoldsRuns maxRuns (now starts) (now order) × HoldsRuns maxRuns (now starts) (now spare) ⌝ }
     ensures { λ r. ⌜ Decided n (runs (now (starts .entry)) (now (images .entry))) d sizes (now (order .exit)) r ⌝ }
 {
-    let checked = runs::check_order(n, starts, images, order, spare);
+    let checked = runs::check_order(n, starts, images, runs::MOST_RUNS, order, spare);
     match checked {
         Checked::Refused(refusal) => Checked::Refused(refusal),
         Checked::Accepted => decide(d, starts.len(), sizes),

@@ -10,7 +10,7 @@ use lib.ListN.{length}
 use Rattle.outcomes.specs.Outcome.{Outcome, done, refused, Test, test, judge, _then_else_}
 use Rattle.outcomes.specs.Refusal.{checkedSays}
 use Rattle.runs.specs.Runs.{Runs}
-use Rattle.runs.specs.Check.{listTests, checkTests, checkOf}
+use Rattle.runs.specs.Check.{listTests, testsUpTo}
 use Rattle.runs.specs.Inverse.{inverseListOf, InverseListed}
 use Rattle.outcomes.specs.declared.Checked.{Checked}
 use Rattle.outcomes.proofs.Judging.{done-refused, map-refused, filled-refused}
@@ -91,7 +91,7 @@ judged : {A : Type 0} (order : List ℕ) (ts : List Test) (a : A) → map (λ t.
 judged order ts a e = record { in-order = e; when-done = judge-passes a ts; when-refused = judge-refuses a ts }
 
 pub demand1 : Demand1
-unfolding listTests checkTests countTests layoutTests headerTests bodyTests fileTests checkOf inverseListOf balanceOf findOf moveOf movesOf inverseOf weightOf bookmarkOf fileOf
+unfolding listTests testsUpTo countTests layoutTests headerTests bodyTests fileTests inverseListOf balanceOf findOf moveOf movesOf inverseOf weightOf bookmarkOf fileOf
 demand1 = record {
   check = λ n r. judged _ _ _ refl;
   inverse-list = λ n r a b. judged _ _ _ refl;

@@ -10,8 +10,8 @@ use Rattle.outcomes.specs.Outcome.{done, refused}
 use Rattle.outcomes.specs.Refusal.{checkedSays}
 use Rattle.runs.specs.Runs.{Runs, countOf, runAt, mapOf, powerOf, carryBack}
 use Rattle.runs.specs.Legal.{DisjointIntervals, IntervalSequence}
-use Rattle.runs.specs.Check.{maxRuns, checkTests, checkOf}
-use Rattle.runs.specs.Inverse.{inverseRuns, inverseListTests, inverseListOf, InverseListed}
+use Rattle.runs.specs.Check.{maxRuns, checkTests, checkOf, writeTests}
+use Rattle.runs.specs.Inverse.{inverseRuns, inverseListOf, InverseListed}
 use Rattle.outcomes.specs.declared.Checked.{Checked}
 use Rattle.tables.specs.Tables.{Tables, tablesOf}
 use Rattle.tables.specs.Move.{movedSays, findTests, locateTests, moveTests, passed, stepOf, stayAt, findOf, moveOf, movesOf, Stopped}
@@ -39,7 +39,7 @@ use Rattle.demands.specs.Served.{served, servedTrail, Advancing}
 pub record Demand1 : Type 0 where
   pub check : (n : ℕ) (r : Runs) → Judged (1 ∷ 2 ∷ 3 ∷ 4 ∷ 5 ∷ 6 ∷ []) (checkTests n r) tt (checkOf n r)
   pub inverse-list : (n : ℕ) (r : Runs) (a b : List ℕ)
-      → Judged (1 ∷ 2 ∷ 3 ∷ 4 ∷ 5 ∷ 6 ∷ 8 ∷ []) (inverseListTests n r a b) (inverseRuns r) (inverseListOf n r a b)
+      → Judged (1 ∷ 2 ∷ 3 ∷ 4 ∷ 5 ∷ 6 ∷ 8 ∷ []) (writeTests n r (a ∷ b ∷ [])) (inverseRuns r) (inverseListOf n r a b)
   pub balance : (n : ℕ) (r : Runs) (d : ℕ) (l : Lent)
       → Judged (1 ∷ 2 ∷ 3 ∷ 4 ∷ 5 ∷ 6 ∷ 7 ∷ 8 ∷ []) (balanceTests n r d l) (tablesOf n (balanced d n r)) (balanceOf n r d l)
   pub find : (n : ℕ) (t : Tables) (i : ℕ)

@@ -7,7 +7,7 @@ use mathlib.Core.List.{List, [], _∷_, _++_, map}
 use lib.IntN.{ℤ, pos, negsuc}
 use Rattle.outcomes.specs.Outcome.{Outcome, done, refused, judge, mapDone, andThen}
 use Rattle.runs.specs.Runs.{Runs, runs, countOf, startOf, imageOf, shiftOf}
-use Rattle.runs.specs.Check.{unmatched, unordered, outOfRange, overlap, overlaps, listTests, checkTests, checkOf}
+use Rattle.runs.specs.Check.{unmatched, unordered, outOfRange, overlap, overlaps, listTests, testsUpTo, checkOf}
 use Rattle.tables.specs.Tables.{Tables, tablesOf, holderOf, misshapen, outside, unheld, broken}
 use Rattle.tables.specs.Move.{passed, walkCount, stepTo, stepOf, moveOf, onwards, movesOf}
 use Rattle.preimages.specs.Inverse.{sends, sourceOf, inverseOf}
@@ -118,5 +118,5 @@ keys =
     []
 
 pub keys-hold : map computed keys ≡ map given keys
-unfolding judge mapDone andThen unmatched unordered outOfRange overlap overlaps listTests checkTests checkOf misshapen outside unheld broken passed walkCount stepTo stepOf moveOf onwards movesOf sends sourceOf inverseOf cutting balanced
+unfolding judge mapDone andThen unmatched unordered outOfRange overlap overlaps listTests testsUpTo misshapen outside unheld broken passed walkCount stepTo stepOf moveOf onwards movesOf sends sourceOf inverseOf cutting balanced
 keys-hold = refl

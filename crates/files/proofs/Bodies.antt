@@ -9,7 +9,7 @@ use borrow.Author.Tests.{lt-ltb, le-ltb, ne-eqb, eq-eqb, ltb-false}
 use Rattle.order.proofs.Laws.{or-false}
 use Rattle.outcomes.specs.Outcome.{Outcome, done, refused, judge, andThen}
 use Rattle.runs.specs.Runs.{Runs, countOf}
-use Rattle.runs.specs.Check.{maxRuns, unmatched, listTests, checkTests, checkOf}
+use Rattle.runs.specs.Check.{maxRuns, unmatched, listTests, testsUpTo, checkOf}
 use Rattle.outcomes.proofs.Judging.{done-refused, judge-append, judge-first, judge-done}
 use Rattle.files.specs.Words.{wordOf, headerOf, runsAt, runsOf}
 use Rattle.files.specs.File.{headerTests, bodyTests, fileTests, fileOf}
@@ -61,7 +61,7 @@ module _ (h : Header) where
 -- of matched lists that are few enough, check makes tests 3 to 6
 checks-rest : (n : ℕ) (r : Runs) → 0 < n → 0 < countOf r → countOf r ≡ length (r .images) → countOf r ≤ maxRuns
     → checkOf n r ≡ judge (listTests n r) (tt {0})
-unfolding checkOf checkTests unmatched judge
+unfolding testsUpTo unmatched judge
 checks-rest n r p s e l = simp (ne-eqb n 0 (λ q. omega arith), ne-eqb (countOf r) 0 (λ q. omega arith), eq-eqb _ _ e, le-ltb _ _ l)
 
 -- so the list of a file whose header was read comes to the file's body

@@ -72,7 +72,7 @@ module _ (h : Header) (r : Runs) (few : countOf r ≤ maxListed) (entry : Lent) 
           )
 
   balance-listed : balanceOf (h .n) r (h .d) entry ≡ mapDone (λ g. goal) (listedOf h r)
-  unfolding balanceOf checkOf listedOf
+  unfolding balanceOf listedOf
   balance-listed =
       judge-append {A = Unit {0}} (checkTests (h .n) r) _ tt goal
       ∙ ap (λ (o : Outcome Tables). andThen (checkOf (h .n) r) (λ u. o)) degrees

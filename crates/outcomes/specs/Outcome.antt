@@ -1,8 +1,9 @@
 -- What a call comes to, in the paper's numbers (document 01, "Numbers and their conditions").
 use Prim.Native.Nat.{ℕ}
-use mathlib.Core.Bool.{Bool, true, false}
+use mathlib.Core.Bool.{Bool, true, false, _||_}
 use mathlib.Core.List.{List, [], _∷_, _++_}
 use lib.ListN.{length, drop}
+use lib.Dec.{ltb}
 
 infixr 3 _then_else_
 abbrev pub _then_else_ : {A : Type 0} → Bool → A → A → A
@@ -22,6 +23,14 @@ pub record Test : Type 0 where
 
 abbrev pub test : ℕ → Bool → ℕ → Test
 test k b p = record { number = k; applies = b; place = p }
+
+-- 8: a lent table has fewer than k entries
+abbrev pub anyShort : ℕ → List (List ℕ) → Bool
+anyShort k [] = false
+anyShort k (t ∷ ts) = ltb (length t) k || anyShort k ts
+
+abbrev pub shortTest : ℕ → List (List ℕ) → Test
+shortTest k tables = test 8 (anyShort k tables) k
 
 -- the first test that applies decides, and nothing but its condition; where none applies, the result
 unfoldable pub judge : {A : Type 0} → List Test → A → Outcome A

@@ -13,7 +13,7 @@ use Rattle.outcomes.specs.Outcome.{done}
 use Rattle.outcomes.specs.Search.{firstBelow}
 use Rattle.runs.specs.Runs.{Runs, countOf, startOf, imageOf}
 use Rattle.runs.specs.Legal.{Legal}
-use Rattle.runs.specs.Check.{maxRuns, unmatched, unordered, outOfRange, overlaps, listTests, checkTests, checkOf}
+use Rattle.runs.specs.Check.{maxRuns, unmatched, unordered, outOfRange, overlaps, listTests, testsUpTo, checkUpTo, checkOf}
 use Rattle.outcomes.proofs.Judging.{judge-first}
 use Rattle.outcomes.proofs.Searches.{any-none, any-false}
 use Rattle.runs.proofs.Legality.{homes}
@@ -32,10 +32,10 @@ same x y h = go (ℕ-discrete x y)
 true-none : (p : ℕ → Bool) (k : ℕ) → ((x : ℕ) → x < k → p x ≡ false) → k ≤ firstBelow p k
 true-none p k h = ltb-false (firstBelow p k) k (any-none p k (λ x l e. absurd (false≢true (sym (h x l) ∙ e))))
 
-module _ (n : ℕ) (r : Runs) where
+module _ (most n : ℕ) (r : Runs) where
   -- what acceptance says of the tests
-  accepted : checkOf n r ≡ done tt → Within n r × ((x : ℕ) → x < countOf r → overlaps n r x ≡ false)
-  unfolding checkOf checkTests listTests
+  accepted : checkUpTo most n r ≡ done tt → Within most n r × ((x : ℕ) → x < countOf r → overlaps n r x ≡ false)
+  unfolding testsUpTo listTests
   accepted e =
       let one = judge-first _ _ tt tt (sym e) in
       let two = judge-first _ _ tt tt (one .1) in
@@ -53,8 +53,8 @@ module _ (n : ℕ) (r : Runs) where
         λ x l. any-false (overlaps n r) (countOf r) x (six .0) l,
       )
 
-  pub accepted-legal : checkOf n r ≡ done tt → Legal n r × (countOf r ≤ maxRuns) × (0 < n)
-  accepted-legal e =
+  pub accepted-up-to : checkUpTo most n r ≡ done tt → Legal n r × (countOf r ≤ most) × (0 < n)
+  accepted-up-to e =
       let a = accepted e in
       let c = a .0 .rising in
       let m = matched n r (c .begun .matched) in (
@@ -62,14 +62,17 @@ module _ (n : ℕ) (r : Runs) where
           some = m .some;
           paired = m .paired;
           first = c .begun .first;
-          below = λ x l. in-order-all n r c x l .0;
-          rising = rises n r c;
+          below = λ x l. in-order-all most n r c x l .0;
+          rising = rises most n r c;
           within = λ x l. out-of-range-within n r x (none-true (outOfRange n r) (countOf r) (a .0 .within) x l);
           apart = λ x y p h l b d f g. same x y (λ z. absurd (false≢true (sym (a .1 x h) ∙ overlaps-true n r x y l record { other = z; left = omega arith; right = omega arith })));
         },
         c .begun .few,
         m .places,
       )
+
+pub accepted-legal : (n : ℕ) (r : Runs) → checkOf n r ≡ done tt → Legal n r × (countOf r ≤ maxRuns) × (0 < n)
+accepted-legal = accepted-up-to maxRuns
 
 module _ (n : ℕ) (r : Runs) (c : Legal n r) where
   unmatched-false : unmatched n r ≡ false
@@ -82,7 +85,7 @@ module _ (n : ℕ) (r : Runs) (c : Legal n r) where
         eq-eqb (countOf r) (length (r .images)) (sym (c .paired)),
       )
 
-  unordered-false : (x : ℕ) → x < countOf r → unordered n r x ≡ false
+  unordered-false : (x : ℕ) → x < countOf r → unordered n (r .starts) x ≡ false
   unfolding unordered
   unordered-false zero l = simp (lt-leb n (startOf r 0) (c .below 0 l))
   unordered-false (suc x) l =
@@ -108,11 +111,14 @@ module _ (n : ℕ) (r : Runs) (c : Legal n r) where
       go (inr a) =
           s .other (c .apart x y (imageOf r x) h l (omega arith) (omega (arith, homes n r c .lasting x h)) a (s .left))
 
-  pub legal-accepted : countOf r ≤ maxRuns → checkOf n r ≡ done tt
-  legal-accepted f = sym (check-accepts n r record {
+  pub legal-up-to : (most : ℕ) → countOf r ≤ most → checkUpTo most n r ≡ done tt
+  legal-up-to most f = sym (check-accepts most n r record {
     rising = record {
       begun = record { matched = unmatched-false; few = f; first = c .first };
-      in-order = true-none (unordered n r) (countOf r) unordered-false;
+      in-order = true-none (unordered n (r .starts)) (countOf r) unordered-false;
     };
     within = true-none (outOfRange n r) (countOf r) out-of-range-none;
   } (true-none (overlaps n r) (countOf r) (λ x l. overlaps-false n r x (λ y m. legal-unshared x y l m))))
+
+  pub legal-accepted : countOf r ≤ maxRuns → checkOf n r ≡ done tt
+  legal-accepted = legal-up-to maxRuns

@@ -12,9 +12,9 @@ use Rattle.order.proofs.Laws.{lt-or-le, or-false}
 use Rattle.outcomes.specs.Outcome.{done, refused, judge}
 use Rattle.outcomes.specs.Search.{firstBelow}
 use Rattle.runs.specs.Runs.{Runs, countOf, startOf, endOf, imageEnd}
-use Rattle.runs.specs.Check.{maxRuns, unmatched, unordered, outOfRange, overlaps, listTests, checkTests, checkOf}
+use Rattle.runs.specs.Check.{unmatched, unordered, outOfRange, overlaps, listTests, testsUpTo, checkUpTo}
 use Rattle.outcomes.specs.Refusal.{refusalSays}
-use Rattle.runs.specs.Parts.{Lasting, CheckedInto}
+use Rattle.runs.specs.Parts.{Lasting, OrderChecked}
 use Rattle.outcomes.specs.declared.Refusal.{Refusal}
 use Rattle.outcomes.specs.declared.Checked.the-variants.{Refused}
 use Rattle.outcomes.proofs.Judging.{done-refused}
@@ -54,7 +54,7 @@ matched n r e =
     }
 
 -- what test 4 shows of run x
-pub in-order : (n : ℕ) (r : Runs) (x : ℕ) → unordered n r x ≡ false
+pub in-order : (n : ℕ) (r : Runs) (x : ℕ) → unordered n (r .starts) x ≡ false
     → (startOf r x < n) × (0 < x → startOf r (x - 1) < startOf r x)
 unfolding unordered
 in-order n r x e =
@@ -62,36 +62,36 @@ in-order n r x e =
     (leb-false n (startOf r x) (a .0), λ h. leb-false _ _ (rw (lt-ltb 0 x h) at (a .1)))
 
 -- what the tests show where they do not apply: 1 to 3, 1 to 4, and 1 to 5
-pub record Begun (n : ℕ) (r : Runs) : Type 0 where
+pub record Begun (most n : ℕ) (r : Runs) : Type 0 where
   pub matched : unmatched n r ≡ false
-  pub few : countOf r ≤ maxRuns
+  pub few : countOf r ≤ most
   pub first : startOf r 0 ≡ 0
 
-pub record Rising (n : ℕ) (r : Runs) : Type 0 where
-  pub begun : Begun n r
-  pub in-order : countOf r ≤ firstBelow (unordered n r) (countOf r)
+pub record Rising (most n : ℕ) (r : Runs) : Type 0 where
+  pub begun : Begun most n r
+  pub in-order : countOf r ≤ firstBelow (unordered n (r .starts)) (countOf r)
 
-pub record Within (n : ℕ) (r : Runs) : Type 0 where
-  pub rising : Rising n r
+pub record Within (most n : ℕ) (r : Runs) : Type 0 where
+  pub rising : Rising most n r
   pub within : countOf r ≤ firstBelow (outOfRange n r) (countOf r)
 
 -- no run has the property
 pub none-true : (p : ℕ → Bool) (k : ℕ) → k ≤ firstBelow p k → (x : ℕ) → x < k → p x ≡ false
 none-true p k h x l = any-false p k x (le-ltb (firstBelow p k) k h) l
 
-module _ (n : ℕ) (r : Runs) where
-  pub in-order-all : Rising n r → (x : ℕ) → x < countOf r
+module _ (most n : ℕ) (r : Runs) where
+  pub in-order-all : Rising most n r → (x : ℕ) → x < countOf r
       → (startOf r x < n) × (0 < x → startOf r (x - 1) < startOf r x)
-  in-order-all c x l = in-order n r x (none-true (unordered n r) (countOf r) (c .in-order) x l)
+  in-order-all c x l = in-order n r x (none-true (unordered n (r .starts)) (countOf r) (c .in-order) x l)
 
-  pub rises : Rising n r → (x : ℕ) → suc x < countOf r → startOf r x < startOf r (suc x)
+  pub rises : Rising most n r → (x : ℕ) → suc x < countOf r → startOf r x < startOf r (suc x)
   rises c x l =
       let next = in-order-all c (suc x) l .1 (omega arith) in
       let e : suc x - 1 ≡ x = omega arith in
       rw e at next
 
   -- so each run has a length
-  pub lasting : Rising n r → Lasting n r
+  pub lasting : Rising most n r → Lasting n r
   lasting c = record { paired = matched n r (c .begun .matched) .paired; lasting = λ x l. at x l (lt-or-le (suc x) (countOf r)) }
     where
       at : (x : ℕ) → x < countOf r → (suc x < countOf r) ⊎ (countOf r ≤ suc x) → startOf r x < endOf n r x
@@ -99,25 +99,25 @@ module _ (n : ℕ) (r : Runs) where
       at x l (inr m) = omega (arith, end-last n r x m, in-order-all c x l .0)
 
   -- the ways to return
-  pub check-unmatched : unmatched n r ≡ true → refused 1 0 ≡ checkOf n r
-  unfolding checkOf checkTests judge
+  pub check-unmatched : unmatched n r ≡ true → refused 1 0 ≡ checkUpTo most n r
+  unfolding testsUpTo judge
   check-unmatched e = simp e
 
-  pub check-too-many : unmatched n r ≡ false → maxRuns < countOf r → refused 2 0 ≡ checkOf n r
-  unfolding checkOf checkTests judge
+  pub check-too-many : unmatched n r ≡ false → most < countOf r → refused 2 0 ≡ checkUpTo most n r
+  unfolding testsUpTo judge
   check-too-many m h = simp (m, lt-ltb _ _ h)
 
-  pub check-first-start : unmatched n r ≡ false → countOf r ≤ maxRuns → startOf r 0 ≢ 0 → refused 3 0 ≡ checkOf n r
-  unfolding checkOf checkTests listTests judge
+  pub check-first-start : unmatched n r ≡ false → countOf r ≤ most → startOf r 0 ≢ 0 → refused 3 0 ≡ checkUpTo most n r
+  unfolding testsUpTo listTests judge
   check-first-start m f h = simp (m, le-ltb _ _ f, ne-eqb _ _ h)
 
   module _ (x : ℕ) (h : x < countOf r) where
-    pub check-unordered : Begun n r → x ≡ firstBelow (unordered n r) (countOf r) → refused 4 x ≡ checkOf n r
-    unfolding checkOf checkTests listTests judge
+    pub check-unordered : Begun most n r → x ≡ firstBelow (unordered n (r .starts)) (countOf r) → refused 4 x ≡ checkUpTo most n r
+    unfolding testsUpTo listTests judge
     check-unordered c e = simp (c .matched, le-ltb _ _ (c .few), eq-eqb _ _ (c .first), ← e, lt-ltb _ _ h)
 
-    pub check-out-of-range : Rising n r → x ≡ firstBelow (outOfRange n r) (countOf r) → refused 5 x ≡ checkOf n r
-    unfolding checkOf checkTests listTests judge
+    pub check-out-of-range : Rising most n r → x ≡ firstBelow (outOfRange n r) (countOf r) → refused 5 x ≡ checkUpTo most n r
+    unfolding testsUpTo listTests judge
     check-out-of-range c e =
         simp (
           c .begun .matched,
@@ -128,8 +128,8 @@ module _ (n : ℕ) (r : Runs) where
           lt-ltb _ _ h,
         )
 
-    pub check-overlap : Within n r → x ≡ firstBelow (overlaps n r) (countOf r) → refused 6 x ≡ checkOf n r
-    unfolding checkOf checkTests listTests judge
+    pub check-overlap : Within most n r → x ≡ firstBelow (overlaps n r) (countOf r) → refused 6 x ≡ checkUpTo most n r
+    unfolding testsUpTo listTests judge
     check-overlap w e =
         let c = w .rising in
         simp (
@@ -142,8 +142,8 @@ module _ (n : ℕ) (r : Runs) where
           lt-ltb _ _ h,
         )
 
-  pub check-accepts : Within n r → countOf r ≤ firstBelow (overlaps n r) (countOf r) → done tt ≡ checkOf n r
-  unfolding checkOf checkTests listTests judge
+  pub check-accepts : Within most n r → countOf r ≤ firstBelow (overlaps n r) (countOf r) → done tt ≡ checkUpTo most n r
+  unfolding testsUpTo listTests judge
   check-accepts w h =
       let c = w .rising in
       simp (
@@ -156,6 +156,6 @@ module _ (n : ℕ) (r : Runs) where
       )
 
 -- a refusal leaves no order to speak of
-pub refused-into : (n : ℕ) (r : Runs) (order : List ℕ) (x : Refusal) → refusalSays x ≡ checkOf n r
-    → CheckedInto n r order (Refused x)
-refused-into n r order x e = record { says = e; ordered = λ d. absurd (done-refused tt _ _ (sym (e ∙ d))) }
+pub refused-into : (most n : ℕ) (r : Runs) (order : List ℕ) (x : Refusal) → refusalSays x ≡ checkUpTo most n r
+    → OrderChecked most n r order (Refused x)
+refused-into most n r order x e = record { says = e; ordered = λ d. absurd (done-refused tt _ _ (sym (e ∙ d))) }

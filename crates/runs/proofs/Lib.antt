@@ -13,5 +13,4 @@ pub mod Tiling
 pub mod Sequences
 pub mod Inversion
 mod Writing
-mod Roomless
 pub mod Shifting

@@ -1,19 +1,19 @@
 -- What `gather` and `write` leave in the lent tables: entry by entry, the inverse list in front of what was there.
 use Prim.Native.Nat.{ℕ, _+_, _-_, _≤_, _<_}
 use mathlib.Core.Path.{_≡_, refl, sym, ap, _∙_}
-use mathlib.Core.List.{List, _++_, map}
+use mathlib.Core.List.{List, [], _∷_, _++_, map}
 use native.Mathlib.Omega.{arith}
 use lib.ListN.{length, take, drop, length-map}
 use borrow.Author.Tests.{lt-ltb, le-ltb}
 use Rattle.order.specs.Order.{keyOf, orderOf}
 use Rattle.sorting.specs.Parts.{Gathers}
 use Rattle.order.proofs.Laws.{order-length}
-use Rattle.outcomes.specs.Outcome.{done, refused, judge, andThen, mapDone, filled}
+use Rattle.outcomes.specs.Outcome.{done, refused, shortTest, judge, andThen, mapDone, filled}
 use Rattle.outcomes.specs.Refusal.{refusalSays}
 use Rattle.runs.specs.Runs.{Runs, countOf, startOf, imageOf}
 use Rattle.runs.specs.Check.{checkTests, checkOf}
-use Rattle.runs.specs.Inverse.{inverseRuns, inverseListOf, InverseListed}
-use Rattle.runs.specs.Parts.{Ordered, Written, roomTest, writtenOf}
+use Rattle.runs.specs.Inverse.{inverseRuns, inverseListOf, WritesList, InverseListed}
+use Rattle.runs.specs.Parts.{Ordered, writtenOf}
 use Rattle.outcomes.specs.declared.Refusal.{Refusal}
 use Rattle.outcomes.specs.declared.Refusal.the-variants.{ShortTable}
 use Rattle.outcomes.specs.declared.Checked.{Checked}
@@ -43,15 +43,15 @@ gathered-front r order o f m to to′ e p =
 
 -- a table too short, and two that are not
 module _ (r : Runs) (a b : List ℕ) where
-  written-refused : writtenOf r a b ≡ refused 8 (countOf r) → Written r a b a b (Refused (ShortTable (countOf r)))
+  written-refused : writtenOf r a b ≡ refused 8 (countOf r) → WritesList (writtenOf r a b) a b a b (Refused (ShortTable (countOf r)))
   unfolding mapDone filled
   written-refused e = record { says = rw e; starts-at-exit = rw e; images-at-exit = rw e }
 
-  pub starts-short : length a < countOf r → Written r a b a b (Refused (ShortTable (countOf r)))
+  pub starts-short : length a < countOf r → WritesList (writtenOf r a b) a b a b (Refused (ShortTable (countOf r)))
   unfolding writtenOf judge
   starts-short h = written-refused (simp (lt-ltb _ _ h))
 
-  pub images-short : countOf r ≤ length a → length b < countOf r → Written r a b a b (Refused (ShortTable (countOf r)))
+  pub images-short : countOf r ≤ length a → length b < countOf r → WritesList (writtenOf r a b) a b a b (Refused (ShortTable (countOf r)))
   unfolding writtenOf judge
   images-short h l = written-refused (simp (le-ltb _ _ h, lt-ltb _ _ l))
 
@@ -62,7 +62,7 @@ module _ (r : Runs) (a b : List ℕ) where
 
     pub written : (order a′ b′ : List ℕ) → Ordered r order
         → a′ ≡ map (imageOf r) (take (length (r .images)) order) ++ drop (length (r .images)) a
-        → b′ ≡ map (startOf r) (take (countOf r) order) ++ drop (countOf r) b → Written r a b a′ b′ Accepted
+        → b′ ≡ map (startOf r) (take (countOf r) order) ++ drop (countOf r) b → WritesList (writtenOf r a b) a b a′ b′ Accepted
     unfolding mapDone filled inverseRuns
     written order a′ b′ o p q = record {
       says = rw written-done;
@@ -73,8 +73,8 @@ module _ (r : Runs) (a b : List ℕ) where
 -- the whole of `inverse_list`: tests 1 to 6, and then what is written
 module _ (n : ℕ) (r : Runs) (a b : List ℕ) where
   pub listed-parts : inverseListOf n r a b ≡ andThen (checkOf n r) (λ _. writtenOf r a b)
-  unfolding inverseListOf checkOf writtenOf
-  listed-parts = judge-append (checkTests n r) (roomTest r a b) tt (inverseRuns r)
+  unfolding inverseListOf writtenOf
+  listed-parts = judge-append (checkTests n r) (shortTest (countOf r) (a ∷ b ∷ []) ∷ []) tt (inverseRuns r)
 
   pub listed-refused : (x : Refusal) → refusalSays x ≡ checkOf n r → InverseListed n r a b a b (Refused x)
   unfolding andThen mapDone filled
@@ -82,9 +82,9 @@ module _ (n : ℕ) (r : Runs) (a b : List ℕ) where
       let f : inverseListOf n r a b ≡ refusalSays x = listed-parts ∙ ap (λ c. andThen c (λ _. writtenOf r a b)) (sym e) in
       record { says = rw f; starts-at-exit = rw f; images-at-exit = rw f }
 
-  pub listed-written : (a′ b′ : List ℕ) (o : Checked) → done tt ≡ checkOf n r → Written r a b a′ b′ o
+  pub listed-written : (a′ b′ : List ℕ) (o : Checked) → done tt ≡ checkOf n r → WritesList (writtenOf r a b) a b a′ b′ o
       → InverseListed n r a b a′ b′ o
   unfolding andThen
   listed-written a′ b′ o e w =
       let f : inverseListOf n r a b ≡ writtenOf r a b = listed-parts ∙ ap (λ c. andThen c (λ _. writtenOf r a b)) (sym e) in
-      record { says = rw f (w .says); starts-at-exit = rw f (w .starts-at-exit); images-at-exit = rw f (w .images-at-exit) }
+      rw f w

@@ -1,12 +1,12 @@
 -- Check: tests 1 to 6 on any numbers (document 01, "Numbers and their conditions").
 use Prim.Native.Nat.{ℕ, _-_}
 use mathlib.Core.Bool.{Bool, not, _&&_, _||_}
-use mathlib.Core.List.{List, [], _∷_}
-use lib.ListN.{length}
+use mathlib.Core.List.{List, [], _∷_, _++_}
+use lib.ListN.{length, getD}
 use lib.Dec.{ltb, leb, eqb}
-use Rattle.outcomes.specs.Outcome.{Outcome, Test, test, judge}
+use Rattle.outcomes.specs.Outcome.{Outcome, Test, test, shortTest, judge}
 use Rattle.outcomes.specs.Search.{firstBelow, anyBelow}
-use Rattle.runs.specs.Runs.{Runs, countOf, startOf, imageOf, imageEnd}
+use Rattle.runs.specs.Runs.{Runs, countOf, imageOf, imageEnd}
 
 -- the most runs that a list may have
 abbrev pub maxRuns : ℕ
@@ -17,8 +17,8 @@ unfoldable pub unmatched : ℕ → Runs → Bool
 unmatched n r = eqb n 0 || (eqb (countOf r) 0 || not (eqb (countOf r) (length (r .images))))
 
 -- 4: run x does not start below n, or not above the run before it
-unfoldable pub unordered : ℕ → Runs → ℕ → Bool
-unordered n r x = leb n (startOf r x) || (ltb 0 x && leb (startOf r x) (startOf r (x - 1)))
+unfoldable pub unordered : ℕ → List ℕ → ℕ → Bool
+unordered n starts x = leb n (getD starts x 0) || (ltb 0 x && leb (getD starts x 0) (getD starts (x - 1) 0))
 
 -- 5: the image of run x ends beyond n
 unfoldable pub outOfRange : ℕ → Runs → ℕ → Bool
@@ -35,17 +35,37 @@ overlaps n r x = anyBelow (overlap n r x) (countOf r)
 abbrev pub lowest : ℕ → (ℕ → Bool) → ℕ → Test
 lowest number p k = test number (anyBelow p k) (firstBelow p k)
 
--- tests 3 to 6, of a list of matched counts
-unfoldable pub listTests : ℕ → Runs → List Test
-listTests n r =
-    test 3 (not (eqb (startOf r 0) 0)) 0 ∷
-    lowest 4 (unordered n r) (countOf r) ∷
+-- tests 3 and 4 read the starts alone, 5 and 6 the images too
+abbrev pub startTests : ℕ → List ℕ → List Test
+startTests n starts =
+    test 3 (not (eqb (getD starts 0 0) 0)) 0 ∷
+    lowest 4 (unordered n starts) (length starts) ∷
+    []
+
+abbrev pub imageTests : ℕ → Runs → List Test
+imageTests n r =
     lowest 5 (outOfRange n r) (countOf r) ∷
     lowest 6 (overlaps n r) (countOf r) ∷
     []
 
-unfoldable pub checkTests : ℕ → Runs → List Test
-checkTests n r = test 1 (unmatched n r) 0 ∷ test 2 (ltb maxRuns (countOf r)) 0 ∷ listTests n r
+-- tests 3 to 6, of a list of matched counts
+unfoldable pub listTests : ℕ → Runs → List Test
+listTests n r = startTests n (r .starts) ++ imageTests n r
 
-unfoldable pub checkOf : ℕ → Runs → Outcome (Unit {0})
-checkOf n r = judge (checkTests n r) tt
+-- tests 1 to 6, of a list that may have `most` runs
+unfoldable pub testsUpTo : ℕ → ℕ → Runs → List Test
+testsUpTo most n r = test 1 (unmatched n r) 0 ∷ test 2 (ltb most (countOf r)) 0 ∷ listTests n r
+
+abbrev pub checkUpTo : ℕ → ℕ → Runs → Outcome (Unit {0})
+checkUpTo most n r = judge (testsUpTo most n r) tt
+
+-- the same at the limit that the paper sets
+abbrev pub checkTests : ℕ → Runs → List Test
+checkTests n r = testsUpTo maxRuns n r
+
+abbrev pub checkOf : ℕ → Runs → Outcome (Unit {0})
+checkOf n r = checkUpTo maxRuns n r
+
+-- tests 1 to 6, then 8: of a call that writes k entries to lent tables
+abbrev pub writeTests : ℕ → Runs → List (List ℕ) → List Test
+writeTests n r tables = checkTests n r ++ (shortTest (countOf r) tables ∷ [])

@@ -1,17 +1,17 @@
 -- What the parts of `check` and `inverse_list` ask and promise, `check_order` among them, which crates of our own call.
 use Prim.Native.Nat.{ℕ, suc, _≤_, _<_}
 use mathlib.Core.Path.{_≡_}
-use mathlib.Core.Bool.{Bool, _&&_, _||_}
+use mathlib.Core.Bool.{Bool, true, false, _&&_, _||_}
 use mathlib.Core.List.{List, [], _∷_}
 use lib.ListN.{length, getD, take}
-use lib.Dec.{ltb, eqb}
+use lib.Dec.{ltb}
 use Rattle.order.specs.Order.{orderOf}
-use Rattle.outcomes.specs.Outcome.{Outcome, Test, done, refused, test, judge, mapDone, filled, _then_else_}
+use Rattle.outcomes.specs.Outcome.{Outcome, done, shortTest, judge}
 use Rattle.outcomes.specs.Refusal.{checkedSays}
 use Rattle.outcomes.specs.Search.{firstBelow}
 use Rattle.runs.specs.Runs.{Runs, countOf, startOf, imageOf, endOf}
-use Rattle.runs.specs.Check.{maxRuns, overlaps, checkOf}
-use Rattle.runs.specs.Inverse.{inverseRuns}
+use Rattle.runs.specs.Check.{overlaps, checkUpTo, checkOf}
+use Rattle.runs.specs.Inverse.{inverseRuns, InverseListed}
 use Rattle.outcomes.specs.declared.Checked.{Checked}
 
 -- the lowest run with the property, or the number of runs
@@ -27,9 +27,9 @@ pub record Lasting (n : ℕ) (r : Runs) : Type 0 where
   pub paired : length (r .images) ≡ countOf r
   pub lasting : (x : ℕ) → x < countOf r → startOf r x < endOf n r x
 
--- a table has an entry for each run, where there are not too many
-abbrev pub Roomy : List ℕ → List ℕ → Type 0
-Roomy starts table = length starts ≤ maxRuns → length starts ≤ length table
+-- a table has an entry for each run of a list that is not refused for its many runs
+abbrev pub HoldsRuns : ℕ → List ℕ → List ℕ → Type 0
+HoldsRuns most starts table = length starts ≤ most → length starts ≤ length table
 
 -- the first entries of `order` are the runs in rising order of image
 pub record Ordered (r : Runs) (order : List ℕ) : Type 0 where
@@ -48,24 +48,15 @@ pub record OverlapFound (n : ℕ) (r : Runs) (order : List ℕ) (x : ℕ) : Type
   pub ordered : Ordered r order
 
 -- the answer of a check, and the order that it leaves of a list that it accepts
-pub record CheckedInto (n : ℕ) (r : Runs) (order : List ℕ) (answer : Checked) : Type 0 where
-  pub says : checkedSays answer ≡ checkOf n r
-  pub ordered : checkOf n r ≡ done tt → Ordered r order
+pub record OrderChecked (most n : ℕ) (r : Runs) (order : List ℕ) (answer : Checked) : Type 0 where
+  pub says : checkedSays answer ≡ checkUpTo most n r
+  pub ordered : checkUpTo most n r ≡ done tt → Ordered r order
 
 -- test 8 by itself, and what is written where it passes
-abbrev pub roomTest : Runs → List ℕ → List ℕ → List Test
-roomTest r toStarts toImages =
-    test 8 (ltb (length toStarts) (countOf r) || ltb (length toImages) (countOf r)) (countOf r) ∷ []
-
 unfoldable pub writtenOf : Runs → List ℕ → List ℕ → Outcome Runs
-writtenOf r toStarts toImages = judge (roomTest r toStarts toImages) (inverseRuns r)
+writtenOf r toStarts toImages = judge (shortTest (countOf r) (toStarts ∷ toImages ∷ []) ∷ []) (inverseRuns r)
 
-pub record Written (r : Runs) (starts images starts′ images′ : List ℕ) (answer : Checked) : Type 0 where
-  pub says : checkedSays answer ≡ mapDone (λ q. tt) (writtenOf r starts images)
-  pub starts-at-exit : starts′ ≡ filled (λ q. q .starts) (writtenOf r starts images) starts
-  pub images-at-exit : images′ ≡ filled (λ q. q .images) (writtenOf r starts images) images
-
--- an answer without that test
-unfoldable pub butForRoom : Outcome (Unit {0}) → Outcome (Unit {0})
-butForRoom (done u) = done u
-butForRoom (refused k p) = eqb k 8 then done tt else refused k p
+-- the answer of a check, or of an inverse list and what it leaves in the tables
+pub record CheckedOrInverted (inverts : Bool) (n : ℕ) (r : Runs) (starts images starts′ images′ : List ℕ) (answer : Checked) : Type 0 where
+  pub checked : inverts ≡ false → checkedSays answer ≡ checkOf n r
+  pub inverted : inverts ≡ true → InverseListed n r starts images starts′ images′ answer

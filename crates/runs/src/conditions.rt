@@ -1,9 +1,9 @@
 // Tests 1, 4 and 5 of a run list, each by itself.
 use order::wide;
 ghost use mathlib.Core.Path.{_≡_};
-ghost use mathlib.Core.List.{List};
-ghost use Prim.Native.Nat.{ℕ, _<_};
+ghost use Prim.Native.Nat.{_<_};
 ghost use lib.ListN.{length};
+ghost use Rattle.outcomes.specs.Search.{firstBelow};
 ghost use Rattle.runs.specs.Runs.{runs, imageEnd};
 ghost use Rattle.runs.specs.Check.{unmatched, unordered, outOfRange};
 ghost use Rattle.runs.specs.Parts.{Lasting, lowestOf};
@@ -30,10 +30,10 @@ pub(crate) fn is_unmatched(n: u32, starts: &[u32], images: &[u32]) -> bool
     starts.len() != images.len()
 }
 
-// Test 4 of run x, whatever the images are.
+// Test 4 of run x.
 fn is_unordered(n: u32, starts: &[u32], x: usize) -> bool
     requires { ⌜ x < length (now starts) ⌝ }
-    ensures { λ r. ⌜ ((images : List ℕ) → r ≡ unordered n (runs (now (starts .entry)) images) x) ⌝ }
+    ensures { λ r. ⌜ r ≡ unordered n (now (starts .entry)) x ⌝ }
 {
     let start = starts[x];
     if n <= start {
@@ -47,7 +47,7 @@ fn is_unordered(n: u32, starts: &[u32], x: usize) -> bool
 
 // The lowest run that test 4 refuses, or the number of runs.
 pub(crate) fn first_unordered(n: u32, starts: &[u32]) -> usize
-    ensures { λ r. ⌜ ((images : List ℕ) → r ≡ lowestOf (unordered n) (runs (now (starts .entry)) images)) ⌝ }
+    ensures { λ r. ⌜ r ≡ firstBelow (unordered n (now (starts .entry))) (length (now (starts .entry))) ⌝ }
 {
     let mut x = 0;
     while x < starts.len() {

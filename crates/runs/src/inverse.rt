@@ -5,7 +5,8 @@ ghost use Prim.Native.Nat.{_≤_};
 ghost use lib.ListN.{length};
 ghost use Rattle.runs.specs.Runs.{runs};
 ghost use Rattle.runs.specs.Check.{maxRuns};
-ghost use Rattle.runs.specs.Parts.{Ordered, Written};
+ghost use Rattle.runs.specs.Inverse.{WritesList};
+ghost use Rattle.runs.specs.Parts.{Ordered, writtenOf};
 
 // Test 8, and the inverse list where the tables have room.
 pub(crate) fn write(
@@ -16,7 +17,8 @@ pub(crate) fn write(
     to_images: &mut [u32],
 ) -> Checked
     requires { ⌜ Ordered (runs (now starts) (now images)) (now order) × (length (now starts) ≤ maxRuns) ⌝ }
-    ensures { λ r. ⌜ Written (runs (now (starts .entry)) (now (images .entry)))
+    ensures { λ r. ⌜ WritesList
+        (writtenOf (runs (now (starts .entry)) (now (images .entry))) (now («to_starts» .entry)) (now («to_images» .entry)))
         (now («to_starts» .entry)) (now («to_images» .entry)) (now («to_starts» .exit)) (now («to_images» .exit)) r ⌝ }
 {
     let k = starts.len();

@@ -16,34 +16,40 @@ ghost use Rattle.outcomes.specs.Refusal.{checkedSays};
 ghost use Rattle.runs.specs.Runs.{runs};
 ghost use Rattle.runs.specs.Check.{checkOf};
 ghost use Rattle.runs.specs.Inverse.{InverseListed};
-ghost use Rattle.runs.specs.Parts.{Roomy, CheckedInto, butForRoom};
+ghost use Rattle.runs.specs.Parts.{HoldsRuns, OrderChecked, CheckedOrInverted};
 
-// The most runs that a list may have.
-pub const MAX_RUNS: usize = 16384;
+// The most runs that a list may have, as a limit and as a table's size.
+pub const MOST_RUNS: u32 = 16384;
 
-// Lists of so few runs get smaller tables to work in: clearing larger ones would take longer than their check.
+pub const MAX_RUNS: usize = MOST_RUNS as usize;
+
+// Lists of at most so many runs get smaller tables to work in: clearing larger ones would take longer than their check.
 pub const FEW_RUNS: usize = 64;
 
-// The same for lists between short and long ones.
+const MORE_RUNS: usize = 256;
+
 pub const SOME_RUNS: usize = 1024;
 
-// Tests 1 to 6. `order` is room for the order of the runs by image, and holds it if the list is accepted; `spare` is
-// room to work in. For crates of our own, which lend that room.
+const MANY_RUNS: usize = 4096;
+
+// Tests 1 to 6, of a list that may have `most` runs. `order` is room for the order of the runs by image, and holds it if
+// the list is accepted; `spare` is room to work in. Public for our own crates, which lend that room.
 pub fn check_order(
     n: u32,
     starts: &[u32],
     images: &[u32],
+    most: u32,
     order: &mut [u32],
     spare: &mut [u32],
 ) -> Checked
-    requires { ⌜ Roomy (now starts) (now order) × Roomy (now starts) (now spare) ⌝ }
-    ensures { λ r. ⌜ CheckedInto n (runs (now (starts .entry)) (now (images .entry))) (now (order .exit)) r ⌝ }
+    requires { ⌜ HoldsRuns most (now starts) (now order) × HoldsRuns most (now starts) (now spare) ⌝ }
+    ensures { λ r. ⌜ OrderChecked most n (runs (now (starts .entry)) (now (images .entry))) (now (order .exit)) r ⌝ }
 {
     if conditions::is_unmatched(n, starts, images) {
         return Checked::Refused(Refusal::ListShape);
     }
     let k = starts.len();
-    if MAX_RUNS < k {
+    if (most as usize) < k {
         return Checked::Refused(Refusal::TooManyRuns);
     }
     if starts[0] != 0 {
@@ -64,54 +70,116 @@ pub fn check_order(
     Checked::Accepted
 }
 
-// An answer of `inverse_list` without test 8.
-fn but_for_room(checked: Checked) -> Checked
-    ensures { λ r. ⌜ checkedSays r ≡ butForRoom (checkedSays checked) ⌝ }
+// Tests 1 to 6 and, with `inverts`, 8 and the inverse list. `order` and `spare` are room to work in.
+fn check_or_invert(
+    n: u32,
+    starts: &[u32],
+    images: &[u32],
+    order: &mut [u32],
+    spare: &mut [u32],
+    inverts: bool,
+    to_starts: &mut [u32],
+    to_images: &mut [u32],
+) -> Checked
+    requires { ⌜ HoldsRuns 16384 (now starts) (now order) × HoldsRuns 16384 (now starts) (now spare) ⌝ }
+    ensures { λ r. ⌜ CheckedOrInverted inverts n (runs (now (starts .entry)) (now (images .entry)))
+        (now («to_starts» .entry)) (now («to_images» .entry)) (now («to_starts» .exit)) (now («to_images» .exit)) r ⌝ }
 {
+    let checked = check_order(n, starts, images, MOST_RUNS, order, spare);
+    if !inverts {
+        return checked;
+    }
     match checked {
-        Checked::Accepted => Checked::Accepted,
-        Checked::Refused(refusal) => {
-            if refusal.number() == 8 {
-                return Checked::Accepted;
-            }
-            Checked::Refused(refusal)
-        }
+        Checked::Refused(refusal) => Checked::Refused(refusal),
+        Checked::Accepted => inverse::write(starts, images, order, to_starts, to_images),
     }
 }
 
-// Whether the list is legal and has at most 16,384 runs. Tests 1 to 6; O(k log k) for every input. Many runs are checked
-// on the way to an inverse list that there is no room for: large tables here would cost every check, since a call touches
-// each page of its frame.
+// The same with room of its own for many runs.
+fn with_much_room(
+    n: u32,
+    starts: &[u32],
+    images: &[u32],
+    inverts: bool,
+    to_starts: &mut [u32],
+    to_images: &mut [u32],
+) -> Checked
+    ensures { λ r. ⌜ CheckedOrInverted inverts n (runs (now (starts .entry)) (now (images .entry)))
+        (now («to_starts» .entry)) (now («to_images» .entry)) (now («to_starts» .exit)) (now («to_images» .exit)) r ⌝ }
+{
+    if starts.len() <= MANY_RUNS {
+        let mut order: [u32; MANY_RUNS] = [0; MANY_RUNS];
+        let mut spare: [u32; MANY_RUNS] = [0; MANY_RUNS];
+        return check_or_invert(
+            n,
+            starts,
+            images,
+            &mut order,
+            &mut spare,
+            inverts,
+            to_starts,
+            to_images,
+        );
+    }
+    let mut order: [u32; MAX_RUNS] = [0; MAX_RUNS];
+    let mut spare: [u32; MAX_RUNS] = [0; MAX_RUNS];
+    check_or_invert(
+        n,
+        starts,
+        images,
+        &mut order,
+        &mut spare,
+        inverts,
+        to_starts,
+        to_images,
+    )
+}
+
+// The same for any number of runs, and for both operations: a call touches each page of its frame, so the check of a
+// short list has no large tables in its own, and none that are put there from here, since this is too long for that.
+fn with_room(
+    n: u32,
+    starts: &[u32],
+    images: &[u32],
+    inverts: bool,
+    to_starts: &mut [u32],
+    to_images: &mut [u32],
+) -> Checked
+    ensures { λ r. ⌜ CheckedOrInverted inverts n (runs (now (starts .entry)) (now (images .entry)))
+        (now («to_starts» .entry)) (now («to_images» .entry)) (now («to_starts» .exit)) (now («to_images» .exit)) r ⌝ }
+{
+    if starts.len() <= SOME_RUNS {
+        let mut order: [u32; SOME_RUNS] = [0; SOME_RUNS];
+        let mut spare: [u32; SOME_RUNS] = [0; SOME_RUNS];
+        return check_or_invert(
+            n,
+            starts,
+            images,
+            &mut order,
+            &mut spare,
+            inverts,
+            to_starts,
+            to_images,
+        );
+    }
+    with_much_room(n, starts, images, inverts, to_starts, to_images)
+}
+
+// Whether the list is legal and has at most 16,384 runs. Tests 1 to 6; O(k log k) for every input.
 pub fn check(n: u32, starts: &[u32], images: &[u32]) -> Checked
     ensures { λ r. ⌜ checkedSays r ≡ checkOf n (runs (now (starts .entry)) (now (images .entry))) ⌝ }
 {
     if starts.len() <= FEW_RUNS {
         let mut order: [u32; FEW_RUNS] = [0; FEW_RUNS];
         let mut spare: [u32; FEW_RUNS] = [0; FEW_RUNS];
-        return check_order(n, starts, images, &mut order, &mut spare);
+        return check_order(n, starts, images, MOST_RUNS, &mut order, &mut spare);
     }
-    but_for_room(inverse_list(n, starts, images, &mut [], &mut []))
-}
-
-// Tests 1 to 6 and 8, and the inverse list. `order` and `spare` are room to work in.
-fn invert_into(
-    n: u32,
-    starts: &[u32],
-    images: &[u32],
-    order: &mut [u32],
-    spare: &mut [u32],
-    to_starts: &mut [u32],
-    to_images: &mut [u32],
-) -> Checked
-    requires { ⌜ Roomy (now starts) (now order) × Roomy (now starts) (now spare) ⌝ }
-    ensures { λ r. ⌜ InverseListed n (runs (now (starts .entry)) (now (images .entry)))
-        (now («to_starts» .entry)) (now («to_images» .entry)) (now («to_starts» .exit)) (now («to_images» .exit)) r ⌝ }
-{
-    let checked = check_order(n, starts, images, order, spare);
-    match checked {
-        Checked::Refused(refusal) => Checked::Refused(refusal),
-        Checked::Accepted => inverse::write(starts, images, order, to_starts, to_images),
+    if starts.len() <= MORE_RUNS {
+        let mut order: [u32; MORE_RUNS] = [0; MORE_RUNS];
+        let mut spare: [u32; MORE_RUNS] = [0; MORE_RUNS];
+        return check_order(n, starts, images, MOST_RUNS, &mut order, &mut spare);
     }
+    with_room(n, starts, images, false, &mut [], &mut [])
 }
 
 // Writes the inverse list to the first k entries of two tables, and leaves the others. Tests 1 to 6 and 8.
@@ -125,30 +193,7 @@ pub fn inverse_list(
     ensures { λ r. ⌜ InverseListed n (runs (now (starts .entry)) (now (images .entry)))
         (now («to_starts» .entry)) (now («to_images» .entry)) (now («to_starts» .exit)) (now («to_images» .exit)) r ⌝ }
 {
-    if starts.len() <= SOME_RUNS {
-        let mut order: [u32; SOME_RUNS] = [0; SOME_RUNS];
-        let mut spare: [u32; SOME_RUNS] = [0; SOME_RUNS];
-        return invert_into(
-            n,
-            starts,
-            images,
-            &mut order,
-            &mut spare,
-            to_starts,
-            to_images,
-        );
-    }
-    let mut order: [u32; MAX_RUNS] = [0; MAX_RUNS];
-    let mut spare: [u32; MAX_RUNS] = [0; MAX_RUNS];
-    invert_into(
-        n,
-        starts,
-        images,
-        &mut order,
-        &mut spare,
-        to_starts,
-        to_images,
-    )
+    with_room(n, starts, images, true, to_starts, to_images)
 }
 
 // The shift of a run, its image minus its start.

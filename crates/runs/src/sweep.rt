@@ -6,8 +6,8 @@ ghost use mathlib.Core.Logic.{_⊎_};
 ghost use Prim.Native.Nat.{_<_, _≤_};
 ghost use lib.ListN.{length};
 ghost use Rattle.runs.specs.Runs.{runs};
-ghost use Rattle.runs.specs.Check.{maxRuns, overlaps};
-ghost use Rattle.runs.specs.Parts.{Lasting, Ordered, Roomy, OverlapFound, lowestOf, meets};
+ghost use Rattle.runs.specs.Check.{overlaps};
+ghost use Rattle.runs.specs.Parts.{Lasting, Ordered, OverlapFound, lowestOf, meets};
 
 fn lower(a: usize, b: usize) -> usize
     ensures { λ r. ⌜ (r ≤ a) × (r ≤ b) × ((r ≡ a) ⊎ (r ≡ b)) ⌝ }
@@ -74,8 +74,8 @@ pub(crate) fn first_overlap(
     order: &mut [u32],
     spare: &mut [u32],
 ) -> usize
-    requires { ⌜ Lasting n (runs (now starts) (now images)) × (length (now starts) ≤ maxRuns)
-        × Roomy (now starts) (now order) × Roomy (now starts) (now spare) ⌝ }
+    requires { ⌜ Lasting n (runs (now starts) (now images)) × (length (now starts) < 4294967296)
+        × (length (now starts) ≤ length (now order)) × (length (now starts) ≤ length (now spare)) ⌝ }
     ensures { λ r. ⌜ OverlapFound n (runs (now (starts .entry)) (now (images .entry))) (now (order .exit)) r ⌝ }
 {
     sorting::sort_by_key(order, spare, images);

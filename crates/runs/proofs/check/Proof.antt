@@ -1,8 +1,5 @@
--- `check` meets its contract: small tables have an entry for each run, and with no room for an inverse list 8 says that the
--- tests before it passed.
-use mathlib.Core.Path.{_∙_}
-use native.Mathlib.Omega.{arith}
-use Rattle.runs.proofs.Roomless.{checked-roomless}
+-- `check` meets its contract: each pair of tables has an entry for each run, and what has room for more runs is told to check.
+use mathlib.Core.Path.{refl}
 use borrow.Author.Needs.{needs}
 use Rattle.runs.proofs.check.Statement.{statement}
 use Rattle.runs.proofs.check.Tie as tie
@@ -19,22 +16,29 @@ check-order-requires c κs = search needs
 returns : tie.Need-returns
 returns c = search needs
 
-slice-aggregate-inverse-list : tie.Need-slice-aggregate-inverse-list
-slice-aggregate-inverse-list c = search needs
+slice-aggregate-check-order-3 : tie.Need-slice-aggregate-check-order-3
+slice-aggregate-check-order-3 c = search needs
 
-slice-aggregate-inverse-list-2 : tie.Need-slice-aggregate-inverse-list-2
-slice-aggregate-inverse-list-2 c = search needs
+slice-aggregate-check-order-4 : tie.Need-slice-aggregate-check-order-4
+slice-aggregate-check-order-4 c = search needs
 
-inverse-list-requires : tie.Need-inverse-list-requires
-inverse-list-requires c κs = search needs
-
-but-for-room-requires : tie.Need-but-for-room-requires
-but-for-room-requires c κs = search needs
+check-order-requires-2 : tie.Need-check-order-requires-2
+check-order-requires-2 c κs = search needs
 
 returns-2 : tie.Need-returns-2
-returns-2 c =
-    c .but-for-room .ensures
-    ∙ checked-roomless _ _ _ _ _ (omega arith) (c .before .before .before .inverse-list .ensures)
+returns-2 c = search needs
+
+slice-aggregate-with-room : tie.Need-slice-aggregate-with-room
+slice-aggregate-with-room c = search needs
+
+slice-aggregate-with-room-2 : tie.Need-slice-aggregate-with-room-2
+slice-aggregate-with-room-2 c = search needs
+
+with-room-requires : tie.Need-with-room-requires
+with-room-requires c κs = search needs
+
+returns-3 : tie.Need-returns-3
+returns-3 c = c .before .before .with-room .ensures .checked refl
 
 pub check-spec : {M : Type 1} → statement M
 check-spec =
@@ -44,8 +48,11 @@ check-spec =
     slice-aggregate-check-order-2
     check-order-requires
     returns
-    slice-aggregate-inverse-list
-    slice-aggregate-inverse-list-2
-    inverse-list-requires
-    but-for-room-requires
-    returns-2)
+    slice-aggregate-check-order-3
+    slice-aggregate-check-order-4
+    check-order-requires-2
+    returns-2
+    slice-aggregate-with-room
+    slice-aggregate-with-room-2
+    with-room-requires
+    returns-3)

@@ -14,12 +14,12 @@ shared-slice-read-start c = search needs
 
 returns : tie.Need-returns
 unfolding unordered
-returns c = λ images. simp (le-leb _ _ (c .if1 .taken))
+returns c = simp (le-leb _ _ (c .if1 .taken))
 
 returns-2 : tie.Need-returns-2
 unfolding unordered
 returns-2 c =
-    λ images. let a = c .before .before .before .args in simp (lt-leb _ _ (c .before .if1 .left), le-ltb 0 (a .x) (omega arith))
+    let a = c .before .before .before .args in simp (lt-leb _ _ (c .before .if1 .left), le-ltb 0 (a .x) (omega arith))
 
 sub-result : tie.Need-sub-result
 sub-result c = search needs
@@ -33,7 +33,7 @@ shared-slice-read-result c = search needs
 returns-3 : tie.Need-returns-3
 unfolding unordered
 returns-3 c =
-    λ images. let a = c .before .before .before .before .args in simp (lt-leb _ _ (c .before .before .if1 .left), lt-ltb 0 (a .x) (omega arith))
+    let a = c .before .before .before .before .args in simp (lt-leb _ _ (c .before .before .if1 .left), lt-ltb 0 (a .x) (omega arith))
 
 pub is-unordered-spec : {M : Type 1} → statement M
 is-unordered-spec =

@@ -18,8 +18,8 @@ sort-by-key-requires c κs =
     let p = c .before .before .before .before .before .before .pre in
     record {
       few = omega (arith, p .0 .paired);
-      in-order = omega (arith, p .0 .paired, p .2 (p .1));
-      in-spare = omega (arith, p .0 .paired, p .3 (p .1));
+      in-order = omega (arith, p .0 .paired, p .2);
+      in-spare = omega (arith, p .0 .paired, p .3);
     }
 
 lowest-overlap-requires : tie.Need-lowest-overlap-requires
