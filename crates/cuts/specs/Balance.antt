@@ -36,7 +36,8 @@ cutting zero d n r = r
 cutting (suc fuel) d n r =
     elim (ltb (pick d n r) (countOf r)) [ true ↦ cutting fuel d n (cutAt d n r (pick d n r)) | false ↦ r ]
 
--- The balanced list. Fewer than k cuts are made where 2 ≤ d (proofs/Balancing), so fuel is never what stops it.
+-- The balanced list. Of a legal list at most k cuts, where 2 ≤ d, leave no interval heavy (`balanced-light`), so that fuel
+-- is never what stops it.
 unfoldable pub balanced : ℕ → ℕ → Runs → Runs
 balanced d n r = cutting (countOf r) d n r
 

@@ -11,8 +11,9 @@ use borrow.Author.Tests.{ltb-true}
 use Rattle.order.specs.Lists.{All}
 use Rattle.order.proofs.Laws.{all-append, sum-append}
 use Rattle.outcomes.specs.Outcome.{_then_else_}
+use Rattle.bookmarks.specs.Bookmark.{Marking}
 use Rattle.runs.specs.Runs.{Runs, mapOf}
-use Rattle.demands.specs.Calls.{Call, find, move, moves, total, movesIn, countIn}
+use Rattle.demands.specs.Calls.{Call, find, move, moves, total, movesIn, countOfMove, countIn, Bounded}
 use Rattle.tables.specs.Plain.{plainMove, plainMoves}
 use Rattle.demands.specs.PlainWalk.{plainWalk, movesCounts, walkCounts}
 use Rattle.tables.proofs.PlainMoves.{move-below, moves-below}
@@ -80,6 +81,12 @@ module _ (n b : ℕ) (r t : Runs) (below : (p : ℕ) → p < n → mapOf n r p <
   counts-most (move ∷ cs) p h = ((most p h, tt), counts-most cs (plainMove n r t p .place) (move-below n r t below p h))
   counts-most (moves m ∷ cs) p h =
       (moves-most m p h, counts-most cs (plainMoves n r t m p .place) (moves-below n r t below m p h))
+
+-- the counts of a bookmark's moves
+pub bounded-total : (b : ℕ) (l : List Marking) → All (Bounded b) l
+    → total (map (λ w. countOfMove (w .answer)) l) ≤ length l * b
+bounded-total b [] a = omega arith
+bounded-total b (w ∷ l) a = omega (arith, a .0 .move, bounded-total b l (a .1))
 
 -- so all counts together are at most b for each move
 pub all-most : (b : ℕ) (ls : List (List ℕ)) → All (All (λ c. c ≤ b)) ls → total (map total ls) ≤ total (map length ls) * b

@@ -2,7 +2,7 @@
 -- single calls are the plain walk's, so whole lists of calls are (Serving, Marking); and since no interval is heavy, no
 -- move passes more than 2d − 1 starts (Counting).
 use Prim.Native.Nat.{ℕ, zero, suc, _-_, _*_, _≤_, _<_}
-use mathlib.Core.Path.{_≡_, sym, ap, _∙_}
+use mathlib.Core.Path.{_≡_, refl, sym, ap, _∙_}
 use mathlib.Core.List.{List, [], _∷_, _++_, map}
 use native.Mathlib.Omega.{arith}
 use lib.ListN.{length}
@@ -28,8 +28,8 @@ use Rattle.demands.specs.Served.{served, servedTrail}
 use Rattle.demands.specs.Demands.{Through, Serves, Demand3}
 use Rattle.demands.proofs.Demand2.{balanced-few, through-balanced}
 use Rattle.demands.proofs.Serving.{same-replies}
-use Rattle.demands.proofs.Counting.{counts-length, counts-sum, counts-most, all-most}
-use Rattle.demands.proofs.Marking.{fresh-stands, same-trail, trail-bounds, end-bounds, advance-bounds, advancing-served, trail-last}
+use Rattle.demands.proofs.Counting.{counts-length, counts-sum, counts-most, bounded-total, all-most}
+use Rattle.demands.proofs.Marking.{fresh-stands, same-trail, trail-length, trail-bounds, end-bounds, advance-bounds, advancing-served, trail-last}
 
 module _ (n : ℕ) (r : Runs) (d : ℕ) (c : Legal n r) (k : countOf r ≤ maxRuns) (many : 2 ≤ d) (few : d ≤ 64) where
   abbrev t : Runs
@@ -76,7 +76,10 @@ module _ (n : ℕ) (r : Runs) (d : ℕ) (c : Legal n r) (k : countOf r ≤ maxRu
       let replied : (p : ℕ) → p < n → (cs : List Call)
       → map countIn (served n (tablesOf n t) p (runAt n t p) cs) ≡ map total (walkCounts n r t p cs) =
       λ p h cs. ap (map countIn) (replies cs p h) ∙ counts-sum n r t cs p in
+      let trails : (p : ℕ) → p < n → (m : ℕ) → All (Bounded b) (servedTrail n (tablesOf n t) m (fresh p (runAt n t p))) =
+      λ p h m. trail-bounds n b r t (tablesOf n t) (walks .move) (walks .inside) most small m _ (fresh-stands n b r t p h) in
       record {
+        filled = refl;
         same-permutation = balanced-map d n many r c;
         same-replies = λ p h cs. replies cs p h;
         move-counts = λ p h cs. counts-length n r t cs p;
@@ -85,8 +88,14 @@ module _ (n : ℕ) (r : Runs) (d : ℕ) (c : Legal n r) (k : countOf r ≤ maxRu
         all-moves = λ p h cs.
             rw (replied p h cs, ← counts-length n r t cs p) (all-most b (walkCounts n r t p cs) (each p h cs));
         same-trail = λ p h m. fresh-trail m p h;
-        trail-bounds = λ p h m.
-            trail-bounds n b r t (tablesOf n t) (walks .move) (walks .inside) most small m _ (fresh-stands n b r t p h);
+        trail-bounds = trails;
+        trail-total = λ p h m.
+            let w = fresh p (runAt n t p) in
+            omega (
+              arith,
+              bounded-total b (servedTrail n (tablesOf n t) m w) (trails p h m),
+              ap (λ (k : ℕ). k * b) (trail-length n (tablesOf n t) m w),
+            );
         same-advances = λ p h ms a. advancing-served n (tablesOf n t) ms _ a ∙ fresh-trail (length ms) p h;
         advance-bounds = λ p h ms a.
             advance-bounds n b r t (tablesOf n t) (walks .move) (walks .inside) most small ms _ (fresh-stands n b r t p h) a;

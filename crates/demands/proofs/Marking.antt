@@ -137,6 +137,11 @@ module _ (n b : ℕ) (r t : Runs) (τ : Tables)
         advance-bounds ms (m .bookmark) (rw (ap (λ (k : Marking). k .bookmark) e) (turn w s .1)) (a .1),
       )
 
+pub trail-length : (n : ℕ) (τ : Tables) (k : ℕ) (b : Bookmark) → length (servedTrail n τ k b) ≡ k
+unfolding servedTrail
+trail-length n τ zero b = refl
+trail-length n τ (suc k) b = ap suc (trail-length n τ k (markingOf n τ b .bookmark))
+
 -- calls of `advance` that meet its contract are served moves
 pub advancing-served : (n : ℕ) (τ : Tables) (ms : List Marked) (b : Bookmark) → Advancing n τ b ms
     → map markedSays ms ≡ servedTrail n τ (length ms) b

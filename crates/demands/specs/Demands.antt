@@ -29,13 +29,13 @@ use Rattle.files.specs.File.{fileTests, fileOf}
 use Rattle.files.specs.Right.{RightFile}
 use Rattle.files.specs.declared.Header.{Header}
 use Rattle.demands.specs.Judged.{Judged}
-use Rattle.demands.specs.Calls.{Call, total, movesIn, allMoves, countIn, allCounts, Bounded}
+use Rattle.demands.specs.Calls.{Call, total, movesIn, allMoves, countOfMove, countIn, allCounts, Bounded}
 use Rattle.tables.specs.Plain.{maxCount, plainMove, plainMoves}
 use Rattle.demands.specs.PlainWalk.{plainWalk, walkCounts, plainTrail, standing}
 use Rattle.demands.specs.Served.{served, servedTrail, Advancing}
 
--- DEMAND 1. Whatever numbers a list, a file, tables or a bookmark have, the call is worked on or refused with a number, by
--- a fixed order of conditions; and a refused call leaves each table, working table and bookmark as it was.
+-- DEMAND 1. Whatever numbers stand in a list, a file, tables or a bookmark, a call does its work or gives the number of the
+-- first condition that applies, in an order that is fixed; and a refused call leaves all that was lent as it was.
 pub record Demand1 : Type 0 where
   pub check : (n : ℕ) (r : Runs) → Judged (1 ∷ 2 ∷ 3 ∷ 4 ∷ 5 ∷ 6 ∷ []) (checkTests n r) tt (checkOf n r)
   pub inverse-list : (n : ℕ) (r : Runs) (a b : List ℕ)
@@ -46,11 +46,12 @@ pub record Demand1 : Type 0 where
       → Judged (9 ∷ 11 ∷ []) (findTests n t i) (passed (t .list .starts) 0 i) (findOf n t i)
   pub move : (n : ℕ) (t : Tables) (x i : ℕ)
       → Judged (9 ∷ 10 ∷ 11 ∷ 12 ∷ []) (moveTests n t x i) (stepOf t x i) (moveOf n t x i)
-  -- a repeated move of no moves; any other is refused as that one is, or on the way, by the interval it could not leave
+  -- a repeated move of no moves; any other is refused exactly where that one is, or where it cannot leave an interval on
+  -- the way
   pub no-move : (n : ℕ) (t : Tables) (x i : ℕ)
       → Judged (9 ∷ 10 ∷ 11 ∷ []) (locateTests n t x i) (stayAt x i) (movesOf n t 0 x i)
-  pub moves : (n : ℕ) (t : Tables) (m x i k p : ℕ) → movesOf n t m x i ≡ refused k p
-      → (movesOf n t 0 x i ≡ refused k p) ⊎ Stopped n t m x i k p
+  pub moves : (n : ℕ) (t : Tables) (m x i k p : ℕ)
+      → (movesOf n t m x i ≡ refused k p) ↔ ((movesOf n t 0 x i ≡ refused k p) ⊎ Stopped n t m x i k p)
   pub inverse : (n : ℕ) (t : Tables) (j : ℕ)
       → Judged (9 ∷ 11 ∷ 14 ∷ []) (inverseTests n t j)
       (record { place = carryBack (t .list) (sourceOf n (t .list) j) j; interval = sourceOf n (t .list) j }) (inverseOf n t j)
@@ -72,8 +73,8 @@ pub record Demand1 : Type 0 where
   pub bookmark-kept : (n : ℕ) (t : Tables) (b : Bookmark) (m : Moved) (left : Bookmark) → Advances n t b m left
       → (k p : ℕ) → movedSays m ≡ refused k p → left ≡ b
 
--- DEMAND 2. A list is accepted if and only if it has at most 16,384 runs and is a disjoint interval sequence in Nishimoto
--- and Tabei's sense; through its tables find, moves, repeated moves, bookmarks and inverse give that sequence's function.
+-- DEMAND 2. The lists that are accepted are the disjoint interval sequences, as Nishimoto and Tabei define them, of at most
+-- 16,384 runs. Find, moves, repeated moves, bookmarks and inverse through their tables give the sequence's function.
 
 -- the walks through the tables of the list t give the function of the list r
 pub record Through (n : ℕ) (r t : Runs) : Type 0 where
@@ -85,7 +86,7 @@ pub record Through (n : ℕ) (r t : Runs) : Type 0 where
   pub bookmark : (p m c : ℕ) → p < n → m + 1 < 2 ^ 32 → c + plainMove n r t p .count < 2 ^ 64
       → markingOf n (tablesOf n t) (standing n r t p m c)
       ≡ marking (done (plainMove n r t p)) (standing n r t (mapOf n r p) (m + 1) (c + plainMove n r t p .count))
-  -- the same after m more moves of one that is fresh at p, as long as its counter of moves has room: the other then has
+  -- the last of m + 1 moves of one that is fresh at p, as long as its counter of moves has room: the other then has
   pub bookmark-moves : (m p : ℕ) → p < n → suc m < 2 ^ 32
       → markingsOf n (tablesOf n t) (suc m) (fresh p (runAt n t p))
       ≡ marking (done (plainMove n r t (powerOf n r m p)))
@@ -113,6 +114,8 @@ pub record Demand2 : Type 0 where
 -- The tables τ serve, at degree d, the plain walk over the list r and the balanced list t, from any place p and the
 -- interval of t that has it.
 pub record Serves (n : ℕ) (r t : Runs) (d : ℕ) (τ : Tables) : Type 0 where
+  -- they are the tables of t, so that all of demand 2 holds through them, and t has the permutation of r
+  pub filled : τ ≡ tablesOf n t
   pub same-permutation : (p : ℕ) → p < n → mapOf n (τ .list) p ≡ mapOf n r p
   -- one claim about the whole list of calls
   pub same-replies : (p : ℕ) → p < n → (cs : List Call) → served n τ p (runAt n t p) cs ≡ plainWalk n r t p cs
@@ -125,6 +128,8 @@ pub record Serves (n : ℕ) (r t : Runs) (d : ℕ) (τ : Tables) : Type 0 where
   -- m moves of a bookmark that is fresh at p: each answer, the bookmark after it, and the bounds of both
   pub same-trail : (p : ℕ) → p < n → (m : ℕ) → servedTrail n τ m (fresh p (runAt n t p)) ≡ plainTrail n r t m p 0 0
   pub trail-bounds : (p : ℕ) → p < n → (m : ℕ) → All (Bounded (maxCount d)) (servedTrail n τ m (fresh p (runAt n t p)))
+  pub trail-total : (p : ℕ) → p < n → (m : ℕ)
+      → total (map (λ w. countOfMove (w .answer)) (servedTrail n τ m (fresh p (runAt n t p)))) ≤ m * maxCount d
   -- the same over the contract of `advance`: any number of calls on that one bookmark
   pub same-advances : (p : ℕ) → p < n → (ms : List Marked) → Advancing n τ (fresh p (runAt n t p)) ms
       → map markedSays ms ≡ plainTrail n r t (length ms) p 0 0

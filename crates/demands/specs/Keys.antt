@@ -1,5 +1,6 @@
--- The keys that are proved about the definitions: one table, one statement. Its rows are written from document 01, which
--- marks these keys: on the left what is asked of a definition, on the right the numbers that the document gives.
+-- The keys that are proved about the definitions: one table, one statement. Its rows are written from document 01: the keys
+-- that it marks to be proved, the example's listing, ψ, and both ends of a shift. On the left stands what is asked of a
+-- definition, on the right the numbers that the document gives.
 use Prim.Native.Nat.{ℕ, suc}
 use mathlib.Core.Path.{_≡_, refl}
 use mathlib.Core.List.{List, [], _∷_, _++_, map}
@@ -29,7 +30,7 @@ movedRow o = rowFrom (λ s. s .place ∷ s .interval ∷ s .count ∷ []) o
 abbrev pub invertedRow : Outcome Source → List ℕ
 invertedRow o = rowFrom (λ s. s .place ∷ s .interval ∷ []) o
 
--- an integer as its sign, 0 or below 0 a 1, and its size
+-- an integer as its sign, which is 1 below 0 and else 0, and its size
 abbrev pub signedRow : ℤ → List ℕ
 signedRow (pos v) = 0 ∷ v ∷ []
 signedRow (negsuc v) = 1 ∷ suc v ∷ []

@@ -19,9 +19,9 @@ pub record Legal (n : ℕ) (r : Runs) : Type 0 where
       → imageOf r x ≤ p → p < imageEnd n r x
       → imageOf r y ≤ p → p < imageEnd n r y → x ≡ y
 
--- Source 002, counted from 0: k pairs (p, q) with lengths d of at least 1, where each p is the one before plus its
--- length, the first is 0 and the last plus its length is n. The output intervals, from q up to q + d, lie within the
--- n places and do not overlap.
+-- Source 002, counted from 0: k pairs (p, q) with lengths d, where each p is the one before plus its length, and the last
+-- plus its length is n; the output intervals, from q up to q + d, do not overlap. That the first p is 0, lengths are at
+-- least 1 and output intervals lie within the n places is document 01's.
 pub record DisjointIntervals (n : ℕ) (r : Runs) : Type 0 where
   pub lengths : List ℕ
   pub some : 0 < countOf r

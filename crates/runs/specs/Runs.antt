@@ -1,4 +1,4 @@
--- A run list and its function (document 01, "The collection's objects"). Places are counted from 0.
+-- A run list and its function (document 01, "The collection's objects"). The first place is 0.
 use Prim.Native.Nat.{ℕ, zero, suc, _+_, _-_}
 use mathlib.Core.Bool.{Bool, _&&_}
 use mathlib.Core.List.{List}

@@ -3,7 +3,7 @@
 use Prim.Native.Nat.{ℕ, zero, suc, _+_, _*_, _≤_, _<_}
 use mathlib.Core.Path.{_≡_, refl, sym, ap, _∙_}
 use mathlib.Core.Bool.{Bool, true, false}
-use mathlib.Core.Logic.{_⊎_, inl, inr}
+use mathlib.Core.Logic.{_↔_, _⊎_, inl, inr}
 use mathlib.Core.List.{List, []}
 use native.Mathlib.Numerals.{add-one}
 use native.Mathlib.Omega.{arith}
@@ -222,10 +222,25 @@ module _ (n : ℕ) (t : Tables) (x i : ℕ) (l : Located n t x i) where
           }
 
 -- so a refused repeated move is refused by its first tests, or stopped on the way
-pub moves-order : (n : ℕ) (t : Tables) (m x i p q : ℕ) → movesOf n t m x i ≡ refused p q
+moves-cause : (n : ℕ) (t : Tables) (m x i p q : ℕ) → movesOf n t m x i ≡ refused p q
     → (movesOf n t 0 x i ≡ refused p q) ⊎ Stopped n t m x i p q
-moves-order n t m x i p q e = go (movesOf n t 0 x i) refl
+moves-cause n t m x i p q e = go (movesOf n t 0 x i) refl
   where
     go : (o : Outcome Step) → movesOf n t 0 x i ≡ o → (movesOf n t 0 x i ≡ refused p q) ⊎ Stopped n t m x i p q
     go (done s) f = inr (moves-stopped n t x i (located n t x i s (sym f)) m p q e)
     go (refused v w) f = inl (f ∙ moves-refused n t 0 m x i v w (omega arith) (sym f) ∙ e)
+
+-- and it is refused wherever one of these is so
+stopped-refused : (n : ℕ) (t : Tables) (m x i p q : ℕ) → Stopped n t m x i p q → movesOf n t m x i ≡ refused p q
+unfolding movesOf andThen onwards mapDone
+stopped-refused n t m x i p q s =
+    let e : refused p q ≡ movesOf n t (suc (s .made)) x i = rw (s .so-far, s .stuck, s .twelve, s .there) in
+    sym (moves-refused n t (suc (s .made)) m x i p q (s .fewer) e)
+
+pub moves-order : (n : ℕ) (t : Tables) (m x i p q : ℕ)
+    → (movesOf n t m x i ≡ refused p q) ↔ ((movesOf n t 0 x i ≡ refused p q) ⊎ Stopped n t m x i p q)
+moves-order n t m x i p q = (moves-cause n t m x i p q, back)
+  where
+    back : (movesOf n t 0 x i ≡ refused p q) ⊎ Stopped n t m x i p q → movesOf n t m x i ≡ refused p q
+    back (inl e) = sym (moves-refused n t 0 m x i p q (omega arith) (sym e))
+    back (inr s) = stopped-refused n t m x i p q s

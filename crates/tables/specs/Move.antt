@@ -63,7 +63,7 @@ moveTests n t x i = shapeTest n t ∷ indexTest t x ∷ placeTest n t x i ∷ br
 unfoldable pub moveOf : ℕ → Tables → ℕ → ℕ → Outcome Step
 moveOf n t x i = judge (moveTests n t x i) (stepOf t x i)
 
--- a step with what was countedAfter before it
+-- a step with what was counted before it
 abbrev pub countedAfter : ℕ → Step → Step
 countedAfter c s = record { place = s .place; interval = s .interval; count = c + s .count }
 

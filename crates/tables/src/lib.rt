@@ -1,7 +1,7 @@
 // The move table of a run list (starts, images, holders), with any numbers in it, and the walks through it.
 //
 // Each operation's contract is one equation with its definition in specs/, for every input. On the tables of a legal
-// list these are the list's function, its powers and its inverse (proofs/LegalTables).
+// list these are the list's function and its powers (proofs/LegalTables).
 pub mod checks;
 mod walk;
 
