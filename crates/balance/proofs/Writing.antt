@@ -10,7 +10,7 @@ use Rattle.order.proofs.Filling.{Filling, filling-none, filling-length, filling
 use Rattle.order.proofs.Laws.{all-at, at-all, strict-length, getD-map}
 use Rattle.runs.specs.Legal.{Legal}
 use Rattle.runs.specs.Runs.{Runs, runs, countOf, startOf, imageOf, endOf, runAt, mapOf}
-use Rattle.runs.proofs.Legality.{homes, home, run-at}
+use Rattle.runs.proofs.Legality.{homes, home, run-at, image-below}
 use lib.Seq.{take-at}
 use Rattle.tables.specs.Tables.{tablesOf}
 use Rattle.runs.proofs.Walks.{run-below}
@@ -36,9 +36,6 @@ pub legal-count : (n : ℕ) (r : Runs) → Legal n r → countOf r ≤ n
 legal-count n r c = strict-length n (r .starts) (homes n r c .up) (at-all (λ y. y < n) (r .starts) (c .below))
 
 -- the holder of an image, by counting the starts up to it
-pub image-below : (n : ℕ) (r : Runs) → Legal n r → (x : ℕ) → x < countOf r → imageOf r x < n
-image-below n r c x h = omega (arith, homes n r c .lasting x h, c .within x h)
-
 pub holder-counted : (n : ℕ) (r : Runs) → Legal n r → (x : ℕ) → x < countOf r
     → countBelow (imageOf r x + 1) (r .starts) ≡ suc (runAt n r (imageOf r x))
 holder-counted n r c x h = ap (λ (t : ℕ). countBelow t (r .starts)) (add-one (imageOf r x))

@@ -19,7 +19,7 @@ use Rattle.runs.specs.Legal.{Legal}
 use Rattle.runs.specs.Runs.{Runs, countOf, imageOf, imageEnd, carryBack}
 use Rattle.runs.specs.Weight.{weight}
 use Rattle.cuts.specs.Balance.{cut, cutPlace, cutAt}
-use Rattle.runs.proofs.Legality.{homes, lands, land, land-one}
+use Rattle.runs.proofs.Legality.{homes, lands, land, land-one, image-some}
 use Rattle.cuts.proofs.Refine.{Refines}
 use Rattle.cuts.proofs.Cut.{cut-cases, cut-count, cut-left, cut-first, cut-second, cut-right}
 use Rattle.cuts.proofs.Weights.{kept, weight-cut, kept-left, kept-right, cutAt-kept, place}
@@ -52,13 +52,10 @@ pub record SweptTo (d n : ℕ) (r : Runs) (P Q : ℕ) : Type 0 where
   pub nearly : (x : ℕ) → x < countOf r → imageOf r x ≡ P → P < Q → weight n r x ≤ 2 * d
 
 module _ (n : ℕ) (r : Runs) (c : Legal n r) where
-  pub image-lasting : (x : ℕ) → x < countOf r → imageOf r x < imageEnd n r x
-  image-lasting x h = omega (arith, homes n r c .lasting x h)
-
   -- two images that share a place are of one interval
   pub image-one : (x y : ℕ) → x < countOf r → y < countOf r → imageOf r x ≤ imageOf r y → imageOf r y < imageEnd n r x
       → x ≡ y
-  image-one x y hx hy a b = c .apart x y (imageOf r y) hx hy a b (omega arith) (image-lasting y hy)
+  image-one x y hx hy a b = c .apart x y (imageOf r y) hx hy a b (omega arith) (image-some n r c y hy)
 
   pub edge-image : (x : ℕ) → x < countOf r → Edge n r (imageOf r x)
   edge-image x hx y hy l = go (lt-or-le (imageOf r x) (imageEnd n r y))
@@ -112,8 +109,8 @@ module _ (d n : ℕ) (r : Runs) (P Q : ℕ) (c : SweptTo d n r P Q) where
 
   -- past the last place, no interval is heavy
   pub swept-end : n ≤ P → Light d n r
-  swept-end h x hx = c .light x hx (omega (arith, image-lasting n r (c .legal) x hx, c .legal .within x hx))
-      (λ e. omega (arith, image-lasting n r (c .legal) x hx, c .legal .within x hx))
+  swept-end h x hx = c .light x hx (omega (arith, image-some n r (c .legal) x hx, c .legal .within x hx))
+      (λ e. omega (arith, image-some n r (c .legal) x hx, c .legal .within x hx))
 
   module _ (x : ℕ) (hx : x < countOf r) (at : imageOf r x ≡ P) where
     -- a heavy interval at P is the next to be cut
@@ -140,7 +137,7 @@ module _ (d n : ℕ) (r : Runs) (P Q : ℕ) (c : SweptTo d n r P Q) where
         go (inl l) (inr a) (inl b) = c .light y hy l (λ e. omega arith)
         go (inr l) (inr a) (inl b) = absurd (omega arith)
         go m (inr a) (inr b) = let e : x ≡ y =
-            image-one n r (c .legal) x y hx hy (omega arith) (omega (arith, image-lasting n r (c .legal) x hx)) in
+            image-one n r (c .legal) x y hx hy (omega arith) (omega (arith, image-some n r (c .legal) x hx)) in
             rw (← e) w
 
     pub swept-back : weight n r x < 2 * d → P < Q → SweptTo d n r Q Q
@@ -207,7 +204,7 @@ module _ (d n : ℕ) (r : Runs) (P Q : ℕ) (c : SweptTo d n r P Q) (x : ℕ) (h
       old : (y : ℕ) → y < countOf r → (y ≡ x → ⊥) → imageOf r y < Q → weight n r y < 2 * d
       old y hy ne l = c .light y hy l
           (λ e. ne (sym (image-one n r (c .legal) x y hx hy (omega arith)
-          (omega (arith, image-lasting n r (c .legal) x hx)))))
+          (omega (arith, image-some n r (c .legal) x hx)))))
 
   swept-hit : (y : ℕ) → y < countOf (cutAt d n r x) → imageOf (cutAt d n r x) y < Q
       → lands n (cutAt d n r x) (added d n r x) y ≡ true
@@ -297,7 +294,7 @@ pub ahead-on : (n : ℕ) (r : Runs) (x : ℕ) → Legal n r → x < countOf r
 ahead-on n r x c hx = sum-less x (countOf r) (λ y. bit (leb (imageEnd n r x) (imageOf r y)))
     (λ y. bit (leb (imageOf r x) (imageOf r y))) hx
     (rw (
-      lt-leb (imageEnd n r x) (imageOf r x) (image-lasting n r c x hx),
+      lt-leb (imageEnd n r x) (imageOf r x) (image-some n r c x hx),
       le-leb (imageOf r x) (imageOf r x) (omega arith),
     ) (omega arith))
     (λ y l. bit-leb (imageEnd n r x) (imageOf r y) (imageOf r x) (imageOf r y) (λ e. omega arith))

@@ -6,9 +6,9 @@ use native.Mathlib.Omega.{arith}
 use lib.ListN.{length, getD, length-map}
 use Rattle.order.proofs.Laws.{strict-sorted, count-le-length, getD-map}
 use Rattle.runs.specs.Runs.{runs, runAt}
-use Rattle.runs.proofs.Legality.{homes}
+use Rattle.runs.proofs.Legality.{homes, image-below}
 use Rattle.order.proofs.Filling.{Filling, filling-none, filling-length, filling-next, filling-all}
-use Rattle.balance.proofs.Writing.{legal-count, image-below, holder-counted}
+use Rattle.balance.proofs.Writing.{legal-count, holder-counted}
 use Rattle.balance.proofs.fill.write_holders.Statement.{statement}
 use Rattle.balance.proofs.fill.write_holders.Tie as tie
 

@@ -28,6 +28,16 @@ abbrev μ-loop : tie.MeasureT-loop
 μ-loop n starts images order ranked d working₀ cuts₀ p₀ q₀ mark₀ working cuts p q mark =
     turnsLeft n (runs starts images) working p q cuts
 
+-- the places: the call that a turn belongs to; the turn, and its start, from what comes after it
+abbrev start : tie.At-loop Inv-loop μ-loop → tie.Start Inv-loop μ-loop
+start c = c .before .before .before .before .before .before
+
+abbrev turn : tie.After-piece-at Inv-loop μ-loop → tie.At-loop Inv-loop μ-loop
+turn c = c .before .before .before
+
+abbrev entered : tie.After-skip2 Inv-loop μ-loop → tie.In-loop Inv-loop μ-loop
+entered c = c .before .before .before .before .before .before
+
 -- the list that is handed in; the cuts so far, the starts with them, and the list after them
 abbrev listOf : tie.Start Inv-loop μ-loop → Runs
 listOf a = runs (a .args .starts .now) (a .args .images .now)
@@ -36,16 +46,15 @@ abbrev cutsOf : tie.At-loop Inv-loop μ-loop → List ℕ
 cutsOf c = take (c .loop .cuts) (c .loop .working)
 
 abbrev mergedOf : tie.At-loop Inv-loop μ-loop → List ℕ
-mergedOf c = merged (c .before .before .before .before .before .before .args .starts .now) (cutsOf c)
+mergedOf c = merged (start c .args .starts .now) (cutsOf c)
 
 abbrev afterOf : tie.At-loop Inv-loop μ-loop → Runs
-afterOf c = withCuts (c .before .before .before .before .before .before .args .n)
-    (listOf (c .before .before .before .before .before .before)) (cutsOf c)
+afterOf c = withCuts (start c .args .n) (listOf (start c)) (cutsOf c)
 
 -- a turn's progress to other places, and another table
 abbrev Moves : tie.At-loop Inv-loop μ-loop → List ℕ → ℕ → ℕ → ℕ → Type 0
 Moves c working p q cuts =
-    let a = c .before .before .before .before .before .before in
+    let a = start c in
     Progress (a .args .d) (a .args .n) (listOf a) (a .args .working .now) working p q cuts
     × turnsLeft (a .args .n) (listOf a) working p q cuts < turnsLeft (a .args .n) (listOf a) (c .loop .working)
     (c .loop .p) (c .loop .q) (c .loop .cuts)
@@ -55,28 +64,32 @@ abbrev pieceT : tie.Then1 Inv-loop μ-loop → tie.After-piece-at Inv-loop μ-lo
 pieceT c = c .before .before .before .before .before .before .before
 
 abbrev turnT : tie.Then1 Inv-loop μ-loop → tie.At-loop Inv-loop μ-loop
-turnT c = c .before .before .before .before .before .before .before .before .before .before
+turnT c = turn (pieceT c)
 
 abbrev startT : tie.Then1 Inv-loop μ-loop → tie.Start Inv-loop μ-loop
-startT c = let t = turnT c in t .before .before .before .before .before .before
+startT c = start (turnT c)
 
 abbrev pieceE : tie.Else1 Inv-loop μ-loop → tie.After-piece-at Inv-loop μ-loop
 pieceE c = c .before .before .before .before .before .before .before
 
 abbrev turnE : tie.Else1 Inv-loop μ-loop → tie.At-loop Inv-loop μ-loop
-turnE c = c .before .before .before .before .before .before .before .before .before .before
+turnE c = turn (pieceE c)
 
 abbrev startE : tie.Else1 Inv-loop μ-loop → tie.Start Inv-loop μ-loop
-startE c = let t = turnE c in t .before .before .before .before .before .before
+startE c = start (turnE c)
+
+-- a heavy piece, from after its cut
+abbrev weighed : tie.After-insert Inv-loop μ-loop → tie.Else1 Inv-loop μ-loop
+weighed c = c .before .before .before .before .before
 
 sorted : {n : ℕ} {starts cuts : List ℕ} → Starts n starts cuts → Sorted starts × Sorted cuts
 sorted {n} {starts} {cuts} g = (strict-sorted starts (g .starts-rise), strict-sorted cuts (g .cuts-rise))
 
 loop-holds : tie.Need-loop-holds Inv-loop μ-loop
 loop-holds c =
-    let a = c .before .before .before .before .before .args in
-    let g = progress-start (a .d) (a .n) (listOf (c .before .before .before .before .before)) (a .working .now)
-    (c .before .before .before .before .before .pre .0 .legal) in
+    let b = c .before .before .before .before .before in
+    let a = b .args in
+    let g = progress-start (a .d) (a .n) (listOf b) (a .working .now) (b .pre .0 .legal) in
     let none : All (λ y. 0 ≤ y) (a .starts .now) = all-true (λ y. 0 ≤ y) (a .starts .now) (λ y. omega arith) in
     (g, at-counts _ _ _ (g .starts) _ 0 (sym (count-none 0 (a .starts .now) none)) refl)
 
@@ -89,54 +102,53 @@ slice-aggregate-piece-at c = let l = c .before .before .loop in
 
 piece-at-requires : tie.Need-piece-at-requires Inv-loop μ-loop
 piece-at-requires c κs = (
-  c .before .before .before .before .before .before .before .before .pre .0,
+  start (c .before .before) .pre .0,
   c .before .before .loop .inv .0 .starts,
-  progress-at _ _ (c .before .before .before .before .before .before .before .before .pre .1)
-      (listOf (c .before .before .before .before .before .before .before .before))
-      (c .before .before .before .before .before .before .before .before .pre .0 .legal) _ _ _ _ _
+  progress-at _ _ (start (c .before .before) .pre .1) (listOf (start (c .before .before)))
+      (start (c .before .before) .pre .0 .legal) _ _ _ _ _
       (c .before .before .loop .inv .0) (c .before .loop-test .taken),
 )
 
 -- the image of the piece
-ends : (c : tie.After-piece-at Inv-loop μ-loop) → (c .before .before .before .loop .p ≤ c .piece-at .result .to)
-    × (c .piece-at .result .to ≤ c .before .before .before .before .before .before .before .before .before .args .n)
-ends c = piece-to _ (listOf (c .before .before .before .before .before .before .before .before .before)) _ _ _
-    (c .before .before .before .before .before .before .before .before .before .pre .0 .legal)
-    (c .before .before .before .loop .inv .0 .starts) (c .piece-at .ensures)
+ends : (c : tie.After-piece-at Inv-loop μ-loop) → (turn c .loop .p ≤ c .piece-at .result .to)
+    × (c .piece-at .result .to ≤ start (turn c) .args .n)
+ends c = piece-to _ (listOf (start (turn c))) _ _ _
+    (start (turn c) .pre .0 .legal)
+    (turn c .loop .inv .0 .starts) (c .piece-at .ensures)
 
 slice-reshare-prefix-skip : tie.Need-slice-reshare-prefix-skip Inv-loop μ-loop
-slice-reshare-prefix-skip c = c .before .before .before .loop .inv .0 .fits
+slice-reshare-prefix-skip c = turn c .loop .inv .0 .fits
 
 slice-aggregate-skip : tie.Need-slice-aggregate-skip Inv-loop μ-loop
-slice-aggregate-skip c = let l = c .before .before .before .before .loop in
+slice-aggregate-skip c = let l = turn (c .before) .loop in
     sym (length-take-le (l .cuts) (l .working) (l .inv .0 .fits))
 
 skip-requires : tie.Need-skip-requires Inv-loop μ-loop
 skip-requires c κs =
-    let l = c .before .before .before .before .loop in
+    let l = turn (c .before) .loop in
     let e = ends (c .before) in
-    let s = at-sum _ _ _ (c .before .before .before .before .loop .inv .0 .starts) _ _
-    (c .before .before .before .before .loop .inv .1) in (
+    let s = at-sum _ _ _ (turn (c .before) .loop .inv .0 .starts) _ _
+    (turn (c .before) .loop .inv .1) in (
       l .inv .0 .starts,
-      at-own _ _ _ (c .before .before .before .before .loop .inv .0 .starts) _ _ (l .inv .1),
+      at-own _ _ _ (turn (c .before) .loop .inv .0 .starts) _ _ (l .inv .1),
       omega (
         arith,
         count-mono (l .p) (c .before .piece-at .result .to)
-            (mergedOf (c .before .before .before .before)) (e .0),
+            (mergedOf (turn (c .before))) (e .0),
       ),
       e .1,
     )
 
 slice-reshare-prefix-skip-2 : tie.Need-slice-reshare-prefix-skip-2 Inv-loop μ-loop
-slice-reshare-prefix-skip-2 c = c .before .before .before .before .before .loop .inv .0 .fits
+slice-reshare-prefix-skip-2 c = turn (c .before .before) .loop .inv .0 .fits
 
 slice-aggregate-skip-2 : tie.Need-slice-aggregate-skip-2 Inv-loop μ-loop
-slice-aggregate-skip-2 c = let l = c .before .before .before .before .before .before .loop in
+slice-aggregate-skip-2 c = let l = turn (c .before .before .before) .loop in
     sym (length-take-le (l .cuts) (l .working) (l .inv .0 .fits))
 
 skip-requires-2 : tie.Need-skip-requires-2 Inv-loop μ-loop
 skip-requires-2 c κs = (
-  c .before .before .before .before .before .before .loop .inv .0 .starts,
+  turn (c .before .before .before) .loop .inv .0 .starts,
   c .before .skip .ensures .at,
   c .before .skip .ensures .below,
   ends (c .before .before .before) .1,
@@ -148,11 +160,11 @@ few c =
     let l = c .before .loop in
     omega (
       arith,
-      merged-length (c .before .before .before .before .before .before .before .args .starts .now)
+      merged-length (start (c .before) .args .starts .now)
           (cutsOf (c .before)),
       length-take-le (l .cuts) (l .working) (l .inv .0 .fits),
       l .inv .0 .kept,
-      c .before .before .before .before .before .before .before .good,
+      start (c .before) .good,
     )
 
 marked : (c : tie.In-loop Inv-loop μ-loop)
@@ -166,28 +178,28 @@ marked c = omega (
 add-if1 : tie.Need-add-if1 Inv-loop μ-loop
 add-if1 c = omega (
   arith,
-  few (c .before .before .before .before .before .before .before),
+  few (entered (c .before)),
   c .before .skip2 .ensures .at .within,
 )
 
 add-if1-2 : tie.Need-add-if1-2 Inv-loop μ-loop
 add-if1-2 c = omega (
   arith,
-  few (c .before .before .before .before .before .before .before .before),
-  marked (c .before .before .before .before .before .before .before .before),
+  few (entered (c .before .before)),
+  marked (entered (c .before .before)),
 )
 
 mul-if1 : tie.Need-mul-if1 Inv-loop μ-loop
-mul-if1 c = let a = c .before .before .before .before .before .before .before .before .before in
-    omega (arith, a .before .before .before .before .before .before .pre .2)
+mul-if1 c = let a = entered (c .before .before) .before in
+    omega (arith, start a .pre .2)
 
 add-if1-3 : tie.Need-add-if1-3 Inv-loop μ-loop
-add-if1-3 c = let a = c .before .before .before .before .before .before .before .before .before in
+add-if1-3 c = let a = entered (c .before .before) .before in
     omega (
       arith,
-      few (c .before .before .before .before .before .before .before .before),
-      marked (c .before .before .before .before .before .before .before .before),
-      a .before .before .before .before .before .before .pre .2,
+      few (entered (c .before .before)),
+      marked (entered (c .before .before)),
+      start a .pre .2,
     )
 
 slice-reshare-prefix-mark-at : tie.Need-slice-reshare-prefix-mark-at Inv-loop μ-loop
@@ -306,27 +318,27 @@ insert-requires c κs = let l = turnE (c .before .before .before .before) .loop 
     (room (c .before .before), strict-sorted (take (l .cuts) (l .working)) (l .inv .0 .starts .cuts-rise))
 
 -- the table with the cut in it
-added : (c : tie.After-insert Inv-loop μ-loop) → let a = startE (c .before .before .before .before .before) .args in
+added : (c : tie.After-insert Inv-loop μ-loop) → let a = startE (weighed c) .args in
     Starts (a .n) (a .starts .now)
-    (take (turnE (c .before .before .before .before .before) .loop .cuts + 1) (c .insert .last .0))
-added c = cut-starts _ _ (startE (c .before .before .before .before .before) .pre .1)
-    (listOf (startE (c .before .before .before .before .before)))
-    (startE (c .before .before .before .before .before) .pre .0 .legal) _ _ _ _ _
-    (turnE (c .before .before .before .before .before) .loop .inv .0) _
-    (pieceE (c .before .before .before .before .before) .piece-at .ensures)
-    (heavy (c .before .before .before .before .before) .0) _ (placed (c .before .before .before)) (c .insert .last .0)
+    (take (turnE (weighed c) .loop .cuts + 1) (c .insert .last .0))
+added c = cut-starts _ _ (startE (weighed c) .pre .1)
+    (listOf (startE (weighed c)))
+    (startE (weighed c) .pre .0 .legal) _ _ _ _ _
+    (turnE (weighed c) .loop .inv .0) _
+    (pieceE (weighed c) .piece-at .ensures)
+    (heavy (weighed c) .0) _ (placed (c .before .before .before)) (c .insert .last .0)
     (c .insert .ensures)
 
 grown : (c : tie.After-insert Inv-loop μ-loop)
-    → turnE (c .before .before .before .before .before) .loop .cuts + 1 ≤ length (c .insert .last .0)
+    → turnE (weighed c) .loop .cuts + 1 ≤ length (c .insert .last .0)
 grown c = omega (arith, room (c .before .before .before), c .insert .kept .0)
 
 add-cuts : tie.Need-add-cuts Inv-loop μ-loop
 add-cuts c = omega (
   arith,
   room (c .before .before .before .before .before),
-  turnE (c .before .before .before .before .before .before .before) .loop .inv .0 .kept,
-  startE (c .before .before .before .before .before .before .before) .good,
+  turnE (weighed (c .before .before)) .loop .inv .0 .kept,
+  startE (weighed (c .before .before)) .good,
 )
 
 slice-reshare-prefix-image-around : tie.Need-slice-reshare-prefix-image-around Inv-loop μ-loop
@@ -335,12 +347,12 @@ slice-reshare-prefix-image-around c = grown (c .before .before .before)
 slice-aggregate-image-around : tie.Need-slice-aggregate-image-around Inv-loop μ-loop
 slice-aggregate-image-around c =
     sym (length-take-le (turnE
-    (c .before .before .before .before .before .before .before .before .before) .loop .cuts + 1)
+    (weighed (c .before .before .before .before)) .loop .cuts + 1)
     (c .before .before .before .before .insert .last .0) (grown (c .before .before .before .before)))
 
 image-around-requires : tie.Need-image-around-requires Inv-loop μ-loop
 image-around-requires c κs = (
-  startE (c .before .before .before .before .before .before .before .before .before) .pre .0,
+  startE (weighed (c .before .before .before .before)) .pre .0,
   added (c .before .before .before .before),
   below (c .before .before .before .before .before .before .before),
 )
@@ -351,29 +363,29 @@ slice-reshare-prefix-mark-at-2 c = grown (c .before .before .before)
 slice-aggregate-mark-at-2 : tie.Need-slice-aggregate-mark-at-2 Inv-loop μ-loop
 slice-aggregate-mark-at-2 c =
     sym (length-take-le (turnE
-    (c .before .before .before .before .before .before .before .before .before) .loop .cuts + 1)
+    (weighed (c .before .before .before .before)) .loop .cuts + 1)
     (c .before .before .before .before .insert .last .0) (grown (c .before .before .before .before)))
 
 mark-at-requires-2 : tie.Need-mark-at-requires-2 Inv-loop μ-loop
 mark-at-requires-2 c κs = sorted (added (c .before .before .before .before))
 
-next : (c : tie.After-insert Inv-loop μ-loop) (p : ℕ) → let a = startE (c .before .before .before .before .before) in
-    let l = turnE (c .before .before .before .before .before) .loop in let u = cutOf (c .before .before .before) in
+next : (c : tie.After-insert Inv-loop μ-loop) (p : ℕ) → let a = startE (weighed c) in
+    let l = turnE (weighed c) .loop in let u = cutOf (c .before .before .before) in
     let w = c .insert .last .0 in
     (u < l .q → Covers (a .args .n) (withCuts (a .args .n) (listOf a) (take (l .cuts + 1) w)) u p)
     → (l .q ≤ u → p ≡ l .q)
-    → Moves (turnE (c .before .before .before .before .before)) w p (l .q) (l .cuts + 1)
-next c p f g = progress-cut _ _ (startE (c .before .before .before .before .before) .pre .1)
-    (listOf (startE (c .before .before .before .before .before)))
-    (startE (c .before .before .before .before .before) .pre .0 .legal) _ _ _ _ _
-    (turnE (c .before .before .before .before .before) .loop .inv .0) _
-    (pieceE (c .before .before .before .before .before) .piece-at .ensures)
-    (heavy (c .before .before .before .before .before) .0) _ (placed (c .before .before .before)) p
+    → Moves (turnE (weighed c)) w p (l .q) (l .cuts + 1)
+next c p f g = progress-cut _ _ (startE (weighed c) .pre .1)
+    (listOf (startE (weighed c)))
+    (startE (weighed c) .pre .0 .legal) _ _ _ _ _
+    (turnE (weighed c) .loop .inv .0) _
+    (pieceE (weighed c) .piece-at .ensures)
+    (heavy (weighed c) .0) _ (placed (c .before .before .before)) p
     (c .insert .last .0) (room (c .before .before .before)) (c .insert .ensures) f g
 
 stepped : (c : tie.Joined3 Inv-loop μ-loop)
-    → let l = turnE (c .before .before .before .before .before .before .before .before) .loop in
-    Moves (turnE (c .before .before .before .before .before .before .before .before))
+    → let l = turnE (weighed (c .before .before .before)) .loop in
+    Moves (turnE (weighed (c .before .before .before)))
     (c .before .before .before .insert .last .0) (c .if3 .p) (l .q) (l .cuts + 1)
 stepped c =
     ⊎-elim
@@ -396,9 +408,9 @@ same-length : tie.Need-same-length Inv-loop μ-loop
 same-length c = c .before .loop .inv .0 .kept
 
 returns : tie.Need-returns Inv-loop μ-loop
-returns c = progress-end _ _ (c .before .before .before .before .before .before .before .pre .1)
-    (listOf (c .before .before .before .before .before .before .before))
-    (c .before .before .before .before .before .before .before .pre .0 .legal) _ _ _ _ _ (c .before .loop .inv .0)
+returns c = progress-end _ _ (start (c .before) .pre .1)
+    (listOf (start (c .before)))
+    (start (c .before) .pre .0 .legal) _ _ _ _ _ (c .before .loop .inv .0)
     (c .loop-test .left)
 
 pub sweep-spec : {M : Type 1} → statement M
