@@ -1,6 +1,7 @@
 -- What a file's list and degree come to, by the facts that their tests show.
 use Prim.Native.Nat.{ℕ, _≤_, _<_}
 use mathlib.Core.Path.{_≡_, refl, sym, ap, _∙_}
+use mathlib.Core.Bool.{true, false}
 use mathlib.Core.List.{List}
 use native.Mathlib.Omega.{arith}
 use lib.ListN.{length}
@@ -11,6 +12,8 @@ use Rattle.outcomes.specs.Outcome.{Outcome, done, refused, judge, andThen}
 use Rattle.runs.specs.Runs.{Runs, countOf}
 use Rattle.runs.specs.Check.{maxRuns, unmatched, listTests, testsUpTo, checkOf}
 use Rattle.outcomes.proofs.Judging.{done-refused, judge-append, judge-first, judge-done}
+use Rattle.balance.specs.Lent.{noDegree}
+use Rattle.balance.proofs.Outcomes.{degree-in, degree-passes}
 use Rattle.files.specs.Words.{wordOf, headerOf, runsAt, runsOf}
 use Rattle.files.specs.File.{headerTests, bodyTests, fileTests, fileOf}
 use Rattle.files.specs.Parts.{Laid, headingOf, degreeOf, listedOf, bodyOf}
@@ -19,24 +22,23 @@ use Rattle.files.proofs.Reading.{runs-count}
 
 module _ (h : Header) where
   -- test 7
-  pub degree-low : h .d < 2 → refused 7 (h .d) ≡ degreeOf h
+  pub degree-passed : noDegree (h .d) ≡ false → done h ≡ degreeOf h
   unfolding degreeOf judge
-  degree-low l = simp (lt-ltb _ _ l)
+  degree-passed e = rw e
 
-  pub degree-high : 2 ≤ h .d → 64 < h .d → refused 7 (h .d) ≡ degreeOf h
+  pub degree-refused : noDegree (h .d) ≡ true → refused 7 (h .d) ≡ degreeOf h
   unfolding degreeOf judge
-  degree-high l m = simp (le-ltb _ _ l, lt-ltb _ _ m)
+  degree-refused e = rw e
 
   pub degree-right : 2 ≤ h .d → h .d ≤ 64 → done h ≡ degreeOf h
-  unfolding degreeOf judge
-  degree-right l m = simp (le-ltb _ _ l, le-ltb _ _ m)
+  degree-right l m = degree-passed (degree-passes (h .d) l m)
 
   degree-done : (g : Header) → degreeOf h ≡ done g → (g ≡ h) × (2 ≤ h .d) × (h .d ≤ 64)
   unfolding degreeOf
   degree-done g e =
       let t = judge-first _ _ _ g (sym e) in
-      let s = or-false (ltb (h .d) 2) (ltb 64 (h .d)) (t .0) in
-      (sym (judge-done _ h g e), ltb-false (h .d) 2 (s .0), ltb-false 64 (h .d) (s .1))
+      let s = degree-in (h .d) (t .0) in
+      (sym (judge-done _ h g e), s .0, s .1)
 
   module _ (r : Runs) where
     -- check's tests of a list, and then it

@@ -33,13 +33,10 @@ pub enum FileChecked {
 fn check_degree(h: Header) -> FileChecked
     ensures { λ r. ⌜ fileSays r ≡ degreeOf h ⌝ }
 {
-    if h.d < 2 {
-        return FileChecked::Refused(Refusal::Degree(h.d));
+    if balance::is_degree(h.d) {
+        return FileChecked::Read(h);
     }
-    if 64 < h.d {
-        return FileChecked::Refused(Refusal::Degree(h.d));
-    }
-    FileChecked::Read(h)
+    FileChecked::Refused(Refusal::Degree(h.d))
 }
 
 // Check's tests of the list that was read, and then test 7.

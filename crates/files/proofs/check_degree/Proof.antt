@@ -1,17 +1,19 @@
--- `check_degree` meets its contract: one law for each way to return.
-use native.Mathlib.Omega.{arith}
-use Rattle.files.proofs.Bodies.{degree-low, degree-high, degree-right}
+-- `check_degree` meets its contract: by what `is_degree` says.
+use borrow.Author.Needs.{needs}
+use borrow.Author.Tests.{not-false, not-true}
+use mathlib.Core.Path.{sym, _∙_}
+use Rattle.files.proofs.Bodies.{degree-passed, degree-refused}
 use Rattle.files.proofs.check_degree.Statement.{statement}
 use Rattle.files.proofs.check_degree.Tie as tie
 
+is-degree-requires : tie.Need-is-degree-requires
+is-degree-requires c κs = search needs
+
 returns : tie.Need-returns
-returns c = degree-low _ (c .if1 .taken)
+returns c = degree-passed _ (not-true _ (sym (c .before .is-degree .ensures) ∙ c .if1 .taken))
 
 returns-2 : tie.Need-returns-2
-returns-2 c = degree-high _ (omega arith) (c .if2 .taken)
-
-returns-3 : tie.Need-returns-3
-returns-3 c = degree-right _ (omega arith) (c .if2 .left)
+returns-2 c = degree-refused _ (not-false _ (sym (c .before .is-degree .ensures) ∙ c .if1 .left))
 
 pub check-degree-spec : {M : Type 1} → statement M
-check-degree-spec = tie.close (tie.spec returns returns-2 returns-3)
+check-degree-spec = tie.close (tie.spec is-degree-requires returns returns-2)
