@@ -49,7 +49,7 @@ room-in : (b : ℕ) (l : Lent) → shortSizes b (sizesOf l) ≡ false → Room b
 room-in b l e = let i = sizes-in b (sizesOf l) e in
     record { starts = i .0; images = i .1; holders = i .2; working = i .3 }
 
-room-passes : (b : ℕ) (l : Lent) → Room b l → shortSizes b (sizesOf l) ≡ false
+pub room-passes : (b : ℕ) (l : Lent) → Room b l → shortSizes b (sizesOf l) ≡ false
 room-passes b l m = rw (
   le-ltb (length (l .starts)) b (m .starts),
   le-ltb (length (l .images)) b (m .images),

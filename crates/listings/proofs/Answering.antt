@@ -2,6 +2,7 @@
 -- apply, and what is answered makes the text.
 use Prim.Native.Nat.{ℕ, zero, suc, _-_, _*_, _≤_, _<_}
 use mathlib.Core.Path.{_≡_, refl, sym, ap, subst, _∙_}
+use mathlib.Core.Bool.{Bool, true, false}
 use mathlib.Core.Logic.{_⊎_, inl, inr}
 use mathlib.Core.List.{List, [], _∷_}
 use native.Mathlib.Omega.{arith}
@@ -18,23 +19,18 @@ use Rattle.outcomes.proofs.Judging.{done-refused, judge-append, map-then}
 use Rattle.runs.proofs.Accepted.{accepted-legal}
 use Rattle.tables.specs.Tables.{Tables, tablesOf, sizeOf}
 use Rattle.cuts.specs.Balance.{balanced, boundOf}
-use Rattle.balance.specs.Lent.{Lent, firstOf, balancedSays, degreeTest, tooShort, balanceOf, Balances}
+use Rattle.balance.specs.Lent.{Lent, Room, noDegree, tableSize, firstOf, balancedSays, balanceOf, Balances}
+use Rattle.balance.specs.Plan.{sizesOf, sizedOf, plannedOf}
+use Rattle.balance.proofs.Outcomes.{degree-in, room-passes, sized-degree, sized-done, balance-planned}
 use Rattle.balance.specs.declared.Balanced.{Balanced}
 use Rattle.balance.specs.declared.Balanced.the-variants.{Intervals, Refused}
 use Rattle.cuts.proofs.Balancing.{balanced-legal, balanced-cuts}
 use Rattle.balance.proofs.Heads.{head-is, head-room}
 use Rattle.files.specs.Parts.{degreeOf, listedOf}
 use Rattle.files.specs.declared.Header.{Header}
-use Rattle.files.proofs.Bodies.{listed-done}
+use Rattle.files.proofs.Bodies.{degree-passed, degree-refused, listed-done}
 use Rattle.listings.specs.Listing.{maxListed, tableText, listText}
 use Rattle.listings.specs.Parts.{maxTabled, Listed, Tabled, Answered, answerText}
-
--- lent tables with room for the balanced list of 1,024 runs at any degree
-pub record Spacious (l : Lent) : Type 0 where
-  pub starts : maxTabled ≤ length (l .starts)
-  pub images : maxTabled ≤ length (l .images)
-  pub holders : maxTabled ≤ length (l .holders)
-  pub working : maxTabled ≤ length (l .working)
 
 -- the bound is at most twice the count
 bound-twice : (d k : ℕ) → 2 ≤ d → boundOf d k ≤ 2 * k
@@ -44,37 +40,38 @@ bound-twice (suc (suc f)) k h =
     let z : suc (suc f) - 1 ≡ suc f = omega arith in
     rw z (div-le-of-le-mul (suc f) {m = suc (suc f) * k} {n = 2 * k} (omega arith))
 
-module _ (h : Header) (r : Runs) (few : countOf r ≤ maxListed) (entry : Lent) (s : Spacious entry) where
+module _ (h : Header) (r : Runs) (few : countOf r ≤ maxListed) (entry : Lent) (s : Room maxTabled entry) where
   -- the tables that balancing is to leave
   abbrev goal : Tables
   goal = tablesOf (h .n) (balanced (h .d) (h .n) r)
 
-  -- 7, and then 8, which has room
-  degrees : judge (degreeTest (h .d) ∷ test 8 (tooShort (boundOf (h .d) (countOf r)) entry) (boundOf (h .d) (countOf r)) ∷ []) goal
-      ≡ mapDone (λ g. goal) (degreeOf h)
-  unfolding degreeOf judge mapDone tooShort
-  degrees = go (lt-or-le (h .d) 2) (lt-or-le 64 (h .d))
+  -- there is room at any degree, so that of 7 and 8 only 7 is left
+  room : 2 ≤ h .d → Room (tableSize (h .d) (countOf r)) entry
+  room a =
+      let m = bound-twice (h .d) (countOf r) a in
+      record {
+        starts = omega (arith, s .starts);
+        images = omega (arith, s .images);
+        holders = omega (arith, s .holders);
+        working = omega (arith, s .working);
+      }
+
+  degrees : mapDone (λ u. goal) (sizedOf (h .d) (countOf r) (sizesOf entry)) ≡ mapDone (λ g. goal) (degreeOf h)
+  unfolding mapDone
+  degrees = go (noDegree (h .d)) refl
     where
-      go : (h .d < 2) ⊎ (2 ≤ h .d) → (64 < h .d) ⊎ (h .d ≤ 64)
-          → judge (degreeTest (h .d) ∷ test 8 (tooShort (boundOf (h .d) (countOf r)) entry) (boundOf (h .d) (countOf r)) ∷ []) goal
-          ≡ mapDone (λ g. goal) (degreeOf h)
-      go (inl a) b = simp (lt-ltb _ _ a)
-      go (inr a) (inl b) = simp (le-ltb _ _ a, lt-ltb _ _ b)
-      go (inr a) (inr b) =
-          let m = bound-twice (h .d) (countOf r) a in
-          simp (
-            le-ltb _ _ a,
-            le-ltb _ _ b,
-            le-ltb (length (entry .starts)) (boundOf (h .d) (countOf r)) (omega (arith, s .starts)),
-            le-ltb (length (entry .images)) (boundOf (h .d) (countOf r)) (omega (arith, s .images)),
-            le-ltb (length (entry .holders)) (boundOf (h .d) (countOf r)) (omega (arith, s .holders)),
-            le-ltb (length (entry .working)) (boundOf (h .d) (countOf r)) (omega (arith, s .working)),
-          )
+      go : (b : Bool) → noDegree (h .d) ≡ b
+          → mapDone (λ u. goal) (sizedOf (h .d) (countOf r) (sizesOf entry)) ≡ mapDone (λ g. goal) (degreeOf h)
+      go true e = rw (sized-degree (h .d) (countOf r) (sizesOf entry) e, ← degree-refused h e)
+      go false e =
+          let f = room-passes (tableSize (h .d) (countOf r)) entry (room (degree-in (h .d) e .0)) in
+          rw (sized-done (h .d) (countOf r) (sizesOf entry) e f, ← degree-passed h e)
 
   balance-listed : balanceOf (h .n) r (h .d) entry ≡ mapDone (λ g. goal) (listedOf h r)
-  unfolding balanceOf listedOf
+  unfolding plannedOf listedOf
   balance-listed =
-      judge-append {A = Unit {0}} (checkTests (h .n) r) _ tt goal
+      balance-planned (h .n) r (h .d) entry
+      ∙ map-then (λ u. goal) (checkOf (h .n) r) (λ u. sizedOf (h .d) (countOf r) (sizesOf entry))
       ∙ ap (λ (o : Outcome Tables). andThen (checkOf (h .n) r) (λ u. o)) degrees
       ∙ sym (map-then (λ g. goal) (checkOf (h .n) r) (λ u. degreeOf h))
 
@@ -143,7 +140,7 @@ module _ (h : Header) (r : Runs) (few : countOf r ≤ maxListed) (entry : Lent) 
         go (Refused f) q = refused-text f q
 
 module _ (h : Header) (r : Runs) (few : countOf r ≤ maxListed) (entry exit : Lent) (answer : Balanced)
-    (b : Balances (h .n) r (h .d) entry exit answer) (s : Spacious entry) where
+    (b : Balances (h .n) r (h .d) entry exit answer) (s : Room maxTabled entry) where
   pub answered : Answered (h .n) answer (exit .starts) (exit .images) (exit .holders)
   answered k q = heads h r few entry s exit answer b k q .0
 
