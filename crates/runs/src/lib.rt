@@ -18,16 +18,19 @@ ghost use Rattle.runs.specs.Check.{checkOf};
 ghost use Rattle.runs.specs.Inverse.{InverseListed};
 ghost use Rattle.runs.specs.Parts.{HoldsRuns, OrderChecked, CheckedOrInverted};
 
-// The most runs that a list may have.
+// The most runs that a list may have, as the size of a table.
 pub const MAX_RUNS: usize = 16384;
 
-const MOST_RUNS: u32 = 16384;
+// The same as a limit for `check_order`.
+pub const MOST_RUNS: u32 = 16384;
 
 // Lists of at most so many runs get smaller tables to work in: clearing larger ones would take longer than their check.
 const FEW_RUNS: usize = 64;
 
+// The next size.
 const MORE_RUNS: usize = 256;
 
+// And those that are large for a frame.
 pub const SOME_RUNS: usize = 1024;
 
 const MANY_RUNS: usize = 4096;
@@ -135,8 +138,8 @@ fn with_much_room(
     )
 }
 
-// The same for any number of runs, and for both operations: a call touches each page of its frame, so the check of a
-// short list has no large tables in its own, and none that are put there from here, since this is too long for that.
+// The same for any number of runs. `check` and `inverse_list` both come here for large tables: a call touches each page of
+// its frame, so a check of few runs should have none in its own (docs/DECISIONS.md, "Few runs get small tables").
 fn with_room(
     n: u32,
     starts: &[u32],
