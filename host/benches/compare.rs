@@ -50,26 +50,35 @@ fn list(r: &mut Random, shape: &str, k: usize) -> List {
     list_of(&lengths, &order)
 }
 
+/// How many lists of a line are checked in turn: one alone would teach the processor where the jumps of a short sort go.
+const LISTS: usize = 16;
+
 /// One line of the table: for each call the library's time and its ratio to the peer's.
 fn line(r: &mut Random, shape: &str, k: usize, d: u32) -> String {
-    let List { n, starts, images } = list(r, shape, k);
+    let lists: Vec<List> = (0..LISTS).map(|_| list(r, shape, k)).collect();
+    let List { n, starts, images } = &lists[0];
+    let n = *n;
     let b = d as usize * k / (d as usize - 1);
     let mut cells = Vec::new();
     let mut cell =
         |unit: f64, [library, peer]: [f64; 2]| cells.push(format!("{:.1} | {:.2}", library * unit, library / peer));
 
-    cell(1e6, seconds(|| zibewoka::check(n, &starts, &images), || peer::check(n, &starts, &images)));
+    let times = seconds(
+        || lists.iter().filter(|l| zibewoka::check(l.n, &l.starts, &l.images).is_ok()).count(),
+        || lists.iter().filter(|l| peer::check(l.n, &l.starts, &l.images).is_ok()).count(),
+    );
+    cell(1e6 / LISTS as f64, times);
 
     let [mut s, mut i, mut h, mut w] = [0; 4].map(|_| vec![0; b]);
     let [mut peer_s, mut peer_i, mut peer_h, mut peer_w] = [0; 4].map(|_| vec![0; b]);
     let times = seconds(
-        || zibewoka::balance(n, &starts, &images, d, &mut s, &mut i, &mut h, &mut w),
-        || peer::balance(n, &starts, &images, d, &mut peer_s, &mut peer_i, &mut peer_h, &mut peer_w),
+        || zibewoka::balance(n, starts, images, d, &mut s, &mut i, &mut h, &mut w),
+        || peer::balance(n, starts, images, d, &mut peer_s, &mut peer_i, &mut peer_h, &mut peer_w),
     );
     assert!(s == peer_s && i == peer_i && h == peer_h && w == peer_w, "the peer balances alike");
     cell(1e6, times);
 
-    let size = zibewoka::balance(n, &starts, &images, d, &mut s, &mut i, &mut h, &mut w).expect("legal") as usize;
+    let size = zibewoka::balance(n, starts, images, d, &mut s, &mut i, &mut h, &mut w).expect("legal") as usize;
     let (s, i, h) = (&s[..size], &i[..size], &h[..size]);
     let places: Vec<u32> = (0..64).map(|_| r.below(u64::from(n)) as u32).collect();
     let times = seconds(
@@ -115,7 +124,7 @@ fn main() {
     println!("|---|---|---|---|---|---|---|---|---|---|---|---|---|---|");
     let r = &mut Random::new(7);
     for shape in ["shuffled", "reversed", "cuts"] {
-        for k in [16, 1024, 16384] {
+        for k in [16, 64, 128, 256, 1024, 16384] {
             for d in [2, 8, 64] {
                 println!("{}", line(r, shape, k, d));
             }

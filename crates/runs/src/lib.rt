@@ -26,8 +26,10 @@ pub const MAX_RUNS: usize = MOST_RUNS as usize;
 // Lists of at most so many runs get smaller tables to work in: clearing larger ones would take longer than their check.
 pub const FEW_RUNS: usize = 64;
 
+// The next size.
 const MORE_RUNS: usize = 256;
 
+// And those that are large for a frame.
 pub const SOME_RUNS: usize = 1024;
 
 const MANY_RUNS: usize = 4096;
@@ -135,8 +137,8 @@ fn with_much_room(
     )
 }
 
-// The same for any number of runs, and for both operations: a call touches each page of its frame, so the check of a
-// short list has no large tables in its own, and none that are put there from here, since this is too long for that.
+// The same for any number of runs. `check` and `inverse_list` both come here for large tables: a call touches each page of
+// its frame, so a check of few runs should have none in its own (docs/DECISIONS.md, "Few runs get small tables").
 fn with_room(
     n: u32,
     starts: &[u32],
