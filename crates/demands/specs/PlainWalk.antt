@@ -42,7 +42,7 @@ module _ (n : ℕ) (r t : Runs) where
   abbrev pub standing : ℕ → ℕ → ℕ → Bookmark
   standing p m c = record { place = p; interval = runAt n t p; moves = m; passed = c }
 
-  -- k moves of a bookmark. With 4,294,967,295 moves made, one more is refused with 13 and place 0, and nothing changes.
+  -- k moves of a bookmark. Its counter of moves holds 4,294,967,295: from there on each is 13 with place 0, and it stays.
   unfoldable pub plainTrail : ℕ → ℕ → ℕ → ℕ → List Marking
   plainTrail zero p m c = []
   plainTrail (suc k) p m c =
