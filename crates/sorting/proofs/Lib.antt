@@ -5,3 +5,4 @@ mod Ranks
 mod Digits
 mod Passes
 mod Inserting
+mod Indexing
