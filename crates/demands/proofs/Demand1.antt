@@ -11,7 +11,7 @@ use Rattle.outcomes.specs.Outcome.{Outcome, done, refused, Test, test, judge, _
 use Rattle.outcomes.specs.Refusal.{checkedSays}
 use Rattle.runs.specs.Runs.{Runs}
 use Rattle.runs.specs.Check.{listTests, testsUpTo}
-use Rattle.runs.specs.Inverse.{inverseListOf, InverseListed}
+use Rattle.lists.specs.Inverse.{inverseListOf, InverseListed}
 use Rattle.outcomes.specs.declared.Checked.{Checked}
 use Rattle.outcomes.proofs.Judging.{done-refused, map-refused, filled-refused}
 use Rattle.tables.specs.Tables.{sizeOf}

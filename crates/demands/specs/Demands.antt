@@ -11,7 +11,7 @@ use Rattle.outcomes.specs.Refusal.{checkedSays}
 use Rattle.runs.specs.Runs.{Runs, countOf, runAt, mapOf, powerOf, carryBack}
 use Rattle.runs.specs.Legal.{DisjointIntervals, IntervalSequence}
 use Rattle.runs.specs.Check.{maxRuns, checkTests, checkOf, writeTests}
-use Rattle.runs.specs.Inverse.{inverseRuns, inverseListOf, InverseListed}
+use Rattle.lists.specs.Inverse.{inverseRuns, inverseListOf, InverseListed}
 use Rattle.outcomes.specs.declared.Checked.{Checked}
 use Rattle.tables.specs.Tables.{Tables, tablesOf}
 use Rattle.tables.specs.Move.{movedSays, findTests, locateTests, moveTests, passed, stepOf, stayAt, findOf, moveOf, movesOf, Stopped}

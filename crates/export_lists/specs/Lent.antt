@@ -5,7 +5,7 @@ use mathlib.Core.Path.{_≡_}
 use mathlib.Core.List.{List}
 use Rattle.outcomes.specs.Outcome.{mapDone}
 use Rattle.runs.specs.Runs.{Runs}
-use Rattle.runs.specs.Inverse.{InverseListed, inverseListOf}
+use Rattle.lists.specs.Inverse.{InverseListed, inverseListOf}
 use Rattle.outcomes.specs.declared.Checked.{Checked}
 use Rattle.tables.specs.Tables.{sizeOf}
 use Rattle.balance.specs.Lent.{Lent, Balances, balanceOf}

@@ -32,7 +32,7 @@ pub struct BalanceAnswer {
 pub extern "C" fn zibewoka_check(n: u32, starts: &[u32], images: &[u32]) -> ListAnswer
     ensures { λ r. ⌜ r ≡ listAnswer (checkOf n (runs (now (starts .entry)) (now (images .entry)))) ⌝ }
 {
-    answers::of_list(runs::check(n, starts, images))
+    answers::of_list(lists::check(n, starts, images))
 }
 
 // Balances a list into three lent tables, over a lent working table.
@@ -75,5 +75,5 @@ pub extern "C" fn zibewoka_inverse_list(
     ensures { λ r. ⌜ InverseListAnswered n (runs (now (starts .entry)) (now (images .entry)))
         (now («to_starts» .entry)) (now («to_images» .entry)) (now («to_starts» .exit)) (now («to_images» .exit)) r ⌝ }
 {
-    answers::of_list(runs::inverse_list(n, starts, images, to_starts, to_images))
+    answers::of_list(lists::inverse_list(n, starts, images, to_starts, to_images))
 }

@@ -43,7 +43,7 @@ fn check_degree(h: Header) -> FileChecked
 fn check_listed(h: Header, starts: &[u32], images: &[u32]) -> FileChecked
     ensures { λ r. ⌜ fileSays r ≡ listedOf h (runs (now (starts .entry)) (now (images .entry))) ⌝ }
 {
-    match runs::check(h.n, starts, images) {
+    match lists::check(h.n, starts, images) {
         Checked::Refused(r) => FileChecked::Refused(r),
         Checked::Accepted => check_degree(h),
     }

@@ -23,7 +23,7 @@
 // `file`, that of the check, and then how many bytes the listing has. What is lent has at most 256 entries, sevens before
 // the call (a text: #), and is printed after it, refused or not. Any other row is answered by `no call`.
 mod file_rows;
-mod lists;
+mod lent;
 mod operations;
 mod out;
 mod reading;

@@ -1,6 +1,6 @@
 // The operations that a row can call: the word of each, how many numbers and slices it has, and its call.
 use super::file_rows;
-use super::lists;
+use super::lent;
 use super::out;
 use super::reading;
 use super::row;
@@ -53,9 +53,9 @@ fn code_of(word: &[u8], row: Row) -> usize {
 // Runs what is called on a list or a file.
 fn call_list(code: usize, numbers: &[u32], a: &[u32], b: &[u32]) {
     match code {
-        12 => out::checked(runs::check(row::number(numbers, 0), a, b)),
-        132 => lists::inverse_list(numbers, a, b),
-        262 => lists::balance(numbers, a, b),
+        12 => out::checked(lists::check(row::number(numbers, 0), a, b)),
+        132 => lent::inverse_list(numbers, a, b),
+        262 => lent::balance(numbers, a, b),
         321 => file_rows::file(numbers, a),
         _ => out::line(b" no call"),
     }

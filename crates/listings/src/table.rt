@@ -48,7 +48,7 @@ fn interval_row(
         x,
         start,
         image,
-        runs::shift(start, image),
+        lists::shift(start, image),
         holders[i],
         weight,
     )

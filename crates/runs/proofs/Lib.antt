@@ -3,7 +3,7 @@ pub mod Sums
 pub mod Legality
 mod Checking
 mod Sharing
-mod Ranking
+pub mod Ranking
 mod Sweeping
 pub mod Accepted
 pub mod Intervals
@@ -11,6 +11,3 @@ pub mod Bijection
 pub mod Walks
 pub mod Tiling
 pub mod Sequences
-pub mod Inversion
-mod Writing
-pub mod Shifting

@@ -3,5 +3,4 @@ pub mod Runs
 pub mod Legal
 pub mod Weight
 pub mod Check
-pub mod Inverse
 pub mod Parts

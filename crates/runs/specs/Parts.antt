@@ -1,17 +1,16 @@
--- What the parts of `check` and `inverse_list` ask and promise, `check_order` among them, which crates of our own call.
+-- What the parts of a check ask and promise, `check_order` among them, which crates of our own call.
 use Prim.Native.Nat.{ℕ, suc, _≤_, _<_}
 use mathlib.Core.Path.{_≡_}
-use mathlib.Core.Bool.{Bool, true, false, _&&_, _||_}
-use mathlib.Core.List.{List, [], _∷_}
+use mathlib.Core.Bool.{Bool, _&&_, _||_}
+use mathlib.Core.List.{List}
 use lib.ListN.{length, getD, take}
 use lib.Dec.{ltb}
 use Rattle.order.specs.Order.{orderOf}
-use Rattle.outcomes.specs.Outcome.{Outcome, done, shortTest, judge}
+use Rattle.outcomes.specs.Outcome.{done}
 use Rattle.outcomes.specs.Refusal.{checkedSays}
 use Rattle.outcomes.specs.Search.{firstBelow}
 use Rattle.runs.specs.Runs.{Runs, countOf, startOf, imageOf, endOf}
-use Rattle.runs.specs.Check.{overlaps, checkUpTo, checkOf}
-use Rattle.runs.specs.Inverse.{inverseRuns, InverseListed}
+use Rattle.runs.specs.Check.{overlaps, checkUpTo}
 use Rattle.outcomes.specs.declared.Checked.{Checked}
 
 -- the lowest run with the property, or the number of runs
@@ -51,12 +50,3 @@ pub record OverlapFound (n : ℕ) (r : Runs) (order : List ℕ) (x : ℕ) : Type
 pub record OrderChecked (most n : ℕ) (r : Runs) (order : List ℕ) (answer : Checked) : Type 0 where
   pub says : checkedSays answer ≡ checkUpTo most n r
   pub ordered : checkUpTo most n r ≡ done tt → Ordered r order
-
--- test 8 by itself, and what is written where it passes
-unfoldable pub writtenOf : Runs → List ℕ → List ℕ → Outcome Runs
-writtenOf r toStarts toImages = judge (shortTest (countOf r) (toStarts ∷ toImages ∷ []) ∷ []) (inverseRuns r)
-
--- the answer of a check, or of an inverse list and what it leaves in the tables
-pub record CheckedOrInverted (inverts : Bool) (n : ℕ) (r : Runs) (starts images starts′ images′ : List ℕ) (answer : Checked) : Type 0 where
-  pub checked : inverts ≡ false → checkedSays answer ≡ checkOf n r
-  pub inverted : inverts ≡ true → InverseListed n r starts images starts′ images′ answer

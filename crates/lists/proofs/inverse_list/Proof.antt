@@ -1,8 +1,8 @@
 -- `inverse_list` meets its contract: what has room for the runs is told to invert.
 use mathlib.Core.Path.{refl}
 use borrow.Author.Needs.{needs}
-use Rattle.runs.proofs.inverse_list.Statement.{statement}
-use Rattle.runs.proofs.inverse_list.Tie as tie
+use Rattle.lists.proofs.inverse_list.Statement.{statement}
+use Rattle.lists.proofs.inverse_list.Tie as tie
 
 with-room-requires : tie.Need-with-room-requires
 with-room-requires c κs = search needs

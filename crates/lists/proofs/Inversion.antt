@@ -9,16 +9,16 @@ use lib.Seq.{ext-getD}
 use Rattle.order.specs.Order.{keyOf, orderOf}
 use Rattle.order.proofs.Laws.{lt-or-le, length-sort, length-up, order-length, pairwise-at, getD-map}
 use Rattle.outcomes.specs.Outcome.{done}
 use Rattle.runs.specs.Runs.{Runs, runs, countOf, startOf, imageOf, endOf, imageEnd, carry, mapOf}
 use Rattle.runs.specs.Legal.{Legal}
 use Rattle.runs.specs.Parts.{ranked}
 use Rattle.runs.specs.Check.{checkOf}
-use Rattle.runs.specs.Inverse.{inverseRuns}
+use Rattle.lists.specs.Inverse.{inverseRuns}
 use Rattle.runs.proofs.Legality.{homes, home, home-one, map-at, end-next, end-last, image-some}
 use Rattle.runs.proofs.Ranking.{ranked-below, ranked-rises, ranked-occurs, ranked-one}
 use Rattle.runs.proofs.Accepted.{accepted-legal, legal-accepted}
 use Rattle.runs.proofs.Bijection.{map-onto}
 use Rattle.runs.proofs.Tiling.{legal-tiled}
 
 -- the inverse list, run by run
 module _ (r : Runs) (p : length (r .images) ≡ countOf r) where

@@ -1,9 +1,9 @@
 -- `shift` meets its contract: both numbers are of 32 bits, so their difference is one of 64.
 use native.Mathlib.Omega.{arith}
 use borrow.Author.Needs.{needs}
-use Rattle.runs.proofs.Shifting.{minus-fits, minus-exact}
-use Rattle.runs.proofs.shift.Statement.{statement}
-use Rattle.runs.proofs.shift.Tie as tie
+use Rattle.lists.proofs.Shifting.{minus-fits, minus-exact}
+use Rattle.lists.proofs.shift.Statement.{statement}
+use Rattle.lists.proofs.shift.Tie as tie
 
 cast-result : tie.Need-cast-result
 cast-result c = search needs

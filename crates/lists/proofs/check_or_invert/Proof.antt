@@ -6,12 +6,12 @@ use borrow.Author.Tests.{not-true, not-false}
 use borrow.Author.Needs.{needs}
 use Rattle.outcomes.specs.Outcome.{done}
 use Rattle.outcomes.specs.Refusal.{checkedSays}
 use Rattle.runs.specs.Runs.{Runs, runs}
 use Rattle.runs.specs.Check.{checkOf}
 use Rattle.runs.proofs.Accepted.{accepted-legal}
-use Rattle.runs.proofs.Writing.{listed-refused, listed-written}
-use Rattle.runs.proofs.check_or_invert.Statement.{statement}
-use Rattle.runs.proofs.check_or_invert.Tie as tie
+use Rattle.lists.proofs.Writing.{listed-refused, listed-written}
+use Rattle.lists.proofs.check_or_invert.Statement.{statement}
+use Rattle.lists.proofs.check_or_invert.Tie as tie
 
 -- the check, and the list that it is of
 abbrev checking : tie.After-slice-known6 → tie.After-check-order

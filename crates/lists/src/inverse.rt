@@ -3,10 +3,11 @@ use outcomes::Checked;
 use outcomes::Refusal;
 ghost use Prim.Native.Nat.{_≤_};
 ghost use lib.ListN.{length};
 ghost use Rattle.runs.specs.Runs.{runs};
 ghost use Rattle.runs.specs.Check.{maxRuns};
-ghost use Rattle.runs.specs.Inverse.{WritesList};
-ghost use Rattle.runs.specs.Parts.{Ordered, writtenOf};
+ghost use Rattle.runs.specs.Parts.{Ordered};
+ghost use Rattle.lists.specs.Inverse.{WritesList};
+ghost use Rattle.lists.specs.Parts.{writtenOf};
 
 // Test 8, and the inverse list where the tables have room.
 pub(crate) fn write(

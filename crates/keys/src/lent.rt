@@ -19,7 +19,7 @@ fn invert_into(
     to_starts: &mut [u32],
     to_images: &mut [u32],
 ) {
-    let answer = runs::inverse_list(n, starts, images, to_starts, to_images);
+    let answer = lists::inverse_list(n, starts, images, to_starts, to_images);
     print_inverse(answer, to_starts, to_images);
 }
 

@@ -1,8 +1,8 @@
 -- `check` meets its contract: each pair of tables has an entry for each run, and what has room for more runs is told to check.
 use mathlib.Core.Path.{refl}
 use borrow.Author.Needs.{needs}
-use Rattle.runs.proofs.check.Statement.{statement}
-use Rattle.runs.proofs.check.Tie as tie
+use Rattle.lists.proofs.check.Statement.{statement}
+use Rattle.lists.proofs.check.Tie as tie
 
 slice-aggregate-check-order : tie.Need-slice-aggregate-check-order
 slice-aggregate-check-order c = search needs

@@ -1,9 +1,9 @@
 -- `write` meets its contract: one law for each way to return, and the order by image serves both calls of `gather`.
 use native.Mathlib.Omega.{arith}
 use borrow.Author.Needs.{needs}
-use Rattle.runs.proofs.Writing.{ordered-gathers, starts-short, images-short, written}
-use Rattle.runs.proofs.inverse.write.Statement.{statement}
-use Rattle.runs.proofs.inverse.write.Tie as tie
+use Rattle.lists.proofs.Writing.{ordered-gathers, starts-short, images-short, written}
+use Rattle.lists.proofs.inverse.write.Statement.{statement}
+use Rattle.lists.proofs.inverse.write.Tie as tie
 
 cast-t9 : tie.Need-cast-t9
 cast-t9 c = search needs

@@ -10,16 +10,17 @@ use Rattle.sorting.specs.Parts.{Gathers}
 use Rattle.order.proofs.Laws.{order-length}
 use Rattle.outcomes.specs.Outcome.{done, refused, shortTest, judge, andThen, mapDone, filled}
 use Rattle.outcomes.specs.Refusal.{refusalSays}
 use Rattle.runs.specs.Runs.{Runs, countOf, startOf, imageOf}
 use Rattle.runs.specs.Check.{checkTests, checkOf}
-use Rattle.runs.specs.Inverse.{inverseRuns, inverseListOf, WritesList, InverseListed}
-use Rattle.runs.specs.Parts.{Ordered, writtenOf}
+use Rattle.lists.specs.Inverse.{inverseRuns, inverseListOf, WritesList, InverseListed}
+use Rattle.runs.specs.Parts.{Ordered}
+use Rattle.lists.specs.Parts.{writtenOf}
 use Rattle.outcomes.specs.declared.Refusal.{Refusal}
 use Rattle.outcomes.specs.declared.Refusal.the-variants.{ShortTable}
 use Rattle.outcomes.specs.declared.Checked.{Checked}
 use Rattle.outcomes.specs.declared.Checked.the-variants.{Accepted, Refused}
 use Rattle.outcomes.proofs.Judging.{judge-append}
 use Rattle.runs.proofs.Ranking.{ordered-room, entry-below}
 
 -- the order by image serves to gather as many numbers as there are runs
 pub ordered-gathers : (r : Runs) (order : List ℕ) → Ordered r order → (from to : List ℕ) → length from ≡ countOf r

@@ -1,0 +1,3 @@
+-- The inverse list, and what the parts of the operations promise.
+pub mod Inverse
+pub mod Parts
