@@ -5,8 +5,7 @@ use mathlib.Core.Path.{_≡_, refl, sym}
 use mathlib.Core.Bool.{Bool, true, false}
 use mathlib.Core.List.{List, [], _∷_, _++_, map}
 use native.Mathlib.Omega.{arith}
-use lib.ListN.{length, take, drop}
-use lib.Seq.{take-append-seam}
+use lib.ListN.{length}
 use lib.Dec.{ltb}
 use borrow.Author.Tests.{le-ltb, ltb-false}
 use Rattle.order.specs.Lists.{All}
@@ -62,16 +61,11 @@ unfolding mapDone andThen
 map-then f (done a) g = refl
 map-then f (refused k p) g = refl
 
--- a refusal leaves a lent table, and what is written to its head stands there
+-- a refusal leaves a lent table
 pub filled-refused : {A : Type 0} (l : A → List ℕ) (o : Outcome A) (k p : ℕ) (table : List ℕ) → o ≡ refused k p
     → filled l o table ≡ table
 unfolding filled
 filled-refused l o k p table e = rw e
-
-pub filled-head : {A : Type 0} (l : A → List ℕ) (a : A) (o : Outcome A) (k : ℕ) (table : List ℕ) → o ≡ done a → length (l a) ≡ k
-    → take k (filled l o table) ≡ l a
-unfolding filled
-filled-head l a o k table e h = rw (e, ← h) (take-append-seam (l a) (drop (length (l a)) table))
 
 -- lengths that pass test 8, and back; those of tables for less
 pub none-below : (k : ℕ) (cs : List ℕ) → anyBelow k cs ≡ false → All (λ c. k ≤ c) cs
