@@ -3,13 +3,14 @@ use Prim.Native.Nat.{ℕ, zero, suc, _≤_}
 use mathlib.Core.Path.{_≡_, refl, ap, _∙_}
 use mathlib.Core.List.{List, [], _∷_}
 use native.Mathlib.Omega.{arith}
-use lib.ListN.{length, take, length-map}
-use Rattle.outcomes.specs.Outcome.{done, mapDone}
-use Rattle.outcomes.proofs.Judging.{filled-head}
+use lib.ListN.{length, take, drop, length-map}
+use lib.Seq.{take-at}
+use Rattle.outcomes.specs.Outcome.{Outcome, done, refused, mapDone, over, Long}
 use Rattle.runs.specs.Runs.{Runs, countOf, runAt}
-use Rattle.tables.specs.Tables.{Tables, tables, tablesOf, sizeOf}
+use Rattle.tables.specs.Tables.{Tables, tables, tablesOf, sizeOf, allColumns, eachColumn, eachPair}
+use Rattle.tables.specs.Parts.{Columns}
 use Rattle.cuts.specs.Balance.{balanced}
-use Rattle.balance.specs.Lent.{Lent, firstOf, balancedSays, balanceOf, Balances}
+use Rattle.balance.specs.Lent.{Lent, firstOf, balancedSays, balanceOf, filledTables, Balances}
 use Rattle.balance.specs.declared.Balanced.{Balanced}
 
 -- a head of full length is within its list
@@ -17,6 +18,30 @@ take-full : (k : ℕ) (l : List ℕ) → length (take k l) ≡ k → k ≤ lengt
 take-full zero l e = omega arith
 take-full (suc k) [] e = omega arith
 take-full (suc k) (x ∷ l) e = omega (arith, take-full k l (omega arith))
+
+-- what is written over a table is its head
+over-head : (k : ℕ) (l table : List ℕ) → length l ≡ k → take k (over l table) ≡ l
+over-head k l table = take-at l (drop (length l) table) k
+
+-- tables t whose columns are full: written over others they are the head of these, and what has them as its head has room
+module _ (t : Tables) (full : Columns t) (other : Tables) where
+  over-first : eachColumn (take (sizeOf t)) (eachPair over t other) ≡ t
+  over-first = λ j. tables
+      (over-head (sizeOf t) (t .list .starts) (other .list .starts) refl j)
+      (over-head (sizeOf t) (t .list .images) (other .list .images) (full .imaged) j)
+      (over-head (sizeOf t) (t .holders) (other .holders) (full .held) j)
+
+  first-long : eachColumn (take (sizeOf t)) other ≡ t → Long (sizeOf t) (allColumns other)
+  first-long e =
+      let s = take-full (sizeOf t) (other .list .starts) (ap (λ (u : Tables). length (u .list .starts)) e) in
+      let i = take-full (sizeOf t) (other .list .images) (ap (λ (u : Tables). length (u .list .images)) e ∙ full .imaged) in
+      let h = take-full (sizeOf t) (other .holders) (ap (λ (u : Tables). length (u .holders)) e ∙ full .held) in
+      (s, (i, (h, tt)))
+
+-- a refusal leaves the lent tables
+pub tables-kept : (o : Outcome Tables) (k p : ℕ) (entry : Tables) → o ≡ refused k p → filledTables o entry ≡ entry
+unfolding filledTables
+tables-kept o k p entry e = rw e
 
 -- the head of the lent tables after balancing
 module _ (n : ℕ) (r : Runs) (d : ℕ) (entry exit : Lent) (answer : Balanced) (b : Balances n r d entry exit answer)
@@ -26,19 +51,16 @@ module _ (n : ℕ) (r : Runs) (d : ℕ) (entry exit : Lent) (answer : Balanced) 
   unfolding mapDone
   answer-is = b .says ∙ rw e
 
+  full : Columns (tablesOf n (balanced d n r))
+  full = record {
+    imaged = paired;
+    held = length-map (balanced d n r .images) (runAt n (balanced d n r)) ∙ paired;
+  }
+
   pub head-is : firstOf (countOf (balanced d n r)) exit ≡ tablesOf n (balanced d n r)
-  head-is =
-      let τ = tablesOf n (balanced d n r) in
-      let s = ap (take (countOf (balanced d n r))) (b .starts) ∙ filled-head (λ u. u .list .starts) τ _ _ (entry .starts) e refl in
-      let i = ap (take (countOf (balanced d n r))) (b .images) ∙ filled-head (λ u. u .list .images) τ _ _ (entry .images) e paired in
-      let h = ap (take (countOf (balanced d n r))) (b .holders) ∙ filled-head (λ u. u .holders) τ _ _ (entry .holders) e (length-map (balanced d n r .images) (runAt n (balanced d n r)) ∙ paired) in
-      λ j. tables (s j) (i j) (h j)
+  unfolding filledTables
+  head-is = rw (b .written, e) (over-first (tablesOf n (balanced d n r)) full (entry .tables))
 
   -- so the lent tables have room for it
-  pub head-room : (countOf (balanced d n r) ≤ length (exit .starts)) × (countOf (balanced d n r) ≤ length (exit .images)) × (countOf (balanced d n r) ≤ length (exit .holders))
-  head-room =
-      let k = countOf (balanced d n r) in (
-        take-full k (exit .starts) (ap (λ (τ : Tables). length (τ .list .starts)) head-is),
-        take-full k (exit .images) (ap (λ (τ : Tables). length (τ .list .images)) head-is ∙ paired),
-        take-full k (exit .holders) (ap (λ (τ : Tables). length (τ .holders)) head-is ∙ length-map (balanced d n r .images) (runAt n (balanced d n r)) ∙ paired),
-      )
+  pub head-room : Long (countOf (balanced d n r)) (allColumns (exit .tables))
+  head-room = first-long (tablesOf n (balanced d n r)) full (exit .tables) head-is

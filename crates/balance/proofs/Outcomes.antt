@@ -2,32 +2,37 @@
 use Prim.Native.Nat.{ℕ, _+_, _-_, _≤_}
 use mathlib.Core.Path.{_≡_, refl, sym, ap, _∙_, subst}
 use mathlib.Core.Bool.{Bool, true, false}
-use mathlib.Core.List.{List, [], _∷_, _++_}
+use mathlib.Core.List.{List, [], _∷_, _++_, map}
 use native.Mathlib.Omega.{arith}
 use lib.ListN.{length, take, drop, replicate, length-replicate}
 use lib.Seq.{drop-drop}
 use lib.Dec.{ltb}
 use borrow.Author.Tests.{le-ltb, ltb-false}
-use Rattle.order.proofs.Laws.{or-false}
-use Rattle.outcomes.specs.Outcome.{Outcome, done, refused, Test, test, judge, andThen, mapDone, filled, over}
+use Rattle.order.specs.Lists.{All}
+use Rattle.order.proofs.Laws.{or-false, all-split}
+use Rattle.outcomes.specs.Outcome.{Outcome, done, refused, test, Long, judge, andThen, mapDone, filled, over}
 use Rattle.outcomes.specs.Refusal.{refusalSays}
 use Rattle.outcomes.specs.declared.Refusal.{Refusal}
-use Rattle.outcomes.proofs.Judging.{judge-append}
+use Rattle.outcomes.proofs.Judging.{judge-append, none-below, below-none, long-less}
 use Rattle.runs.specs.Runs.{Runs, countOf}
 use Rattle.runs.specs.Check.{maxRuns, checkTests, checkOf}
 use Rattle.runs.specs.Legal.{Legal}
 use Rattle.runs.specs.Parts.{HoldsRuns, Ordered}
 use Rattle.runs.proofs.Accepted.{accepted-legal}
-use Rattle.tables.specs.Tables.{Tables, tablesOf}
+use Rattle.tables.specs.Tables.{Tables, tablesOf, allColumns}
 use Rattle.cuts.specs.Balance.{balanced}
 use Rattle.cuts.specs.Merged.{withCuts, Cuttable, BalancingCuts}
 use Rattle.cuts.proofs.Balancing.{balanced-count, balanced-legal, cuts-bound}
-use Rattle.balance.specs.Lent.{Lent, lent, Room, noDegree, degreeTest, tableSize, workingSize, tooShort, balanceOf, Balances}
-use Rattle.balance.specs.Plan.{sizesOf, shortSizes, sizedOf, plannedOf}
+use Rattle.balance.specs.Lent.{Lent, lentColumns, Room, noDegree, degreeTest, tableSize, workingSize, balanceOf, filledTables, Balances}
+use Rattle.balance.specs.Plan.{sizesOf, allSizes, shortSizes, sizedOf, plannedOf}
 use Rattle.balance.specs.Parts.{TablesWritten, Fillable, Filled}
 use Rattle.balance.specs.declared.Balanced.the-variants.{Intervals, Refused}
 use Rattle.balance.specs.declared.Sizes.{Sizes}
 use Rattle.balance.proofs.Writing.{legal-count}
+
+-- the lent tables with another working table
+abbrev with-working : Lent → List ℕ → Lent
+with-working l w = record { tables = l .tables; working = w }
 
 -- a degree that passes test 7
 pub degree-in : (d : ℕ) → noDegree d ≡ false → (2 ≤ d) × (d ≤ 64)
@@ -36,26 +41,27 @@ degree-in d e = let i = or-false (ltb d 2) (ltb 64 d) e in (ltb-false d 2 (i .0)
 pub degree-passes : (d : ℕ) → 2 ≤ d → d ≤ 64 → noDegree d ≡ false
 degree-passes d low high = rw (le-ltb d 2 low, le-ltb 64 d high)
 
--- tables that pass test 8
-sizes-in : (b : ℕ) (s : Sizes) → shortSizes b s ≡ false
-    → (b ≤ s .starts) × (b ≤ s .images) × (b ≤ s .holders) × (b ≤ s .working)
-sizes-in b s e =
-    let i = or-false (ltb (s .starts) b) _ e in
-    let j = or-false (ltb (s .images) b) _ (i .1) in
-    let k = or-false (ltb (s .holders) b) _ (j .1) in
-    (ltb-false _ b (i .0), ltb-false _ b (j .0), ltb-false _ b (k .0), ltb-false _ b (k .1))
+-- the working table among sizes that pass test 8
+working-in : (b : ℕ) (s : Sizes) → shortSizes b s ≡ false → b ≤ s .working
+working-in b s e = none-below b (allSizes s) e .1 .1 .1 .0
 
-room-in : (b : ℕ) (l : Lent) → shortSizes b (sizesOf l) ≡ false → Room b l
-room-in b l e = let i = sizes-in b (sizesOf l) e in
-    record { starts = i .0; images = i .1; holders = i .2; working = i .3 }
+-- Room for b entries: what is lent passes test 8, and back. The three tables have it, it is room for fewer, and it stays
+-- with another working table of that length.
+module _ (b : ℕ) (l : Lent) where
+  room-in : shortSizes b (sizesOf l) ≡ false → Room b l
+  room-in = none-below b (allSizes (sizesOf l))
 
-pub room-passes : (b : ℕ) (l : Lent) → Room b l → shortSizes b (sizesOf l) ≡ false
-room-passes b l m = rw (
-  le-ltb (length (l .starts)) b (m .starts),
-  le-ltb (length (l .images)) b (m .images),
-  le-ltb (length (l .holders)) b (m .holders),
-  le-ltb (length (l .working)) b (m .working),
-)
+  pub room-passes : Room b l → shortSizes b (sizesOf l) ≡ false
+  room-passes = below-none b (allSizes (sizesOf l))
+
+  pub room-tables : Room b l → Long b (allColumns (l .tables))
+  room-tables m = all-split (λ c. b ≤ c) (map length (allColumns (l .tables))) (length (l .working) ∷ []) m .0
+
+  pub room-less : (a : ℕ) → a ≤ b → Room b l → Room a l
+  room-less a = long-less a b (lentColumns l)
+
+  room-swept : (swept : List ℕ) → length swept ≡ length (l .working) → Room b l → Room b (with-working l swept)
+  room-swept swept e = subst (λ (k : ℕ). All (λ c. b ≤ c) (map length (allColumns (l .tables)) ++ (k ∷ []))) (sym e)
 
 -- tests 7 and 8
 module _ (d k : ℕ) (s : Sizes) where
@@ -102,7 +108,7 @@ module _ (n : ℕ) (r : Runs) (d : ℕ) (s : Sizes) where
 module _ (n : ℕ) (r : Runs) (d : ℕ) (l : Lent) where
   -- the tests of what is lent are those of its lengths
   pub balance-planned : balanceOf n r d l ≡ mapDone (λ _. tablesOf n (balanced d n r)) (plannedOf n r d (sizesOf l))
-  unfolding balanceOf plannedOf sizedOf tooShort judge mapDone andThen
+  unfolding balanceOf plannedOf sizedOf judge mapDone andThen
   balance-planned =
       judge-append {A = Unit {0}} (checkTests n r) (degreeTest d ∷ test 8 (shortSizes b (sizesOf l)) b ∷ []) tt t
       ∙ go (checkOf n r)
@@ -159,7 +165,7 @@ module _ (n : ℕ) (r : Runs) (d : ℕ) (s : Sizes) (p : plannedOf n r d s ≡ d
         high = t .1;
         in-working = omega (
           arith,
-          sizes-in (tableSize d (countOf r)) s (t .2) .3,
+          working-in (tableSize d (countOf r)) s (t .2),
           cuts-bound d (countOf r) 0 (t .0) (omega arith),
         );
       }
@@ -167,16 +173,16 @@ module _ (n : ℕ) (r : Runs) (d : ℕ) (s : Sizes) (p : plannedOf n r d s ≡ d
 -- what `balance` leaves after a refusal
 module _ (n : ℕ) (r : Runs) (d : ℕ) (l : Lent) where
   pub plan-refused : (x : Refusal) (working : List ℕ) → plannedOf n r d (sizesOf l) ≡ refusalSays x → working ≡ l .working
-      → Balances n r d l (lent (l .starts) (l .images) (l .holders) working) (Refused x)
-  unfolding mapDone filled
+      → Balances n r d l (with-working l working) (Refused x)
+  unfolding mapDone filled filledTables
   plan-refused x working p w =
       let e : balanceOf n r d l ≡ refusalSays x = balance-planned n r d l ∙ rw p in
-      record { says = rw e; starts = rw e; images = rw e; holders = rw e; working = rw e w }
+      record { says = rw e; written = rw e; working = rw e w }
 
 -- and with c cuts in the working table
 module _ (n : ℕ) (r : Runs) (d : ℕ) (l : Lent) (p : plannedOf n r d (sizesOf l) ≡ done tt) (swept : List ℕ) (c : ℕ)
     (g : BalancingCuts d n r (l .working) swept c) where
-  pub plan-fillable : length swept ≡ length (l .working) → Fillable n r d c (lent (l .starts) (l .images) (l .holders) swept)
+  pub plan-fillable : length swept ≡ length (l .working) → Fillable n r d c (with-working l swept)
   plan-fillable e =
       let t = planned-sizes n r d (sizesOf l) p in
       let m = room-in (tableSize d (countOf r)) l (t .2) in
@@ -187,12 +193,7 @@ module _ (n : ℕ) (r : Runs) (d : ℕ) (l : Lent) (p : plannedOf n r d (sizesOf
         low = t .0;
         high = t .1;
         cuts = record { list-is = g .list-is; starts = g .starts; counted = g .counted; fits = g .fits; rest = refl };
-        room = record {
-          starts = m .starts;
-          images = m .images;
-          holders = m .holders;
-          working = omega (arith, m .working);
-        };
+        room = room-swept (tableSize d (countOf r)) l swept e m;
       }
 
   -- the cuts are cleared with the rest
@@ -210,16 +211,14 @@ module _ (n : ℕ) (r : Runs) (d : ℕ) (l : Lent) (p : plannedOf n r d (sizesOf
       ∙ drop-drop (b - c) c (l .working) ∙ ap (λ (k : ℕ). drop k (l .working)) (sym e))
 
   pub plan-filled : (l′ : Lent) (k : ℕ)
-      → Filled (tablesOf n (balanced d n r)) (workingSize d (countOf r)) (lent (l .starts) (l .images) (l .holders) swept) l′ k
+      → Filled (tablesOf n (balanced d n r)) (workingSize d (countOf r)) (with-working l swept) l′ k
       → Balances n r d l l′ (Intervals k)
-  unfolding mapDone filled
+  unfolding mapDone filled filledTables
   plan-filled l′ k f =
       let o : balanceOf n r d l ≡ done (tablesOf n (balanced d n r)) = balance-planned n r d l ∙ rw p in
       record {
         says = rw o (ap done (f .counted));
-        starts = rw o (f .written .starts-at-exit);
-        images = rw o (f .written .images-at-exit);
-        holders = rw o (f .written .holders-at-exit);
+        written = rw o (f .written);
         working = rw o (f .cleared ∙ cleared-rest);
       }
 
@@ -233,13 +232,11 @@ module _ (n : ℕ) (r : Runs) (d c : ℕ) (l : Lent) (f : Fillable n r d c l) wh
   cuts-few = omega (arith, f .cuts .counted, balanced-count d n (f .low) r (f .legal))
 
   pub filled-tables : (l′ : Lent) (b : ℕ)
-      → TablesWritten (tablesOf n (withCuts n r (take c (l .working)))) (l .starts) (l .images) (l .holders) (l′ .starts)
-      (l′ .images) (l′ .holders)
+      → TablesWritten (tablesOf n (withCuts n r (take c (l .working)))) (l .tables) (l′ .tables)
       → l′ .working ≡ over (replicate b 0) (l .working) → b ≡ workingSize d (countOf r)
       → Filled (tablesOf n (balanced d n r)) (workingSize d (countOf r)) l l′ (countOf r + c)
   filled-tables l′ b w k e = record {
     counted = omega (arith, f .cuts .counted);
-    written = subst (λ (q : Runs). TablesWritten (tablesOf n q) (l .starts) (l .images) (l .holders) (l′ .starts)
-        (l′ .images) (l′ .holders)) (f .cuts .list-is) w;
+    written = subst (λ (q : Runs). TablesWritten (tablesOf n q) (l .tables) (l′ .tables)) (f .cuts .list-is) w;
     cleared = k ∙ ap (λ (m : ℕ). over (replicate m 0) (l .working)) e;
   }

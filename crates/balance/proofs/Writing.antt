@@ -12,7 +12,7 @@ use Rattle.runs.specs.Legal.{Legal}
 use Rattle.runs.specs.Runs.{Runs, runs, countOf, startOf, imageOf, endOf, runAt, mapOf}
 use Rattle.runs.proofs.Legality.{homes, home, run-at, image-below}
 use lib.Seq.{take-at}
-use Rattle.tables.specs.Tables.{tablesOf}
+use Rattle.tables.specs.Tables.{tables, tablesOf}
 use Rattle.runs.proofs.Walks.{run-below}
 use Rattle.cuts.specs.Merged.{merged, withCuts, Starts}
 use Rattle.cuts.specs.Marks.{At}
@@ -117,9 +117,7 @@ module _ (n : ℕ) (r : Runs) (cuts starts images starts′ images′ : List ℕ
 
   pub tables-written : (k : ℕ) (holders holders′ : List ℕ) → k ≡ countOf r + length cuts
       → holders′ ≡ over (map (runAt n (runs (take k starts′) (take k images′))) (take k images′)) holders
-      → TablesWritten (tablesOf n (withCuts n r cuts)) starts images holders starts′ images′ holders′
-  tables-written k holders holders′ e f = record {
-    starts-at-exit = w .starts-at-exit;
-    images-at-exit = w .images-at-exit;
-    holders-at-exit = f ∙ ap (λ (q : Runs). over (map (runAt n q) (q .images)) holders) (list-taken k e);
-  }
+      → TablesWritten (tablesOf n (withCuts n r cuts)) (tables starts images holders) (tables starts′ images′ holders′)
+  tables-written k holders holders′ e f =
+      let h = f ∙ ap (λ (q : Runs). over (map (runAt n q) (q .images)) holders) (list-taken k e) in
+      λ j. tables (w .starts-at-exit j) (w .images-at-exit j) (h j)

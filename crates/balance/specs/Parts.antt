@@ -7,7 +7,7 @@ use Rattle.outcomes.specs.Outcome.{over}
 use Rattle.runs.specs.Check.{maxRuns}
 use Rattle.runs.specs.Legal.{Legal}
 use Rattle.runs.specs.Runs.{Runs, countOf}
-use Rattle.tables.specs.Tables.{Tables, sizeOf}
+use Rattle.tables.specs.Tables.{Tables, sizeOf, eachPair}
 use Rattle.cuts.specs.Merged.{withCuts, BalancingCuts}
 use Rattle.balance.specs.Lent.{Lent, Room, tableSize}
 
@@ -22,11 +22,9 @@ pub record ListWritten (n : ℕ) (r : Runs) (cuts starts images starts′ images
   pub starts-at-exit : starts′ ≡ over (withCuts n r cuts .starts) starts
   pub images-at-exit : images′ ≡ over (withCuts n r cuts .images) images
 
--- the tables t stand in three lent ones
-pub record TablesWritten (t : Tables) (starts images holders starts′ images′ holders′ : List ℕ) : Type 0 where
-  pub starts-at-exit : starts′ ≡ over (t .list .starts) starts
-  pub images-at-exit : images′ ≡ over (t .list .images) images
-  pub holders-at-exit : holders′ ≡ over (t .holders) holders
+-- the tables t stand in lent ones
+abbrev pub TablesWritten : Tables → Tables → Tables → Type 0
+TablesWritten t entry exit = exit ≡ eachPair over t entry
 
 -- c cuts that balance a list stand in the working table, and the tables have room for it
 pub record Fillable (n : ℕ) (r : Runs) (d c : ℕ) (l : Lent) : Type 0 where
@@ -40,6 +38,5 @@ pub record Fillable (n : ℕ) (r : Runs) (d c : ℕ) (l : Lent) : Type 0 where
 -- the tables t stand in the lent ones, and b entries of the working table are cleared
 pub record Filled (t : Tables) (b : ℕ) (entry exit : Lent) (k : ℕ) : Type 0 where
   pub counted : k ≡ sizeOf t
-  pub written : TablesWritten t (entry .starts) (entry .images) (entry .holders) (exit .starts) (exit .images)
-      (exit .holders)
+  pub written : TablesWritten t (entry .tables) (exit .tables)
   pub cleared : exit .working ≡ over (replicate b 0) (entry .working)

@@ -1,11 +1,10 @@
 -- Balancing before anything is written to the tables: its tests, told by the lengths of what is lent, and the cuts.
-use Prim.Native.Nat.{ℕ, _≤_}
+use Prim.Native.Nat.{ℕ}
 use mathlib.Core.Path.{_≡_}
-use mathlib.Core.Bool.{Bool, _||_}
+use mathlib.Core.Bool.{Bool}
 use mathlib.Core.List.{List, [], _∷_}
 use lib.ListN.{length}
-use lib.Dec.{ltb}
-use Rattle.outcomes.specs.Outcome.{Outcome, done, Test, test, judge, andThen}
+use Rattle.outcomes.specs.Outcome.{Outcome, done, test, anyBelow, judge, andThen}
 use Rattle.outcomes.specs.Refusal.{refusalSays, checkedSays}
 use Rattle.outcomes.specs.declared.Checked.{Checked}
 use Rattle.runs.specs.Check.{maxRuns, checkOf}
@@ -17,18 +16,21 @@ use Rattle.balance.specs.declared.Planned.{Planned}
 use Rattle.balance.specs.declared.Planned.the-variants.{Cuts, Refused}
 use Rattle.balance.specs.declared.Sizes.{Sizes}
 
--- the lengths of what is lent
+-- the lengths of what is lent, by the names that the code has for them, and as a list
 abbrev pub sizesOf : Lent → Sizes
 sizesOf l = record {
-  starts = length (l .starts);
-  images = length (l .images);
-  holders = length (l .holders);
+  starts = length (l .tables .list .starts);
+  images = length (l .tables .list .images);
+  holders = length (l .tables .holders);
   working = length (l .working);
 }
 
+abbrev pub allSizes : Sizes → List ℕ
+allSizes s = s .starts ∷ s .images ∷ s .holders ∷ s .working ∷ []
+
 -- 8: one of them is below b
 abbrev pub shortSizes : ℕ → Sizes → Bool
-shortSizes b s = ltb (s .starts) b || (ltb (s .images) b || (ltb (s .holders) b || ltb (s .working) b))
+shortSizes b s = anyBelow b (allSizes s)
 
 -- tests 7 and 8 of a list of k runs
 unfoldable pub sizedOf : ℕ → ℕ → Sizes → Outcome (Unit {0})

@@ -7,10 +7,10 @@ ghost use Prim.Native.Nat.{_+_, _≤_};
 ghost use lib.ListN.{length, replicate};
 ghost use Rattle.runs.specs.Legal.{Legal};
 ghost use Rattle.runs.specs.Runs.{runs, runAt, mapOf};
-ghost use Rattle.tables.specs.Tables.{tablesOf};
+ghost use Rattle.tables.specs.Tables.{tables, tablesOf, allColumns};
 ghost use Rattle.cuts.specs.Merged.{withCuts, Starts};
 ghost use Rattle.balance.specs.Parts.{Has, ListWritten, TablesWritten};
-ghost use Rattle.outcomes.specs.Outcome.{over};
+ghost use Rattle.outcomes.specs.Outcome.{Long, over};
 
 // The image of `p`, which run `x` has.
 fn image_of(n: u32, starts: &[u32], images: &[u32], x: usize, p: u32) -> u32
@@ -71,13 +71,12 @@ pub(crate) fn write_tables(
     to_holders: &mut [u32],
 )
     requires { ⌜ Legal n (runs (now starts) (now images)) × Starts n (now starts) (now cuts)
-        × (length (now starts) + length (now cuts) ≤ length (now «to_starts»))
-        × (length (now starts) + length (now cuts) ≤ length (now «to_images»))
-        × (length (now starts) + length (now cuts) ≤ length (now «to_holders»)) ⌝ }
+        × Long (length (now starts) + length (now cuts))
+        (allColumns (tables (now «to_starts») (now «to_images») (now «to_holders»))) ⌝ }
     ensures { λ _. ⌜ TablesWritten
         (tablesOf n (withCuts n (runs (now (starts .entry)) (now (images .entry))) (now (cuts .entry))))
-        (now («to_starts» .entry)) (now («to_images» .entry)) (now («to_holders» .entry))
-        (now («to_starts» .exit)) (now («to_images» .exit)) (now («to_holders» .exit)) ⌝ }
+        (tables (now («to_starts» .entry)) (now («to_images» .entry)) (now («to_holders» .entry)))
+        (tables (now («to_starts» .exit)) (now («to_images» .exit)) (now («to_holders» .exit))) ⌝ }
 {
     write_list(n, starts, images, cuts, to_starts, to_images);
     let k = starts.len() + cuts.len();

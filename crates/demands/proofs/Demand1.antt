@@ -1,5 +1,5 @@
 -- Demand 1. The order of conditions of each operation is read off its definition; what `judge` gives is proved once for
--- all of them; and a refusal leaves what was lent, since `filled` and `markAfter` do.
+-- all of them; and a refusal leaves what was lent, since `filled`, `filledTables` and `markAfter` do.
 use Prim.Native.Nat.{ℕ, zero, suc, suc-le-suc}
 use mathlib.Core.Path.{_≡_, refl, sym, _∙_}
 use mathlib.Core.Bool.{Bool, true, false}
@@ -24,6 +24,7 @@ use Rattle.bookmarks.specs.Bookmark.{bookmarkOf}
 use Rattle.bookmarks.proofs.Marks.{bookmark-kept}
 use Rattle.balance.specs.Lent.{Lent, balancedSays, balanceOf, Balances}
 use Rattle.balance.specs.declared.Balanced.{Balanced}
+use Rattle.balance.proofs.Heads.{tables-kept}
 use Rattle.files.specs.File.{countTests, layoutTests, headerTests, bodyTests, fileTests, fileOf}
 use Rattle.demands.specs.Judged.{NoneOf, RefusedBy, Judged}
 use Rattle.demands.specs.Demands.{Demand1}
@@ -80,11 +81,9 @@ balance-kept : (n : ℕ) (r : Runs) (d : ℕ) (entry exit : Lent) (o : Balanced)
     → (k p : ℕ) → balancedSays o ≡ refused k p → exit ≡ entry
 balance-kept n r d entry exit o c k p e =
     let q = map-refused sizeOf (balanceOf n r d entry) k p (sym (c .says) ∙ e) in
-    let s = c .starts ∙ filled-refused _ _ k p (entry .starts) q in
-    let i = c .images ∙ filled-refused _ _ k p (entry .images) q in
-    let h = c .holders ∙ filled-refused _ _ k p (entry .holders) q in
+    let t = c .written ∙ tables-kept _ k p (entry .tables) q in
     let w = c .working ∙ filled-refused _ _ k p (entry .working) q in
-    λ j. record { starts = s j; images = i j; holders = h j; working = w j }
+    λ j. record { tables = t j; working = w j }
 
 -- what `judge` gives is judged
 judged : {A : Type 0} (order : List ℕ) (ts : List Test) (a : A) → map (λ t. t .number) ts ≡ order → Judged order ts a (judge ts a)

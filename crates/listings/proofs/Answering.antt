@@ -1,27 +1,22 @@
 -- Balancing a list that is short enough to be listed, in tables with room for twice as many intervals: test 8 does not
 -- apply, and what is answered makes the text.
-use Prim.Native.Nat.{ℕ, zero, suc, _-_, _*_, _≤_, _<_}
+use Prim.Native.Nat.{ℕ, zero, suc, _-_, _*_, _≤_}
 use mathlib.Core.Path.{_≡_, refl, sym, ap, subst, _∙_}
 use mathlib.Core.Bool.{Bool, true, false}
-use mathlib.Core.Logic.{_⊎_, inl, inr}
-use mathlib.Core.List.{List, [], _∷_}
 use native.Mathlib.Omega.{arith}
 use native.Mathlib.Nat.{div-le-of-le-mul}
-use lib.ListN.{length}
-use borrow.Author.Tests.{lt-ltb, le-ltb}
-use Rattle.order.proofs.Laws.{lt-or-le}
-use Rattle.outcomes.specs.Outcome.{Outcome, done, refused, judge, mapDone, andThen, test}
+use Rattle.outcomes.specs.Outcome.{Outcome, done, refused, mapDone, andThen}
 use Rattle.outcomes.specs.Refusal.{numberOf, placeOf}
-use Rattle.runs.specs.Runs.{Runs, runs, countOf}
-use Rattle.runs.specs.Check.{checkTests, checkOf}
+use Rattle.runs.specs.Runs.{Runs, countOf}
+use Rattle.runs.specs.Check.{checkOf}
 use Rattle.outcomes.specs.declared.Refusal.{Refusal}
-use Rattle.outcomes.proofs.Judging.{done-refused, judge-append, map-then}
+use Rattle.outcomes.proofs.Judging.{done-refused, map-then}
 use Rattle.runs.proofs.Accepted.{accepted-legal}
 use Rattle.tables.specs.Tables.{Tables, tablesOf, sizeOf}
 use Rattle.cuts.specs.Balance.{balanced, boundOf}
 use Rattle.balance.specs.Lent.{Lent, Room, noDegree, tableSize, firstOf, balancedSays, balanceOf, Balances}
 use Rattle.balance.specs.Plan.{sizesOf, sizedOf, plannedOf}
-use Rattle.balance.proofs.Outcomes.{degree-in, room-passes, sized-degree, sized-done, balance-planned}
+use Rattle.balance.proofs.Outcomes.{degree-in, room-passes, room-less, sized-degree, sized-done, balance-planned}
 use Rattle.balance.specs.declared.Balanced.{Balanced}
 use Rattle.balance.specs.declared.Balanced.the-variants.{Intervals, Refused}
 use Rattle.cuts.proofs.Balancing.{balanced-legal, balanced-cuts}
@@ -49,12 +44,7 @@ module _ (h : Header) (r : Runs) (few : countOf r ≤ maxListed) (entry : Lent) 
   room : 2 ≤ h .d → Room (tableSize (h .d) (countOf r)) entry
   room a =
       let m = bound-twice (h .d) (countOf r) a in
-      record {
-        starts = omega (arith, s .starts);
-        images = omega (arith, s .images);
-        holders = omega (arith, s .holders);
-        working = omega (arith, s .working);
-      }
+      room-less maxTabled entry (tableSize (h .d) (countOf r)) (omega arith) s
 
   degrees : mapDone (λ u. goal) (sizedOf (h .d) (countOf r) (sizesOf entry)) ≡ mapDone (λ g. goal) (degreeOf h)
   unfolding mapDone
@@ -85,12 +75,12 @@ module _ (h : Header) (r : Runs) (few : countOf r ≤ maxListed) (entry : Lent) 
         go (refused k p) = refl
 
     -- a refusal
-    refused-text : (f : Refusal) → answer ≡ Refused f → listText r (listedOf h r) ≡ answerText h answer (runs (exit .starts) (exit .images))
+    refused-text : (f : Refusal) → answer ≡ Refused f → listText r (listedOf h r) ≡ answerText h answer (exit .tables .list)
     unfolding mapDone listText answerText
     refused-text f q = rw q (go (listedOf h r) (sym (ap balancedSays q) ∙ says))
       where
         go : (o : Outcome Header) → refused (numberOf f) (placeOf f) ≡ mapDone (λ g. sizeOf goal) o
-            → listText r o ≡ answerText h (Refused f) (runs (exit .starts) (exit .images))
+            → listText r o ≡ answerText h (Refused f) (exit .tables .list)
         go (done g) z = absurd (done-refused (sizeOf goal) (numberOf f) (placeOf f) (sym z))
         go (refused k p) z =
             let u : k ≡ numberOf f = cc in
@@ -108,7 +98,7 @@ module _ (h : Header) (r : Runs) (few : countOf r ≤ maxListed) (entry : Lent) 
           go (done g) z w = (z ∙ ap done (listed-done h r g z .0), cc)
           go (refused j p) z w = absurd (done-refused k j p w)
 
-      heads : Tabled (h .n) k (exit .starts) (exit .images) (exit .holders) × (firstOf k exit ≡ goal)
+      heads : Tabled (h .n) k (exit .tables) × (firstOf k exit ≡ goal)
       unfolding mapDone
       heads =
           let parts = listed-done h r h (passed .0) in
@@ -116,33 +106,30 @@ module _ (h : Header) (r : Runs) (few : countOf r ≤ maxListed) (entry : Lent) 
           let legal = balanced-legal (h .d) (h .n) (parts .2) r c in
           let cuts = balanced-cuts (h .d) (h .n) (parts .2) r c in
           let balances : balanceOf (h .n) r (h .d) entry ≡ done goal = balance-listed ∙ ap (mapDone (λ g. goal)) (passed .0) in
-          let rooms = head-room (h .n) r (h .d) entry exit answer b balances (legal .paired) in
           let first : firstOf k exit ≡ goal = rw (passed .1) (head-is (h .n) r (h .d) entry exit answer b balances (legal .paired)) in (
             record {
-              in-starts = rw (passed .1) (rooms .0);
-              in-images = rw (passed .1) (rooms .1);
-              in-holders = rw (passed .1) (rooms .2);
+              long = rw (passed .1) (head-room (h .n) r (h .d) entry exit answer b balances (legal .paired));
               listed = subst (λ (τ : Tables). Listed (h .n) τ) (sym first)
                   (record { legal = legal; held = refl; few = omega (arith, cuts .counted, cuts .fuelled) });
             },
             first,
           )
 
-      table-text : listText r (listedOf h r) ≡ answerText h answer (runs (exit .starts) (exit .images))
+      table-text : listText r (listedOf h r) ≡ answerText h answer (exit .tables .list)
       unfolding listText answerText
       table-text = rw (q, passed .0) (ap (λ (τ : Tables). tableText h (τ .list)) (sym (heads .1)))
 
-    text-is : listText r (listedOf h r) ≡ answerText h answer (runs (exit .starts) (exit .images))
+    text-is : listText r (listedOf h r) ≡ answerText h answer (exit .tables .list)
     text-is = go answer refl
       where
-        go : (a : Balanced) → answer ≡ a → listText r (listedOf h r) ≡ answerText h answer (runs (exit .starts) (exit .images))
+        go : (a : Balanced) → answer ≡ a → listText r (listedOf h r) ≡ answerText h answer (exit .tables .list)
         go (Intervals k) q = table-text k q
         go (Refused f) q = refused-text f q
 
 module _ (h : Header) (r : Runs) (few : countOf r ≤ maxListed) (entry exit : Lent) (answer : Balanced)
     (b : Balances (h .n) r (h .d) entry exit answer) (s : Room maxTabled entry) where
-  pub answered : Answered (h .n) answer (exit .starts) (exit .images) (exit .holders)
+  pub answered : Answered (h .n) answer (exit .tables)
   answered k q = heads h r few entry s exit answer b k q .0
 
-  pub answer-is : listText r (listedOf h r) ≡ answerText h answer (runs (exit .starts) (exit .images))
+  pub answer-is : listText r (listedOf h r) ≡ answerText h answer (exit .tables .list)
   answer-is = text-is h r few entry s exit answer b

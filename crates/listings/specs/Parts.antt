@@ -2,11 +2,12 @@
 use Prim.Native.Nat.{ℕ, _≤_}
 use mathlib.Core.Path.{_≡_}
 use mathlib.Core.List.{List}
-use lib.ListN.{length, take}
+use lib.ListN.{take}
 use Rattle.runs.specs.Runs.{Runs, runs}
 use Rattle.runs.specs.Legal.{Legal}
+use Rattle.outcomes.specs.Outcome.{Long}
 use Rattle.outcomes.specs.Refusal.{numberOf, placeOf}
-use Rattle.tables.specs.Tables.{Tables, tables, tablesOf, sizeOf}
+use Rattle.tables.specs.Tables.{Tables, tablesOf, sizeOf, allColumns, eachColumn}
 use Rattle.balance.specs.declared.Balanced.{Balanced}
 use Rattle.balance.specs.declared.Balanced.the-variants.{Intervals, Refused}
 use Rattle.text.specs.Text.{refusalText}
@@ -39,13 +40,11 @@ unfoldable pub answerText : Header → Balanced → Runs → List ℕ
 answerText h (Intervals k) t = tableText h (runs (take k (t .starts)) (take k (t .images)))
 answerText h (Refused r) t = refusalText (numberOf r) (placeOf r)
 
--- the first k entries of three tables are to be listed
-pub record Tabled (n k : ℕ) (starts images holders : List ℕ) : Type 0 where
-  pub in-starts : k ≤ length starts
-  pub in-images : k ≤ length images
-  pub in-holders : k ≤ length holders
-  pub listed : Listed n (tables (take k starts) (take k images) (take k holders))
+-- the first k entries of tables are to be listed
+pub record Tabled (n k : ℕ) (t : Tables) : Type 0 where
+  pub long : Long k (allColumns t)
+  pub listed : Listed n (eachColumn (take k) t)
 
 -- and these are they, where balancing answered k intervals
-abbrev pub Answered : ℕ → Balanced → List ℕ → List ℕ → List ℕ → Type 0
-Answered n answer starts images holders = (k : ℕ) → answer ≡ Intervals k → Tabled n k starts images holders
+abbrev pub Answered : ℕ → Balanced → Tables → Type 0
+Answered n answer t = (k : ℕ) → answer ≡ Intervals k → Tabled n k t

@@ -16,6 +16,7 @@ ghost use lib.Dec.{ltb};
 ghost use Rattle.outcomes.specs.Outcome.{_then_else_};
 ghost use Rattle.outcomes.specs.Refusal.{numberOf, placeOf};
 ghost use Rattle.runs.specs.Runs.{runs};
+ghost use Rattle.tables.specs.Tables.{tables};
 ghost use Rattle.text.specs.Text.{refusalText};
 ghost use Rattle.text.specs.Page.{Wrote};
 ghost use Rattle.files.specs.Words.{runsOf};
@@ -52,7 +53,7 @@ fn answer_text(
     images: &[u32],
     holders: &[u32],
 ) -> usize
-    requires { ⌜ Answered (h .n) answer (now starts) (now images) (now holders) × (maxText ≤ length (now page)) ⌝ }
+    requires { ⌜ Answered (h .n) answer (tables (now starts) (now images) (now holders)) × (maxText ≤ length (now page)) ⌝ }
     ensures { λ r. ⌜ Wrote (now (page .entry)) 0 (answerText h answer (runs (now (starts .entry)) (now (images .entry)))) (now (page .exit)) r ⌝ }
 {
     match answer {

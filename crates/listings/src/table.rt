@@ -84,7 +84,7 @@ pub(crate) fn table(
     images: &[u32],
     holders: &[u32],
 ) -> usize
-    requires { ⌜ Tabled (h .n) size (now starts) (now images) (now holders) × (maxText ≤ length (now page)) ⌝ }
+    requires { ⌜ Tabled (h .n) size (tables (now starts) (now images) (now holders)) × (maxText ≤ length (now page)) ⌝ }
     ensures { λ r. ⌜ Wrote (now (page .entry)) 0 (tableText h (runs (take size (now (starts .entry))) (take size (now (images .entry))))) (now (page .exit)) r ⌝ }
 {
     let k = size as usize;

@@ -1,13 +1,16 @@
 -- Laws of outcomes. Of `judge`: more tests after the first ones, and what a passed or a refused list of tests says; of a
--- function of a result; and of what is left in a lent table.
-use Prim.Native.Nat.{ℕ}
+-- function of a result; of what is left in a lent table; and of test 8.
+use Prim.Native.Nat.{ℕ, _≤_}
 use mathlib.Core.Path.{_≡_, refl, sym}
 use mathlib.Core.Bool.{Bool, true, false}
-use mathlib.Core.List.{List, [], _∷_, _++_}
+use mathlib.Core.List.{List, [], _∷_, _++_, map}
 use native.Mathlib.Omega.{arith}
-use lib.ListN.{length, take, drop}
-use lib.Seq.{take-append-seam}
-use Rattle.outcomes.specs.Outcome.{Outcome, done, refused, Test, judge, mapDone, andThen, filled, _then_else_}
+use lib.ListN.{length}
+use lib.Dec.{ltb}
+use borrow.Author.Tests.{le-ltb, ltb-false}
+use Rattle.order.specs.Lists.{All}
+use Rattle.order.proofs.Laws.{or-false, all-map}
+use Rattle.outcomes.specs.Outcome.{Outcome, done, refused, Test, judge, mapDone, andThen, anyBelow, Long, filled, _then_else_}
 
 -- what is done is not refused
 pub done-refused : {A : Type 0} (a : A) (k p : ℕ) → done a ≡ refused k p → ⊥
@@ -58,13 +61,21 @@ unfolding mapDone andThen
 map-then f (done a) g = refl
 map-then f (refused k p) g = refl
 
--- a refusal leaves a lent table, and what is written to its head stands there
+-- a refusal leaves a lent table
 pub filled-refused : {A : Type 0} (l : A → List ℕ) (o : Outcome A) (k p : ℕ) (table : List ℕ) → o ≡ refused k p
     → filled l o table ≡ table
 unfolding filled
 filled-refused l o k p table e = rw e
 
-pub filled-head : {A : Type 0} (l : A → List ℕ) (a : A) (o : Outcome A) (k : ℕ) (table : List ℕ) → o ≡ done a → length (l a) ≡ k
-    → take k (filled l o table) ≡ l a
-unfolding filled
-filled-head l a o k table e h = rw (e, ← h) (take-append-seam (l a) (drop (length (l a)) table))
+-- lengths that pass test 8, and back; those of tables for less
+pub none-below : (k : ℕ) (cs : List ℕ) → anyBelow k cs ≡ false → All (λ c. k ≤ c) cs
+none-below k [] e = tt
+none-below k (c ∷ cs) e =
+    let i = or-false (ltb c k) (anyBelow k cs) e in (ltb-false c k (i .0), none-below k cs (i .1))
+
+pub below-none : (k : ℕ) (cs : List ℕ) → All (λ c. k ≤ c) cs → anyBelow k cs ≡ false
+below-none k [] a = refl
+below-none k (c ∷ cs) a = rw (le-ltb c k (a .0)) (below-none k cs (a .1))
+
+pub long-less : (j k : ℕ) (tables : List (List ℕ)) → j ≤ k → Long k tables → Long j tables
+long-less j k tables h = all-map (λ c. k ≤ c) (λ c. j ≤ c) (map length tables) (λ c l. omega arith)

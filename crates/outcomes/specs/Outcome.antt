@@ -1,9 +1,10 @@
 -- What a call comes to, in the paper's numbers (document 01, "Numbers and their conditions").
-use Prim.Native.Nat.{ℕ}
+use Prim.Native.Nat.{ℕ, _≤_}
 use mathlib.Core.Bool.{Bool, true, false, _||_}
-use mathlib.Core.List.{List, [], _∷_, _++_}
+use mathlib.Core.List.{List, [], _∷_, _++_, map}
 use lib.ListN.{length, drop}
 use lib.Dec.{ltb}
+use Rattle.order.specs.Lists.{All}
 
 infixr 3 _then_else_
 abbrev pub _then_else_ : {A : Type 0} → Bool → A → A → A
@@ -24,10 +25,17 @@ pub record Test : Type 0 where
 abbrev pub test : ℕ → Bool → ℕ → Test
 test k b p = record { number = k; applies = b; place = p }
 
--- 8: a lent table has fewer than k entries
+-- one of these lengths is below k
+abbrev pub anyBelow : ℕ → List ℕ → Bool
+anyBelow k [] = false
+anyBelow k (c ∷ cs) = ltb c k || anyBelow k cs
+
+-- 8: a lent table has fewer than k entries; and, where it does not apply, each has at least k
 abbrev pub anyShort : ℕ → List (List ℕ) → Bool
-anyShort k [] = false
-anyShort k (t ∷ ts) = ltb (length t) k || anyShort k ts
+anyShort k tables = anyBelow k (map length tables)
+
+abbrev pub Long : ℕ → List (List ℕ) → Type 0
+Long k tables = All (λ c. k ≤ c) (map length tables)
 
 abbrev pub shortTest : ℕ → List (List ℕ) → Test
 shortTest k tables = test 8 (anyShort k tables) k

@@ -38,6 +38,18 @@ abbrev pub unequal : ℕ → List (List ℕ) → Bool
 unequal k [] = false
 unequal k (l ∷ ls) = not (eqb k (length l)) || unequal k ls
 
+-- All columns, the starts first; each of them by f; and each of one with the same of another. What holds for each column
+-- is said through these, so that no other place names them one by one.
+abbrev pub allColumns : Tables → List (List ℕ)
+allColumns t = t .list .starts ∷ columns t
+
+abbrev pub eachColumn : (List ℕ → List ℕ) → Tables → Tables
+eachColumn f t = tables (f (t .list .starts)) (f (t .list .images)) (f (t .holders))
+
+abbrev pub eachPair : (List ℕ → List ℕ → List ℕ) → Tables → Tables → Tables
+eachPair f t u =
+    tables (f (t .list .starts) (u .list .starts)) (f (t .list .images) (u .list .images)) (f (t .holders) (u .holders))
+
 -- 9: n is 0, or the tables are empty, of unequal count, or have more entries than they may
 unfoldable pub misshapen : ℕ → Tables → Bool
 misshapen n t =

@@ -3,9 +3,11 @@ use borrow.Author.Needs.{needs}
 use mathlib.Core.Path.{sym}
 use native.Mathlib.Omega.{arith}
 use lib.Seq.{length-take-le}
+use Rattle.outcomes.proofs.Judging.{long-less}
 use Rattle.runs.specs.Runs.{Runs, runs}
+use Rattle.tables.specs.Tables.{allColumns}
 use Rattle.balance.specs.Lent.{Lent, lent}
-use Rattle.balance.proofs.Outcomes.{cuts-few, cuts-fit, filled-tables}
+use Rattle.balance.proofs.Outcomes.{room-tables, cuts-few, cuts-fit, filled-tables}
 use Rattle.balance.proofs.fill_tables.Statement.{statement}
 use Rattle.balance.proofs.fill_tables.Tie as tie
 
@@ -45,9 +47,7 @@ write-tables-requires c κs =
     let f = cuts-few _ (list-of a) _ _ (lent-of a) (a .pre) in (
       a .pre .legal,
       a .pre .cuts .starts,
-      omega (arith, a .pre .room .starts),
-      omega (arith, a .pre .room .images),
-      omega (arith, a .pre .room .holders),
+      long-less _ _ (allColumns (lent-of a .tables)) (omega arith) (room-tables _ (lent-of a) (a .pre .room)),
     )
 
 bound-of-requires : tie.Need-bound-of-requires

@@ -37,7 +37,7 @@ answer-text-requires : tie.Need-answer-text-requires
 answer-text-requires c κs =
     let b = c .before .before .before .before .before .before .before .before in (
       answered (start b .args .h) _ (start b .pre .0) _ _ _ (b .balance .ensures)
-          (record { starts = omega arith; images = omega arith; holders = omega arith; working = omega arith }),
+          (omega arith, (omega arith, (omega arith, (omega arith, tt)))),
       start b .pre .1,
     )
 
@@ -50,7 +50,7 @@ returns c =
     let b = f .before .before .before .before .before .before .before .before .before in
     rw
     (answer-is (start b .args .h) _ (start b .pre .0) _ _ _ (b .balance .ensures)
-    (record { starts = omega arith; images = omega arith; holders = omega arith; working = omega arith }))
+    (omega arith, (omega arith, (omega arith, (omega arith, tt)))))
     (f .answer-text .ensures)
 
 pub list-runs-spec : {M : Type 1} → statement M

@@ -30,12 +30,12 @@ listed c = c .before .before .before .before
 starts-taken : (c : tie.After-write-list)
     → length (take (sizeOf (start c)) (c .write-list .last .1 .1 .1 .1 .0)) ≡ sizeOf (start c)
 starts-taken c = length-take-le (sizeOf (start c)) (c .write-list .last .1 .1 .1 .1 .0)
-    (omega (arith, start c .pre .2, c .write-list .kept .1 .1 .1 .1 .0))
+    (omega (arith, start c .pre .2 .0, c .write-list .kept .1 .1 .1 .1 .0))
 
 images-taken : (c : tie.After-write-list)
     → length (take (sizeOf (start c)) (c .write-list .last .1 .1 .1 .1 .1 .0)) ≡ sizeOf (start c)
 images-taken c = length-take-le (sizeOf (start c)) (c .write-list .last .1 .1 .1 .1 .1 .0)
-    (omega (arith, start c .pre .3, c .write-list .kept .1 .1 .1 .1 .1 .0))
+    (omega (arith, start c .pre .2 .1 .0, c .write-list .kept .1 .1 .1 .1 .1 .0))
 
 write-list-requires : tie.Need-write-list-requires
 write-list-requires c κs = search needs
@@ -62,7 +62,7 @@ write-holders-requires c κs =
     let e : runs _ _ ≡ withCuts (a .args .n) (listOf a) (a .args .cuts .now) =
     list-taken _ (listOf a) _ _ _ _ _ (w .write-list .ensures) (sizeOf a) refl in (
       subst (Legal (a .args .n)) (sym e) (with-legal _ (listOf a) _ (a .pre .0) (a .pre .1)),
-      omega (arith, starts-taken w, a .pre .4),
+      omega (arith, starts-taken w, a .pre .2 .1 .1 .0),
     )
 
 same-length : tie.Need-same-length

@@ -1,4 +1,6 @@
 -- `is_short` meets its contract: by cases, in the order of test 8.
+use mathlib.Core.Bool.{or-false}
+use lib.Dec.{ltb}
 use borrow.Author.Tests.{lt-ltb, le-ltb}
 use Rattle.balance.proofs.plan.is_short.Statement.{statement}
 use Rattle.balance.proofs.plan.is_short.Tie as tie
@@ -24,6 +26,7 @@ returns-4 c =
       le-ltb (a .sizes .starts) (a .b) (e .before .before .before .before .if1 .left),
       le-ltb (a .sizes .images) (a .b) (e .before .before .if2 .left),
       le-ltb (a .sizes .holders) (a .b) (e .if3 .left),
+      or-false (ltb (a .sizes .working) (a .b)),
     )
 
 pub is-short-spec : {M : Type 1} → statement M

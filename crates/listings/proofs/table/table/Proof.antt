@@ -5,7 +5,7 @@ use native.Mathlib.Omega.{arith}
 use lib.ListN.{length, take, length-append}
 use lib.Seq.{length-take-le}
 use Rattle.order.specs.Lists.{upTo}
-use Rattle.tables.specs.Tables.{Tables, tables, sizeOf}
+use Rattle.tables.specs.Tables.{Tables, tables, sizeOf, eachColumn}
 use Rattle.text.specs.Text.{texts}
 use Rattle.text.specs.Page.{Wrote}
 use Rattle.text.proofs.Writing.{wrote-both}
@@ -19,10 +19,10 @@ use Rattle.listings.proofs.table.table.Tie as tie
 
 -- the tables that are listed, and how many intervals they have
 abbrev listed : tie.Start → Tables
-listed c = tables (take (c .args .size) (c .args .starts .now)) (take (c .args .size) (c .args .images .now)) (take (c .args .size) (c .args .holders .now))
+listed c = eachColumn (take (c .args .size)) (tables (c .args .starts .now) (c .args .images .now) (c .args .holders .now))
 
 counted : (c : tie.Start) → sizeOf (listed c) ≡ c .args .size
-counted c = length-take-le _ _ (c .pre .0 .in-starts)
+counted c = length-take-le _ _ (c .pre .0 .long .0)
 
 head-most : (c : tie.Start) → length (headText (c .args .h .n) (c .args .h .k) (c .args .h .d) (c .args .size)) ≤ maxHead
 head-most c = head-length (c .args .h .n) (c .args .h .k) (c .args .h .d) (c .args .size) (omega (arith, c)) (omega (arith, c)) (omega (arith, c)) (omega (arith, c))
@@ -44,13 +44,13 @@ head-requires c κs =
     record { room = omega (arith, head-most a, a .pre .1) }
 
 slice-aggregate-rows : tie.Need-slice-aggregate-rows
-slice-aggregate-rows c = sym (length-take-le _ _ (start (c .before .before .before .before) .pre .0 .in-starts))
+slice-aggregate-rows c = sym (length-take-le _ _ (start (c .before .before .before .before) .pre .0 .long .0))
 
 slice-aggregate-rows-2 : tie.Need-slice-aggregate-rows-2
-slice-aggregate-rows-2 c = sym (length-take-le _ _ (start (c .before .before .before .before .before) .pre .0 .in-images))
+slice-aggregate-rows-2 c = sym (length-take-le _ _ (start (c .before .before .before .before .before) .pre .0 .long .1 .0))
 
 slice-aggregate-rows-3 : tie.Need-slice-aggregate-rows-3
-slice-aggregate-rows-3 c = sym (length-take-le _ _ (start (c .before .before .before .before .before .before) .pre .0 .in-holders))
+slice-aggregate-rows-3 c = sym (length-take-le _ _ (start (c .before .before .before .before .before .before) .pre .0 .long .1 .1 .0))
 
 rows-requires : tie.Need-rows-requires
 rows-requires c κs =
