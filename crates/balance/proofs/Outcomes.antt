@@ -21,7 +21,7 @@ use Rattle.runs.specs.Parts.{HoldsRuns, Ordered}
 use Rattle.runs.proofs.Accepted.{accepted-legal}
 use Rattle.tables.specs.Tables.{Tables, tablesOf, allColumns}
 use Rattle.cuts.specs.Balance.{balanced}
-use Rattle.cuts.specs.Merged.{withCuts, Cuttable, BalancingCuts}
+use Rattle.cuts.specs.Cuts.{withCuts, Cuttable, BalancingCuts}
 use Rattle.cuts.proofs.Balancing.{balanced-count, balanced-legal, cuts-bound}
 use Rattle.balance.specs.Lent.{Lent, lentColumns, Room, noDegree, degreeTest, tableSize, workingSize, balanceOf, filledTables, Balances}
 use Rattle.balance.specs.Plan.{sizesOf, allSizes, shortSizes, sizedOf, plannedOf}

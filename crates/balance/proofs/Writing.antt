@@ -14,12 +14,13 @@ use Rattle.runs.proofs.Legality.{homes, home, run-at, image-below}
 use lib.Seq.{take-at}
 use Rattle.tables.specs.Tables.{tables, tablesOf}
 use Rattle.runs.proofs.Walks.{run-below}
-use Rattle.cuts.specs.Merged.{merged, withCuts, Starts}
-use Rattle.cuts.specs.Marks.{At}
+use Rattle.merging.specs.Merged.{merged, Starts}
+use Rattle.merging.specs.Marks.{At}
+use Rattle.cuts.specs.Cuts.{withCuts}
 use Rattle.balance.specs.Parts.{Has, ListWritten, TablesWritten}
 use Rattle.outcomes.specs.Outcome.{over}
-use Rattle.cuts.specs.declared.Mark.{Mark}
-use Rattle.cuts.proofs.Merged.{merged-length, merged-count, merged-next, place-count}
+use Rattle.merging.specs.declared.Mark.{Mark}
+use Rattle.merging.proofs.Merged.{merged-length, merged-count, merged-next, place-count}
 
 -- the run that has a place, by counting the starts up to it
 pub has-counted : (n : ℕ) (r : Runs) → Legal n r → (p k : ℕ) → p < n → k ≡ countBelow (suc p) (r .starts)

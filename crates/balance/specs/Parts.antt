@@ -8,7 +8,7 @@ use Rattle.runs.specs.Check.{maxRuns}
 use Rattle.runs.specs.Legal.{Legal}
 use Rattle.runs.specs.Runs.{Runs, countOf}
 use Rattle.tables.specs.Tables.{Tables, sizeOf, eachPair}
-use Rattle.cuts.specs.Merged.{withCuts, BalancingCuts}
+use Rattle.cuts.specs.Cuts.{withCuts, BalancingCuts}
 use Rattle.balance.specs.Lent.{Lent, Room, tableSize}
 
 -- the run at x of a list with these starts has place p

@@ -4,13 +4,13 @@ use mathlib.Core.Path.{_≡_}
 use mathlib.Core.Bool.{Bool}
 use mathlib.Core.List.{List, [], _∷_}
 use lib.ListN.{length}
-use Rattle.outcomes.specs.Outcome.{Outcome, done, test, anyBelow, judge, andThen}
+use Rattle.outcomes.specs.Outcome.{Outcome, done, test, someBelow, judge, andThen}
 use Rattle.outcomes.specs.Refusal.{refusalSays, checkedSays}
 use Rattle.outcomes.specs.declared.Checked.{Checked}
 use Rattle.runs.specs.Check.{maxRuns, checkOf}
 use Rattle.runs.specs.Parts.{HoldsRuns, Ordered}
 use Rattle.runs.specs.Runs.{Runs, countOf}
-use Rattle.cuts.specs.Merged.{BalancingCuts}
+use Rattle.cuts.specs.Cuts.{BalancingCuts}
 use Rattle.balance.specs.Lent.{Lent, degreeTest, tableSize}
 use Rattle.balance.specs.declared.Planned.{Planned}
 use Rattle.balance.specs.declared.Planned.the-variants.{Cuts, Refused}
@@ -30,7 +30,7 @@ allSizes s = s .starts ∷ s .images ∷ s .holders ∷ s .working ∷ []
 
 -- 8: one of them is below b
 abbrev pub shortSizes : ℕ → Sizes → Bool
-shortSizes b s = anyBelow b (allSizes s)
+shortSizes b s = someBelow b (allSizes s)
 
 -- tests 7 and 8 of a list of k runs
 unfoldable pub sizedOf : ℕ → ℕ → Sizes → Outcome (Unit {0})

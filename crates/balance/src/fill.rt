@@ -1,6 +1,5 @@
 // Writes the tables of a list after cuts.
-use cuts::Mark;
-use cuts::marks;
+use merging::Mark;
 ghost use mathlib.Core.Path.{_≡_};
 ghost use mathlib.Core.List.{map};
 ghost use Prim.Native.Nat.{_+_, _≤_};
@@ -8,7 +7,8 @@ ghost use lib.ListN.{length, replicate};
 ghost use Rattle.runs.specs.Legal.{Legal};
 ghost use Rattle.runs.specs.Runs.{runs, runAt, mapOf};
 ghost use Rattle.tables.specs.Tables.{tables, tablesOf, allColumns};
-ghost use Rattle.cuts.specs.Merged.{withCuts, Starts};
+ghost use Rattle.merging.specs.Merged.{Starts};
+ghost use Rattle.cuts.specs.Cuts.{withCuts};
 ghost use Rattle.balance.specs.Parts.{Has, ListWritten, TablesWritten};
 ghost use Rattle.outcomes.specs.Outcome.{Long, over};
 
@@ -38,8 +38,8 @@ fn write_list(
     let mut mark = Mark { starts: 0, cuts: 0 };
     let mut m = 0;
     while m < starts.len() + cuts.len() {
-        let s = marks::entry_at(n, starts, cuts, mark);
-        mark = marks::next_mark(n, starts, cuts, mark);
+        let s = merging::entry_at(n, starts, cuts, mark);
+        mark = merging::next_mark(n, starts, cuts, mark);
         to_starts[m] = s;
         to_images[m] = image_of(n, starts, images, mark.starts - 1, s);
         m += 1;

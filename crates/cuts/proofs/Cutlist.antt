@@ -15,11 +15,12 @@ use Rattle.runs.specs.Runs.{Runs, countOf, startOf, imageOf, endOf, imageEnd, m
 use Rattle.runs.proofs.Legality.{homes, home, run-at, map-at, end-next, end-last, land}
 use Rattle.runs.proofs.Bijection.{map-injective}
 use Rattle.runs.proofs.Walks.{run-below}
-use Rattle.cuts.specs.Merged.{merged, withCuts, Starts}
+use Rattle.merging.specs.Merged.{merged, Starts}
+use Rattle.cuts.specs.Cuts.{withCuts}
 use Rattle.cuts.specs.Parts.{Higher, Begins, PieceAt, Covers}
 use Rattle.cuts.specs.Ranks.{Ranked, Ranking, SentTo}
 use Rattle.cuts.proofs.Refine.{PieceOf, Refines, refined-legal, refined-map, refined-images}
-use Rattle.cuts.proofs.Merged.{nextFrom, lastTo, merged-length, merged-start, last-start, last-cut}
+use Rattle.merging.proofs.Merged.{nextFrom, lastTo, merged-length, merged-start, last-start, last-cut}
 
 module _ (n : ℕ) (r : Runs) (cuts : List ℕ) (c : Legal n r) (s : Starts n (r .starts) cuts) where
   with-image : (x : ℕ) → x < length (merged (r .starts) cuts)

@@ -5,6 +5,5 @@ pub mod Weights
 pub mod Balancing
 pub mod Swept
 pub mod Sweeping
-pub mod Merged
 pub mod Cutlist
 pub mod Progress

@@ -18,10 +18,11 @@ use Rattle.runs.proofs.Legality.{homes, run-at, end-next}
 use Rattle.runs.specs.Weight.{weight}
 use Rattle.runs.proofs.Walks.{weight-is, run-below, under-at, weight-less}
 use Rattle.cuts.specs.Balance.{cutPlace, cutAt}
-use Rattle.cuts.specs.Merged.{merged, withCuts, Starts, BalancingCuts}
-use Rattle.cuts.specs.Marks.{Skips}
+use Rattle.merging.specs.Merged.{merged, Starts}
+use Rattle.merging.specs.Marks.{Skips}
+use Rattle.cuts.specs.Cuts.{withCuts, BalancingCuts}
 use Rattle.cuts.specs.Parts.{Begins, PieceAt, Covers}
-use Rattle.cuts.specs.declared.Mark.{Mark}
+use Rattle.merging.specs.declared.Mark.{Mark}
 use Rattle.cuts.specs.declared.Piece.{Piece}
 use Rattle.cuts.proofs.Refine.{refines-self, refines-on}
 use Rattle.cuts.proofs.Cut.{cut-count}
@@ -29,7 +30,7 @@ use Rattle.cuts.proofs.Weights.{place}
 use Rattle.cuts.proofs.Balancing.{heavy-refines, heavy-legal}
 use Rattle.cuts.proofs.Swept.{landing-is, back, added, swept-at}
 use Rattle.cuts.proofs.Sweeping.{Sweeping, sweepLeft, sweeping-start, sweeping-end, sweeping-back, sweeping-on, sweeping-cut}
-use Rattle.cuts.proofs.Merged.{merged-length, merged-none, merged-insert, merged-cut}
+use Rattle.merging.proofs.Merged.{merged-length, merged-none, merged-insert, merged-cut}
 use Rattle.cuts.proofs.Cutlist.{with-legal, with-refines, refined-cuts}
 
 -- the starts and cuts of a list that is legal with the cuts

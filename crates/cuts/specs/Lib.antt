@@ -1,6 +1,5 @@
 -- What balancing is, the list after cuts and what finding them promises; then what the parts of the search do.
 pub mod Balance
-pub mod Merged
-pub mod Marks
+pub mod Cuts
 pub mod Ranks
 pub mod Parts

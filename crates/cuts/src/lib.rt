@@ -1,21 +1,14 @@
 // Cuts: where a legal list is cut so that no interval is heavy, found by a sweep along the images (Nishimoto and Tabei's
 // fast balancing, with binary searches for its trees). The list itself is read where it lies.
 //
-// What balancing is stands in specs/Balance, and what `find_cuts` asks and promises in specs/Merged. Both it and the
-// marks that its caller goes along the result by are for crates that have had the list checked.
+// What balancing is stands in specs/Balance, and what `find_cuts` asks and promises in specs/Cuts. It is for crates that
+// have had the list checked.
 
-pub mod marks;
 mod pieces;
 mod sweep;
 
 ghost use Rattle.runs.specs.Runs.{runs};
-ghost use Rattle.cuts.specs.Merged.{Cuttable, BalancingCuts};
-
-// A mark in the list's starts and the cuts, merged: how many of each come before it.
-pub struct Mark {
-    pub starts: usize,
-    pub cuts: usize,
-}
+ghost use Rattle.cuts.specs.Cuts.{Cuttable, BalancingCuts};
 
 // A place, and the run that has it.
 struct Origin {

@@ -1,14 +1,14 @@
 // The pieces that cuts make of a list's runs, found by binary search.
-use super::Mark;
 use super::Origin;
 use super::Piece;
-use super::marks;
+use merging::Mark;
 ghost use mathlib.Core.Path.{_≡_};
 ghost use Prim.Native.Nat.{_+_, _-_, _<_};
 ghost use lib.ListN.{getD};
 ghost use Rattle.order.specs.Lists.{Sorted, countBelow};
 ghost use Rattle.runs.specs.Runs.{runs};
-ghost use Rattle.cuts.specs.Merged.{withCuts, Starts};
+ghost use Rattle.merging.specs.Merged.{Starts};
+ghost use Rattle.cuts.specs.Cuts.{withCuts};
 ghost use Rattle.cuts.specs.Ranks.{Ranked, Ranking, SentTo};
 ghost use Rattle.cuts.specs.Parts.{Begins, PieceAt, Higher, Covers};
 
@@ -59,7 +59,7 @@ pub(crate) fn piece_at(
         starts: origin.run + 1,
         cuts: order::count_below(cuts, origin.place + 1),
     };
-    let end = marks::entry_at(n, starts, cuts, after);
+    let end = merging::entry_at(n, starts, cuts, after);
     Piece {
         start: origin.place,
         to: p + (end - origin.place),

@@ -1,12 +1,11 @@
 // The cuts that balance a list.
-use super::Mark;
-use super::marks;
 use super::pieces;
+use merging::Mark;
 ghost use Prim.Native.Nat.{_≤_};
 ghost use lib.ListN.{length};
 ghost use Rattle.runs.specs.Runs.{runs};
 ghost use Rattle.cuts.specs.Ranks.{Ranked};
-ghost use Rattle.cuts.specs.Merged.{BalancingCuts};
+ghost use Rattle.cuts.specs.Cuts.{BalancingCuts};
 
 // Cuts pieces until none is heavy, each time the heavy one with the lowest image: the cuts come to stand in
 // `working`, in rising order. Answers how many there are. Before `q` only the piece at `p` may be heavy, and a cut
@@ -32,25 +31,25 @@ pub(crate) fn sweep(
     let mut mark = Mark { starts: 0, cuts: 0 };
     while p < n {
         let piece = pieces::piece_at(n, starts, images, order, ranked, &working[..cuts], p);
-        let middle = marks::skip(n, starts, &working[..cuts], mark, d, piece.to);
-        let last = marks::skip(n, starts, &working[..cuts], middle, d, piece.to);
+        let middle = merging::skip(n, starts, &working[..cuts], mark, d, piece.to);
+        let last = merging::skip(n, starts, &working[..cuts], middle, d, piece.to);
         if last.starts + last.cuts < mark.starts + mark.cuts + 2 * d {
             if p == q {
                 q = piece.to;
                 mark = last;
             } else {
-                mark = marks::mark_at(starts, &working[..cuts], q);
+                mark = merging::mark_at(starts, &working[..cuts], q);
             }
             p = q;
         } else {
-            let u = piece.start + (marks::entry_at(n, starts, &working[..cuts], middle) - p);
+            let u = piece.start + (merging::entry_at(n, starts, &working[..cuts], middle) - p);
             order::insert(working, cuts, u);
             cuts += 1;
             p = q;
             if u < q {
                 p = pieces::image_around(n, starts, images, order, ranked, &working[..cuts], u);
             }
-            mark = marks::mark_at(starts, &working[..cuts], p);
+            mark = merging::mark_at(starts, &working[..cuts], p);
         }
     }
     cuts

@@ -10,7 +10,7 @@ use lib.Dec.{ltb}
 use borrow.Author.Tests.{le-ltb, ltb-false}
 use Rattle.order.specs.Lists.{All}
 use Rattle.order.proofs.Laws.{or-false, all-map}
-use Rattle.outcomes.specs.Outcome.{Outcome, done, refused, Test, judge, mapDone, andThen, anyBelow, Long, filled, _then_else_}
+use Rattle.outcomes.specs.Outcome.{Outcome, done, refused, Test, judge, mapDone, andThen, someBelow, Long, filled, _then_else_}
 
 -- what is done is not refused
 pub done-refused : {A : Type 0} (a : A) (k p : ℕ) → done a ≡ refused k p → ⊥
@@ -68,12 +68,12 @@ unfolding filled
 filled-refused l o k p table e = rw e
 
 -- lengths that pass test 8, and back; those of tables for less
-pub none-below : (k : ℕ) (cs : List ℕ) → anyBelow k cs ≡ false → All (λ c. k ≤ c) cs
+pub none-below : (k : ℕ) (cs : List ℕ) → someBelow k cs ≡ false → All (λ c. k ≤ c) cs
 none-below k [] e = tt
 none-below k (c ∷ cs) e =
-    let i = or-false (ltb c k) (anyBelow k cs) e in (ltb-false c k (i .0), none-below k cs (i .1))
+    let i = or-false (ltb c k) (someBelow k cs) e in (ltb-false c k (i .0), none-below k cs (i .1))
 
-pub below-none : (k : ℕ) (cs : List ℕ) → All (λ c. k ≤ c) cs → anyBelow k cs ≡ false
+pub below-none : (k : ℕ) (cs : List ℕ) → All (λ c. k ≤ c) cs → someBelow k cs ≡ false
 below-none k [] a = refl
 below-none k (c ∷ cs) a = rw (le-ltb c k (a .0)) (below-none k cs (a .1))
 

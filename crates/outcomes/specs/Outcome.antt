@@ -26,13 +26,13 @@ abbrev pub test : ℕ → Bool → ℕ → Test
 test k b p = record { number = k; applies = b; place = p }
 
 -- one of these lengths is below k
-abbrev pub anyBelow : ℕ → List ℕ → Bool
-anyBelow k [] = false
-anyBelow k (c ∷ cs) = ltb c k || anyBelow k cs
+abbrev pub someBelow : ℕ → List ℕ → Bool
+someBelow k [] = false
+someBelow k (c ∷ cs) = ltb c k || someBelow k cs
 
 -- 8: a lent table has fewer than k entries; and, where it does not apply, each has at least k
 abbrev pub anyShort : ℕ → List (List ℕ) → Bool
-anyShort k tables = anyBelow k (map length tables)
+anyShort k tables = someBelow k (map length tables)
 
 abbrev pub Long : ℕ → List (List ℕ) → Type 0
 Long k tables = All (λ c. k ≤ c) (map length tables)

@@ -6,10 +6,10 @@ use native.Mathlib.Omega.{arith}
 use lib.ListN.{length, getD}
 use Rattle.runs.specs.Runs.{Runs, runs}
 use Rattle.order.proofs.Laws.{getD-default}
-use Rattle.cuts.specs.Merged.{merged}
-use Rattle.cuts.specs.Marks.{At}
+use Rattle.merging.specs.Merged.{merged}
+use Rattle.merging.specs.Marks.{At}
 use Rattle.balance.specs.Parts.{Has}
-use Rattle.cuts.proofs.Merged.{merged-length, at-sum, at-own}
+use Rattle.merging.proofs.Merged.{merged-length, at-sum, at-own}
 use Rattle.balance.proofs.Writing.{Writing, has-passed, writing-start, writing-next, writing-kept, writing-end}
 use Rattle.balance.proofs.fill.write_list.Statement.{statement}
 use Rattle.balance.proofs.fill.write_list.Tie as tie

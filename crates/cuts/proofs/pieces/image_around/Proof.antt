@@ -4,7 +4,7 @@ use Prim.Native.Nat.{ℕ, _-_, _≤_}
 use native.Mathlib.Omega.{arith}
 use Rattle.order.proofs.Laws.{strict-sorted}
 use Rattle.runs.specs.Runs.{Runs, runs}
-use Rattle.cuts.specs.Merged.{withCuts}
+use Rattle.cuts.specs.Cuts.{withCuts}
 use Rattle.cuts.specs.Parts.{Covers}
 use Rattle.cuts.proofs.Cutlist.{higher-last, piece-covers}
 use Rattle.cuts.proofs.pieces.image_around.Statement.{statement}

@@ -7,10 +7,11 @@ use lib.ListN.{getD}
 use Rattle.order.specs.Lists.{countBelow}
 use Rattle.order.proofs.Laws.{strict-sorted}
 use Rattle.runs.specs.Runs.{Runs, runs}
-use Rattle.cuts.specs.Merged.{merged, withCuts}
-use Rattle.cuts.specs.Marks.{At}
+use Rattle.merging.specs.Merged.{merged}
+use Rattle.merging.specs.Marks.{At}
+use Rattle.cuts.specs.Cuts.{withCuts}
 use Rattle.cuts.specs.Parts.{PieceAt}
-use Rattle.cuts.proofs.Merged.{at-counts, at-sum, at-own}
+use Rattle.merging.proofs.Merged.{at-counts, at-sum, at-own}
 use Rattle.cuts.proofs.Cutlist.{begins-below, piece-at}
 use Rattle.cuts.proofs.pieces.piece_at.Statement.{statement}
 use Rattle.cuts.proofs.pieces.piece_at.Tie as tie

@@ -11,10 +11,11 @@ use Rattle.order.proofs.Laws.{all-true, strict-sorted, count-none, count-mono}
 use Rattle.runs.specs.Runs.{Runs, runs}
 use Rattle.runs.specs.Weight.{weight}
 use Rattle.cuts.specs.Balance.{cutPlace}
-use Rattle.cuts.specs.Merged.{merged, withCuts, Starts}
-use Rattle.cuts.specs.Marks.{At}
+use Rattle.merging.specs.Merged.{merged, Starts}
+use Rattle.merging.specs.Marks.{At}
+use Rattle.cuts.specs.Cuts.{withCuts}
 use Rattle.cuts.specs.Parts.{Covers}
-use Rattle.cuts.proofs.Merged.{merged-length, at-sum, at-own, at-counts}
+use Rattle.merging.proofs.Merged.{merged-length, at-sum, at-own, at-counts}
 use Rattle.cuts.proofs.Progress.{Progress, turnsLeft, progress-start, progress-at, progress-on, progress-back, piece-to, looked-light, looked-heavy, cut-place, cut-inside, cut-below, cut-room, cut-starts, progress-cut, progress-end}
 use Rattle.cuts.proofs.sweep.sweep.Statement.{statement}
 use Rattle.cuts.proofs.sweep.sweep.Tie as tie

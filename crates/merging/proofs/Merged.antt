@@ -9,9 +9,9 @@ use lib.Dec.{ltb, eqb}
 use Rattle.order.specs.Lists.{Sorted, Strict, bit, countBelow, occurrences}
 use Rattle.order.specs.Order.{insertSorted}
 use Rattle.order.proofs.Laws.{lt-or-le, all-at, sum-sort, sum-append, length-sort, sorted-sort, sort-insert, sort-sorted, strict-sorted, count-one, count-index, count-found, count-mono, count-lt, count-ge, count-gt, count-at, count-after, count-all, count-le-length, pairwise-at, getD-default}
-use Rattle.cuts.specs.Merged.{merged, Starts}
-use Rattle.cuts.specs.Marks.{At}
-use Rattle.cuts.specs.declared.Mark.{Mark}
+use Rattle.merging.specs.Merged.{merged, Starts}
+use Rattle.merging.specs.Marks.{At}
+use Rattle.merging.specs.declared.Mark.{Mark}
 
 -- the first of l at or above t, or n; and the last of l that is not above v
 abbrev pub nextFrom : ℕ → List ℕ → ℕ → ℕ

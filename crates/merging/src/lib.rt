@@ -1,15 +1,20 @@
 // A list's starts and the cuts made so far, merged: marks along them.
-use super::Mark;
 use order::entry_or;
 ghost use mathlib.Core.Path.{_≡_};
 ghost use Prim.Native.Nat.{_+_, _≤_, _<_};
 ghost use lib.ListN.{length, getD};
 ghost use Rattle.order.specs.Lists.{Sorted, countBelow};
-ghost use Rattle.cuts.specs.Merged.{merged, Starts};
-ghost use Rattle.cuts.specs.Marks.{At, Skips};
+ghost use Rattle.merging.specs.Merged.{merged, Starts};
+ghost use Rattle.merging.specs.Marks.{At, Skips};
+
+// A mark in the list's starts and the cuts, merged: how many of each come before it.
+pub struct Mark {
+    pub starts: usize,
+    pub cuts: usize,
+}
 
 // The mark before the first entry at or above `t`.
-pub(crate) fn mark_at(starts: &[u32], cuts: &[u32], t: u32) -> Mark
+pub fn mark_at(starts: &[u32], cuts: &[u32], t: u32) -> Mark
     requires { ⌜ Sorted (now starts) × Sorted (now cuts) ⌝ }
     ensures { λ r. ⌜ (r .starts ≡ countBelow t (now (starts .entry))) × (r .cuts ≡ countBelow t (now (cuts .entry))) ⌝ }
 {
@@ -52,7 +57,7 @@ pub fn next_mark(n: u32, starts: &[u32], cuts: &[u32], mark: Mark) -> Mark
 }
 
 // The mark `count` entries on, or sooner, before the first entry that is not below `to`.
-pub(crate) fn skip(n: u32, starts: &[u32], cuts: &[u32], mark: Mark, count: usize, to: u32) -> Mark
+pub fn skip(n: u32, starts: &[u32], cuts: &[u32], mark: Mark, count: usize, to: u32) -> Mark
     requires { ⌜ Starts n (now starts) (now cuts) × At n (now starts) (now cuts) mark (mark .starts + mark .cuts)
         × (mark .starts + mark .cuts ≤ countBelow to (merged (now starts) (now cuts))) × (to ≤ n) ⌝ }
     ensures { λ r. ⌜ Skips n (now (starts .entry)) (now (cuts .entry)) mark count to r ⌝ }

@@ -4,8 +4,8 @@ use mathlib.Core.Path.{_≡_}
 use mathlib.Core.List.{List}
 use lib.ListN.{length, getD}
 use Rattle.order.specs.Lists.{countBelow}
-use Rattle.cuts.specs.Merged.{merged}
-use Rattle.cuts.specs.declared.Mark.{Mark}
+use Rattle.merging.specs.Merged.{merged}
+use Rattle.merging.specs.declared.Mark.{Mark}
 
 -- a mark before the merged list's entry m: how many starts and how many cuts come before it
 pub record At (n : ℕ) (starts cuts : List ℕ) (mark : Mark) (m : ℕ) : Type 0 where

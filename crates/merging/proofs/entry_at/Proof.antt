@@ -2,9 +2,9 @@
 use borrow.Author.Needs.{needs}
 use mathlib.Core.Path.{_∙_}
 use native.Mathlib.Omega.{arith}
-use Rattle.cuts.proofs.Merged.{at-start, at-cut}
-use Rattle.cuts.proofs.marks.entry_at.Statement.{statement}
-use Rattle.cuts.proofs.marks.entry_at.Tie as tie
+use Rattle.merging.proofs.Merged.{at-start, at-cut}
+use Rattle.merging.proofs.entry_at.Statement.{statement}
+use Rattle.merging.proofs.entry_at.Tie as tie
 
 entry-or-requires : tie.Need-entry-or-requires
 entry-or-requires c κs = search needs

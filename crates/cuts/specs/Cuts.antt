@@ -1,31 +1,17 @@
 -- A list after cuts, told by the starts that they added, and the cuts that balance a list.
-use Prim.Native.Nat.{ℕ, _+_, _≤_, _<_}
+use Prim.Native.Nat.{ℕ, _+_, _≤_}
 use mathlib.Core.Path.{_≡_}
-use mathlib.Core.List.{List, _++_, map}
-use lib.ListN.{length, take, drop, getD}
-use Rattle.order.specs.Lists.{All, Strict}
-use Rattle.order.specs.Order.{sortBy}
+use mathlib.Core.List.{List, map}
+use lib.ListN.{length, take, drop}
+use Rattle.merging.specs.Merged.{merged, Starts}
 use Rattle.runs.specs.Legal.{Legal}
 use Rattle.runs.specs.Parts.{Ordered}
 use Rattle.runs.specs.Runs.{Runs, runs, countOf, mapOf}
 use Rattle.cuts.specs.Balance.{balanced}
 
--- the starts of a list and those that cuts added, in rising order
-unfoldable pub merged : List ℕ → List ℕ → List ℕ
-merged starts cuts = sortBy (λ s. s) (cuts ++ starts)
-
 -- the list after the cuts: more starts, and the same function
 abbrev pub withCuts : ℕ → Runs → List ℕ → Runs
 withCuts n r cuts = runs (merged (r .starts) cuts) (map (mapOf n r) (merged (r .starts) cuts))
-
--- starts and cuts of one list
-pub record Starts (n : ℕ) (starts cuts : List ℕ) : Type 0 where
-  pub some : 0 < length starts
-  pub first : getD starts 0 0 ≡ 0
-  pub starts-rise : Strict starts
-  pub cuts-rise : Strict cuts
-  pub all-rise : Strict (merged starts cuts)
-  pub below : All (λ s. s < n) (merged starts cuts)
 
 -- what `find_cuts` asks: a legal list with its order by image, a degree, and an entry for each run in both tables
 pub record Cuttable (n : ℕ) (r : Runs) (order ranked : List ℕ) (d : ℕ) (working : List ℕ) : Type 0 where

@@ -1,9 +1,9 @@
 -- `next_mark` meets its contract: one step along the list whose next entry is the lower.
 use borrow.Author.Needs.{needs}
 use native.Mathlib.Omega.{arith}
-use Rattle.cuts.proofs.Merged.{merged-length, next-start, next-cut}
-use Rattle.cuts.proofs.marks.next_mark.Statement.{statement}
-use Rattle.cuts.proofs.marks.next_mark.Tie as tie
+use Rattle.merging.proofs.Merged.{merged-length, next-start, next-cut}
+use Rattle.merging.proofs.next_mark.Statement.{statement}
+use Rattle.merging.proofs.next_mark.Tie as tie
 
 entry-or-requires : tie.Need-entry-or-requires
 entry-or-requires c κs = search needs

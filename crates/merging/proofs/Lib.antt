@@ -1,0 +1,2 @@
+-- The laws of merged lists and of marks.
+pub mod Merged

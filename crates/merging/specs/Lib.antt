@@ -1,0 +1,3 @@
+-- Starts and cuts merged, and marks along them.
+pub mod Merged
+pub mod Marks
