@@ -1,0 +1,31 @@
+// What each call answers, as the rest of a line.
+use balance::Balanced;
+use files::FileChecked;
+use outcomes::Checked;
+use outcomes::Refusal;
+use rows::out;
+
+fn refusal(r: Refusal) {
+    out::refused(r.number(), r.place());
+}
+
+pub(crate) fn checked(a: Checked) {
+    match a {
+        Checked::Refused(r) => refusal(r),
+        Checked::Accepted => out::line(b" 0"),
+    }
+}
+
+pub(crate) fn balanced(a: Balanced) {
+    match a {
+        Balanced::Refused(r) => refusal(r),
+        Balanced::Intervals(k) => out::one(k as u64),
+    }
+}
+
+pub(crate) fn file(a: FileChecked) {
+    match a {
+        FileChecked::Refused(r) => refusal(r),
+        FileChecked::Read(h) => out::three(h.n as u64, h.k as u64, h.d as u64),
+    }
+}
