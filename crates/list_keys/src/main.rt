@@ -14,7 +14,8 @@ use rows::out;
 ghost use Prim.Native.Nat.{_≤_};
 ghost use lib.ListN.{length};
 
-// Runs what is called. A number or a slice that the row lacks is 0 or empty, and is not looked at.
+// Runs what is called: a and b are starts and images, or a is a file's words. A number or a slice that the row lacks is 0
+// or empty, and is not looked at.
 fn call(code: usize, numbers: &[u32], a: &[u32], b: &[u32]) {
     match code {
         12 => answers::checked(runs::check(rows::number(numbers, 0), a, b)),

@@ -57,8 +57,8 @@ fn value_of(text: &[u8]) -> u32 {
     (number_of(&text[start..]) % NONE) as u32
 }
 
-// How often a field has its number: once, or as often as the number before its star says, which is at least 2. What is no
-// field counts as a number that stands there more often than there is room for.
+// How often a field has its number: once, or as often as the number before its star says, which is at least 2. What is
+// no field counts as a number that stands there more often than there is room for.
 fn times_of(text: &[u8]) -> usize
     ensures { λ r. ⌜ r ≤ 4294967296 ⌝ }
 {

@@ -102,8 +102,8 @@ fn index_of(names: &[u8], word: &[u8]) -> usize {
     index
 }
 
-// What a row calls, of the names that a program has, each behind a space: a hundred for each name before the row's word,
-// and what the row has.
+// What a row calls, of the names that a program has, each behind a space: a hundred for each name before the row's
+// word, and what the row has.
 pub fn code_of(names: &[u8], line: &[u8], row: Row) -> usize {
     let end = word_end(line);
     100 * at_most(index_of(names, &line[0..end]), 99) + has(row)

@@ -10,8 +10,8 @@
 //     bookmark n, place, interval, moves, and starts passed as a high and a low number : starts : images : holders
 //     bookmark-moves n x i m : starts : images : holders
 //
-// `under` is answered by how many starts there are and which. A bookmark is lent: it is printed after its call, refused or
-// not. Its move on the spot runs within `bookmark-moves`.
+// `under` is answered by how many starts there are, and which. A bookmark is lent, so it is printed after its call; its
+// move on the spot runs within `bookmark-moves`.
 mod answers;
 
 use bookmarks::Bookmark;
@@ -33,8 +33,8 @@ fn advance(numbers: &[u32], starts: &[u32], images: &[u32], holders: &[u32]) {
     answers::marked(bookmarks::advanced(rows::number(numbers, 0), starts, images, holders, before));
 }
 
-// Runs what is called: a, b and c are starts, images and holders. A number or a slice that the row lacks is 0 or empty, and
-// is not looked at.
+// Runs what is called: a, b and c are starts, images and holders. A number or a slice that the row lacks is 0 or empty,
+// and is not looked at.
 fn call(code: usize, numbers: &[u32], a: &[u32], b: &[u32], c: &[u32]) {
     let n = rows::number(numbers, 0);
     let p = rows::number(numbers, 1);
