@@ -22,8 +22,10 @@ use Rattle.runs.proofs.Accepted.{accepted-legal}
 use Rattle.tables.specs.Tables.{Tables, tablesOf, allColumns}
 use Rattle.cuts.specs.Balance.{balanced}
 use Rattle.cuts.specs.Cuts.{withCuts, Cuttable, BalancingCuts}
+use Rattle.cuts.specs.Degree.{noDegree, degreeTest}
+use Rattle.cuts.proofs.Degrees.{degree-in, degree-passes}
 use Rattle.cuts.proofs.Balancing.{balanced-count, balanced-legal, cuts-bound}
-use Rattle.balance.specs.Lent.{Lent, lentColumns, Room, noDegree, degreeTest, tableSize, workingSize, balanceOf, filledTables, Balances}
+use Rattle.balance.specs.Lent.{Lent, lentColumns, Room, tableSize, workingSize, balanceOf, filledTables, Balances}
 use Rattle.balance.specs.Plan.{sizesOf, allSizes, shortSizes, sizedOf, plannedOf}
 use Rattle.balance.specs.Parts.{TablesWritten, Fillable, Filled}
 use Rattle.balance.specs.declared.Balanced.the-variants.{Intervals, Refused}
@@ -33,13 +35,6 @@ use Rattle.balance.proofs.Writing.{legal-count}
 -- the lent tables with another working table
 abbrev with-working : Lent → List ℕ → Lent
 with-working l w = record { tables = l .tables; working = w }
-
--- a degree that passes test 7
-pub degree-in : (d : ℕ) → noDegree d ≡ false → (2 ≤ d) × (d ≤ 64)
-degree-in d e = let i = or-false (ltb d 2) (ltb 64 d) e in (ltb-false d 2 (i .0), ltb-false 64 d (i .1))
-
-pub degree-passes : (d : ℕ) → 2 ≤ d → d ≤ 64 → noDegree d ≡ false
-degree-passes d low high = rw (le-ltb d 2 low, le-ltb 64 d high)
 
 -- the working table among sizes that pass test 8
 working-in : (b : ℕ) (s : Sizes) → shortSizes b s ≡ false → b ≤ s .working

@@ -1,16 +1,15 @@
 -- Balancing into lent tables: tests 1 to 8, and what stands in each table at exit.
 use Prim.Native.Nat.{ℕ}
 use mathlib.Core.Path.{_≡_}
-use mathlib.Core.Bool.{Bool, _||_}
 use mathlib.Core.List.{List, [], _∷_, _++_}
 use lib.ListN.{take, replicate}
-use lib.Dec.{ltb}
-use Rattle.outcomes.specs.Outcome.{Outcome, done, refused, Test, test, Long, shortTest, judge, mapDone, over, filled}
+use Rattle.outcomes.specs.Outcome.{Outcome, done, refused, Test, Long, shortTest, judge, mapDone, over, filled}
 use Rattle.outcomes.specs.Refusal.{refusalSays}
 use Rattle.runs.specs.Runs.{Runs, countOf}
 use Rattle.runs.specs.Check.{checkTests}
 use Rattle.tables.specs.Tables.{Tables, tables, tablesOf, sizeOf, allColumns, eachColumn, eachPair}
 use Rattle.cuts.specs.Balance.{balanced, boundOf}
+use Rattle.cuts.specs.Degree.{degreeTest}
 use Rattle.balance.specs.declared.Balanced.{Balanced}
 use Rattle.balance.specs.declared.Balanced.the-variants.{Intervals, Refused}
 
@@ -33,13 +32,6 @@ lentColumns l = allColumns (l .tables) ++ (l .working ∷ [])
 -- the first k entries of the three tables
 abbrev pub firstOf : ℕ → Lent → Tables
 firstOf k l = eachColumn (take k) (l .tables)
-
--- 7: d is below 2 or above 64
-abbrev pub noDegree : ℕ → Bool
-noDegree d = ltb d 2 || ltb 64 d
-
-abbrev pub degreeTest : ℕ → Test
-degreeTest d = test 7 (noDegree d) d
 
 -- how many entries each of the three tables must have for k runs, and how many the working table: B, both of them
 abbrev pub tableSize : ℕ → ℕ → ℕ

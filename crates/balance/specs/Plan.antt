@@ -11,7 +11,8 @@ use Rattle.runs.specs.Check.{maxRuns, checkOf}
 use Rattle.runs.specs.Parts.{HoldsRuns, Ordered}
 use Rattle.runs.specs.Runs.{Runs, countOf}
 use Rattle.cuts.specs.Cuts.{BalancingCuts}
-use Rattle.balance.specs.Lent.{Lent, degreeTest, tableSize}
+use Rattle.cuts.specs.Degree.{degreeTest}
+use Rattle.balance.specs.Lent.{Lent, tableSize}
 use Rattle.balance.specs.declared.Planned.{Planned}
 use Rattle.balance.specs.declared.Planned.the-variants.{Cuts, Refused}
 use Rattle.balance.specs.declared.Sizes.{Sizes}

@@ -7,12 +7,10 @@
 mod fill;
 mod plan;
 
-ghost use mathlib.Core.Path.{_≡_};
-ghost use mathlib.Core.Bool.{not};
 ghost use Rattle.runs.specs.Runs.{runs, countOf};
 ghost use Rattle.tables.specs.Tables.{tablesOf};
 ghost use Rattle.cuts.specs.Balance.{balanced};
-ghost use Rattle.balance.specs.Lent.{lent, noDegree, workingSize, Balances};
+ghost use Rattle.balance.specs.Lent.{lent, workingSize, Balances};
 ghost use Rattle.balance.specs.Parts.{Fillable, Filled};
 
 // How many intervals the balanced list has.
@@ -33,16 +31,6 @@ struct Sizes {
 enum Planned {
     Cuts(usize),
     Refused(outcomes::Refusal),
-}
-
-// Whether test 7 lets the degree pass.
-pub fn is_degree(d: u32) -> bool
-    ensures { λ r. ⌜ r ≡ not (noDegree d) ⌝ }
-{
-    if d < 2 {
-        return false;
-    }
-    d <= 64
 }
 
 // Writes the tables of the list after the cuts that stand in `working`, and clears that. Answers how many intervals they

@@ -7,3 +7,4 @@ pub mod Swept
 pub mod Sweeping
 pub mod Cutlist
 pub mod Progress
+pub mod Degrees

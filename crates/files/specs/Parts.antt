@@ -6,7 +6,7 @@ use lib.ListN.{length}
 use Rattle.outcomes.specs.Outcome.{Outcome, judge, andThen}
 use Rattle.runs.specs.Runs.{Runs}
 use Rattle.runs.specs.Check.{checkOf}
-use Rattle.balance.specs.Lent.{degreeTest}
+use Rattle.cuts.specs.Degree.{degreeTest}
 use Rattle.files.specs.Words.{headerOf}
 use Rattle.files.specs.File.{numberTests, layoutTests, headerTests, bodyTests}
 use Rattle.files.specs.declared.Header.{Header}

@@ -33,7 +33,7 @@ pub enum FileChecked {
 fn check_degree(h: Header) -> FileChecked
     ensures { λ r. ⌜ fileSays r ≡ degreeOf h ⌝ }
 {
-    if balance::is_degree(h.d) {
+    if cuts::is_degree(h.d) {
         return FileChecked::Read(h);
     }
     FileChecked::Refused(Refusal::Degree(h.d))

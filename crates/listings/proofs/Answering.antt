@@ -14,9 +14,11 @@ use Rattle.outcomes.proofs.Judging.{done-refused, map-then}
 use Rattle.runs.proofs.Accepted.{accepted-legal}
 use Rattle.tables.specs.Tables.{Tables, tablesOf, sizeOf}
 use Rattle.cuts.specs.Balance.{balanced, boundOf}
-use Rattle.balance.specs.Lent.{Lent, Room, noDegree, tableSize, firstOf, balancedSays, balanceOf, Balances}
+use Rattle.cuts.specs.Degree.{noDegree}
+use Rattle.cuts.proofs.Degrees.{degree-in}
+use Rattle.balance.specs.Lent.{Lent, Room, tableSize, firstOf, balancedSays, balanceOf, Balances}
 use Rattle.balance.specs.Plan.{sizesOf, sizedOf, plannedOf}
-use Rattle.balance.proofs.Outcomes.{degree-in, room-passes, room-less, sized-degree, sized-done, balance-planned}
+use Rattle.balance.proofs.Outcomes.{room-passes, room-less, sized-degree, sized-done, balance-planned}
 use Rattle.balance.specs.declared.Balanced.{Balanced}
 use Rattle.balance.specs.declared.Balanced.the-variants.{Intervals, Refused}
 use Rattle.cuts.proofs.Balancing.{balanced-legal, balanced-cuts}

@@ -67,7 +67,7 @@ pub filled-refused : {A : Type 0} (l : A → List ℕ) (o : Outcome A) (k p : �
 unfolding filled
 filled-refused l o k p table e = rw e
 
--- lengths that pass test 8, and back; those of tables for less
+-- lengths that pass test 8, and back; and tables that are long enough are so for fewer entries
 pub none-below : (k : ℕ) (cs : List ℕ) → someBelow k cs ≡ false → All (λ c. k ≤ c) cs
 none-below k [] e = tt
 none-below k (c ∷ cs) e =

@@ -1,0 +1,104 @@
+// The calls that are lent tables or a text, of at most 256 entries.
+use super::answers;
+use rows::out;
+
+// Prints two lent tables.
+fn print_both(a: &[u32], b: &[u32]) {
+    out::now(a);
+    out::now(b);
+}
+
+// Inverts into the lent tables.
+fn invert_into(
+    n: u32,
+    starts: &[u32],
+    images: &[u32],
+    to_starts: &mut [u32],
+    to_images: &mut [u32],
+) {
+    let answer = lists::inverse_list(n, starts, images, to_starts, to_images);
+    answers::checked(answer);
+    print_both(to_starts, to_images);
+}
+
+// inverse-list n, and the sizes of the two lent tables
+pub(crate) fn inverse_list(numbers: &[u32], starts: &[u32], images: &[u32]) {
+    let n = rows::number(numbers, 0);
+    let size = rows::size(numbers, 1);
+    let size_2 = rows::size(numbers, 2);
+    let mut to_starts = [7u32; 256];
+    let mut to_images = [7u32; 256];
+    invert_into(
+        n,
+        starts,
+        images,
+        &mut to_starts[0..size],
+        &mut to_images[0..size_2],
+    );
+}
+
+// Balances into the lent tables.
+fn balance_into(
+    n: u32,
+    starts: &[u32],
+    images: &[u32],
+    d: u32,
+    to_starts: &mut [u32],
+    to_images: &mut [u32],
+    to_holders: &mut [u32],
+    working: &mut [u32],
+) {
+    let answer = balance::balance(
+        n,
+        starts,
+        images,
+        d,
+        to_starts,
+        to_images,
+        to_holders,
+        working,
+    );
+    answers::balanced(answer);
+    print_both(to_starts, to_images);
+    print_both(to_holders, working);
+}
+
+// balance n d, and the sizes of the three lent tables and of the working table
+pub(crate) fn balance(numbers: &[u32], starts: &[u32], images: &[u32]) {
+    let n = rows::number(numbers, 0);
+    let d = rows::number(numbers, 1);
+    let size = rows::size(numbers, 2);
+    let size_2 = rows::size(numbers, 3);
+    let size_3 = rows::size(numbers, 4);
+    let size_4 = rows::size(numbers, 5);
+    let mut to_starts = [7u32; 256];
+    let mut to_images = [7u32; 256];
+    let mut to_holders = [7u32; 256];
+    let mut working = [7u32; 256];
+    balance_into(
+        n,
+        starts,
+        images,
+        d,
+        &mut to_starts[0..size],
+        &mut to_images[0..size_2],
+        &mut to_holders[0..size_3],
+        &mut working[0..size_4],
+    );
+}
+
+// Checks a file, and lists it into the lent text.
+fn list_into(file: &[u8], text: &mut [u8]) {
+    answers::file(files::check_file(file));
+    let count = listings::list_file(file, text);
+    out::written(count, text);
+}
+
+// file, how many bytes it has, and the size of the lent text, which is filled with #
+pub(crate) fn file(numbers: &[u32], words: &[u32]) {
+    let size = rows::size(numbers, 0);
+    let size_2 = rows::size(numbers, 1);
+    let laid = rows::bytes_of(words);
+    let mut text = [b'#'; 256];
+    list_into(&laid[0..size], &mut text[0..size_2]);
+}

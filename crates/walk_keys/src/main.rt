@@ -1,0 +1,91 @@
+// The keys of walks, which are calls on tables: those of the paper that are run and not proved, and each operation with
+// each number that it can refuse with. The library `rows` says what a row is and how it is answered; the calls are
+//
+//     find n i : starts : images : holders
+//     move n x i : starts : images : holders
+//     moves n x i m : starts : images : holders
+//     inverse n j : starts : images : holders
+//     weight n x : starts : images : holders
+//     under n x : starts : images : holders
+//     bookmark n, place, interval, moves, and starts passed as a high and a low number : starts : images : holders
+//     bookmark-moves n x i m : starts : images : holders
+//
+// `under` is answered by how many starts there are, and which. A bookmark is lent, so it is printed after its call; its
+// move on the spot runs within `bookmark-moves`.
+mod answers;
+
+use bookmarks::Bookmark;
+use rows::out;
+ghost use Prim.Native.Nat.{_≤_};
+ghost use lib.ListN.{length};
+
+// Moves a bookmark, whose numbers stand behind n: place, interval, moves, and starts passed as two of 32 bits, the high
+// one first.
+fn advance(numbers: &[u32], starts: &[u32], images: &[u32], holders: &[u32]) {
+    let high = rows::number(numbers, 4) as u64;
+    let low = rows::number(numbers, 5) as u64;
+    let before = Bookmark {
+        place: rows::number(numbers, 1),
+        interval: rows::number(numbers, 2),
+        moves: rows::number(numbers, 3),
+        passed: high * 4294967296 + low,
+    };
+    answers::marked(bookmarks::advanced(rows::number(numbers, 0), starts, images, holders, before));
+}
+
+// Runs what is called: a, b and c are starts, images and holders. A number or a slice that the row lacks is 0 or empty,
+// and is not looked at.
+fn call(code: usize, numbers: &[u32], a: &[u32], b: &[u32], c: &[u32]) {
+    let n = rows::number(numbers, 0);
+    let p = rows::number(numbers, 1);
+    let q = rows::number(numbers, 2);
+    let r = rows::number(numbers, 3);
+    match code {
+        23 => answers::found(tables::find(n, a, b, c, p)),
+        133 => answers::moved(tables::move_query(n, a, b, c, p, q)),
+        243 => answers::moved(tables::repeated_moves(n, a, b, c, p, q, r)),
+        323 => answers::inverted(preimages::inverse(n, a, b, c, p)),
+        423 => answers::weighed(weights::weight(n, a, b, c, p)),
+        523 => out::stretch(weights::starts_under(n, a, b, c, p)),
+        663 => advance(numbers, a, b, c),
+        743 => answers::marked(bookmarks::bookmark_moves(n, a, b, c, p, q, r)),
+        800..=899 => {}
+        _ => out::no_call(),
+    }
+}
+
+// Prints a row, reads it and runs it.
+fn run_row(line: &[u8], entries: &mut [u32]) {
+    out::line(line);
+    let row = rows::read(line, entries);
+    call(
+        rows::code_of(
+            b" find move moves inverse weight under bookmark bookmark-moves #",
+            line,
+            row,
+        ),
+        rows::part(entries, row, 0),
+        rows::part(entries, row, 1),
+        rows::part(entries, row, 2),
+        rows::part(entries, row, 3),
+    );
+}
+
+// Runs the rows one after the other.
+fn run_rows(text: &[u8], entries: &mut [u32])
+    requires { ⌜ length (now text) ≤ 65536 ⌝ }
+{
+    let mut at = 0;
+    while at < text.len() {
+        let end = bytes::scan::find(text, at, text.len(), b'\n');
+        run_row(&text[at..end], entries);
+        at = end + 1;
+    }
+}
+
+fn main() {
+    let mut text = [0u8; 65536];
+    let got = io::read_full(0, &mut text);
+    let mut entries = [0u32; rows::ROOM];
+    run_rows(&text[0..got], &mut entries);
+}
