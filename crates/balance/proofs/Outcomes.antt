@@ -14,6 +14,8 @@ use Rattle.outcomes.specs.Outcome.{Outcome, done, refused, test, Long, judge, a
 use Rattle.outcomes.specs.Refusal.{refusalSays}
 use Rattle.outcomes.specs.declared.Refusal.{Refusal}
 use Rattle.outcomes.proofs.Judging.{judge-append, none-below, below-none, long-less}
+use Rattle.outcomes.specs.Degree.{noDegree, degreeTest}
+use Rattle.outcomes.proofs.Degrees.{degree-in, degree-passes}
 use Rattle.runs.specs.Runs.{Runs, countOf}
 use Rattle.runs.specs.Check.{maxRuns, checkTests, checkOf}
 use Rattle.runs.specs.Legal.{Legal}
@@ -22,8 +24,6 @@ use Rattle.runs.proofs.Accepted.{accepted-legal}
 use Rattle.tables.specs.Tables.{Tables, tablesOf, allColumns}
 use Rattle.cuts.specs.Balance.{balanced}
 use Rattle.cuts.specs.Cuts.{withCuts, Cuttable, BalancingCuts}
-use Rattle.cuts.specs.Degree.{noDegree, degreeTest}
-use Rattle.cuts.proofs.Degrees.{degree-in, degree-passes}
 use Rattle.cuts.proofs.Balancing.{balanced-count, balanced-legal, cuts-bound}
 use Rattle.balance.specs.Lent.{Lent, lentColumns, Room, tableSize, workingSize, balanceOf, filledTables, Balances}
 use Rattle.balance.specs.Plan.{sizesOf, allSizes, shortSizes, sizedOf, plannedOf}

@@ -5,11 +5,11 @@ use mathlib.Core.List.{List, [], _∷_, _++_}
 use lib.ListN.{take, replicate}
 use Rattle.outcomes.specs.Outcome.{Outcome, done, refused, Test, Long, shortTest, judge, mapDone, over, filled}
 use Rattle.outcomes.specs.Refusal.{refusalSays}
+use Rattle.outcomes.specs.Degree.{degreeTest}
 use Rattle.runs.specs.Runs.{Runs, countOf}
 use Rattle.runs.specs.Check.{checkTests}
 use Rattle.tables.specs.Tables.{Tables, tables, tablesOf, sizeOf, allColumns, eachColumn, eachPair}
 use Rattle.cuts.specs.Balance.{balanced, boundOf}
-use Rattle.cuts.specs.Degree.{degreeTest}
 use Rattle.balance.specs.declared.Balanced.{Balanced}
 use Rattle.balance.specs.declared.Balanced.the-variants.{Intervals, Refused}
 

@@ -7,11 +7,11 @@ use lib.ListN.{length}
 use Rattle.outcomes.specs.Outcome.{Outcome, done, test, someBelow, judge, andThen}
 use Rattle.outcomes.specs.Refusal.{refusalSays, checkedSays}
 use Rattle.outcomes.specs.declared.Checked.{Checked}
+use Rattle.outcomes.specs.Degree.{degreeTest}
 use Rattle.runs.specs.Check.{maxRuns, checkOf}
 use Rattle.runs.specs.Parts.{HoldsRuns, Ordered}
 use Rattle.runs.specs.Runs.{Runs, countOf}
 use Rattle.cuts.specs.Cuts.{BalancingCuts}
-use Rattle.cuts.specs.Degree.{degreeTest}
 use Rattle.balance.specs.Lent.{Lent, tableSize}
 use Rattle.balance.specs.declared.Planned.{Planned}
 use Rattle.balance.specs.declared.Planned.the-variants.{Cuts, Refused}

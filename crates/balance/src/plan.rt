@@ -43,7 +43,7 @@ fn decide(d: u32, k: usize, sizes: Sizes) -> Checked
     requires { ⌜ k ≤ maxRuns ⌝ }
     ensures { λ r. ⌜ checkedSays r ≡ sizedOf d k sizes ⌝ }
 {
-    if !cuts::is_degree(d) {
+    if !outcomes::is_degree(d) {
         return Checked::Refused(Refusal::Degree(d));
     }
     let b = bound_of(d, k);

@@ -7,4 +7,3 @@ pub mod Swept
 pub mod Sweeping
 pub mod Cutlist
 pub mod Progress
-pub mod Degrees

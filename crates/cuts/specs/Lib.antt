@@ -1,5 +1,4 @@
 -- What balancing is, the list after cuts and what finding them promises; then what the parts of the search do.
-pub mod Degree
 pub mod Balance
 pub mod Cuts
 pub mod Ranks

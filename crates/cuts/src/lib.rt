@@ -7,10 +7,7 @@
 mod pieces;
 mod sweep;
 
-ghost use mathlib.Core.Path.{_≡_};
-ghost use mathlib.Core.Bool.{not};
 ghost use Rattle.runs.specs.Runs.{runs};
-ghost use Rattle.cuts.specs.Degree.{noDegree};
 ghost use Rattle.cuts.specs.Cuts.{Cuttable, BalancingCuts};
 
 // A place, and the run that has it.
@@ -23,16 +20,6 @@ struct Origin {
 struct Piece {
     start: u32,
     to: u32,
-}
-
-// Whether test 7 lets the degree pass.
-pub fn is_degree(d: u32) -> bool
-    ensures { λ r. ⌜ r ≡ not (noDegree d) ⌝ }
-{
-    if d < 2 {
-        return false;
-    }
-    d <= 64
 }
 
 // The cuts that balance the list, in rising order in `working`. Answers how many there are. `order` begins with the runs

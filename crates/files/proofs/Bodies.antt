@@ -12,8 +12,8 @@ use Rattle.outcomes.specs.Outcome.{Outcome, done, refused, judge, andThen}
 use Rattle.runs.specs.Runs.{Runs, countOf}
 use Rattle.runs.specs.Check.{maxRuns, unmatched, listTests, testsUpTo, checkOf}
 use Rattle.outcomes.proofs.Judging.{done-refused, judge-append, judge-first, judge-done}
-use Rattle.cuts.specs.Degree.{noDegree}
-use Rattle.cuts.proofs.Degrees.{degree-in, degree-passes}
+use Rattle.outcomes.specs.Degree.{noDegree}
+use Rattle.outcomes.proofs.Degrees.{degree-in, degree-passes}
 use Rattle.files.specs.Words.{wordOf, headerOf, runsAt, runsOf}
 use Rattle.files.specs.File.{headerTests, bodyTests, fileTests, fileOf}
 use Rattle.files.specs.Parts.{Laid, headingOf, degreeOf, listedOf, bodyOf}

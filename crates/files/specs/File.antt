@@ -7,8 +7,8 @@ use lib.ListN.{length}
 use lib.Dec.{ltb, eqb}
 use Rattle.outcomes.specs.Outcome.{Outcome, done, Test, test, judge}
 use Rattle.outcomes.specs.Refusal.{refusalSays}
+use Rattle.outcomes.specs.Degree.{degreeTest}
 use Rattle.runs.specs.Check.{listTests}
-use Rattle.cuts.specs.Degree.{degreeTest}
 use Rattle.files.specs.Words.{wordOf, headerOf, runsOf}
 use Rattle.files.specs.declared.Header.{Header}
 use Rattle.files.specs.declared.FileChecked.{FileChecked}

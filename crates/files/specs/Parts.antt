@@ -4,9 +4,9 @@ use mathlib.Core.Path.{_≡_}
 use mathlib.Core.List.{List, [], _∷_, _++_}
 use lib.ListN.{length}
 use Rattle.outcomes.specs.Outcome.{Outcome, judge, andThen}
+use Rattle.outcomes.specs.Degree.{degreeTest}
 use Rattle.runs.specs.Runs.{Runs}
 use Rattle.runs.specs.Check.{checkOf}
-use Rattle.cuts.specs.Degree.{degreeTest}
 use Rattle.files.specs.Words.{headerOf}
 use Rattle.files.specs.File.{numberTests, layoutTests, headerTests, bodyTests}
 use Rattle.files.specs.declared.Header.{Header}

@@ -33,7 +33,7 @@ pub enum FileChecked {
 fn check_degree(h: Header) -> FileChecked
     ensures { λ r. ⌜ fileSays r ≡ degreeOf h ⌝ }
 {
-    if cuts::is_degree(h.d) {
+    if outcomes::is_degree(h.d) {
         return FileChecked::Read(h);
     }
     FileChecked::Refused(Refusal::Degree(h.d))

@@ -11,11 +11,11 @@ use Rattle.runs.specs.Runs.{Runs, countOf}
 use Rattle.runs.specs.Check.{checkOf}
 use Rattle.outcomes.specs.declared.Refusal.{Refusal}
 use Rattle.outcomes.proofs.Judging.{done-refused, map-then}
+use Rattle.outcomes.specs.Degree.{noDegree}
+use Rattle.outcomes.proofs.Degrees.{degree-in}
 use Rattle.runs.proofs.Accepted.{accepted-legal}
 use Rattle.tables.specs.Tables.{Tables, tablesOf, sizeOf}
 use Rattle.cuts.specs.Balance.{balanced, boundOf}
-use Rattle.cuts.specs.Degree.{noDegree}
-use Rattle.cuts.proofs.Degrees.{degree-in}
 use Rattle.balance.specs.Lent.{Lent, Room, tableSize, firstOf, balancedSays, balanceOf, Balances}
 use Rattle.balance.specs.Plan.{sizesOf, sizedOf, plannedOf}
 use Rattle.balance.proofs.Outcomes.{room-passes, room-less, sized-degree, sized-done, balance-planned}

@@ -1,4 +1,5 @@
--- Laws of lists of tests and of searches.
+-- Laws of lists of tests, of searches and of degrees.
 pub mod Judging
 pub mod Searches
 pub mod Searching
+pub mod Degrees

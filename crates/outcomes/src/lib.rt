@@ -4,6 +4,8 @@
 // definition beside that says in the paper's numbers what each case is.
 
 ghost use mathlib.Core.Path.{_≡_};
+ghost use mathlib.Core.Bool.{not};
+ghost use Rattle.outcomes.specs.Degree.{noDegree};
 ghost use Rattle.outcomes.specs.Refusal.{numberOf, placeOf};
 
 // Why a call is refused. specs/Refusal.antt gives the paper's number and place of each.
@@ -77,4 +79,14 @@ impl Refusal {
 pub enum Checked {
     Accepted,
     Refused(Refusal),
+}
+
+// Whether test 7 lets the degree pass, which balancing and files share: it is about a number alone.
+pub fn is_degree(d: u32) -> bool
+    ensures { λ r. ⌜ r ≡ not (noDegree d) ⌝ }
+{
+    if d < 2 {
+        return false;
+    }
+    d <= 64
 }

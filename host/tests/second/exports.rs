@@ -195,6 +195,18 @@ impl Given {
         assert!(*t == before, "the tables stay");
     }
 
+    fn with(mut self, mut other: Given) -> Given {
+        self.check.append(&mut other.check);
+        self.balance.append(&mut other.balance);
+        self.inverse_list.append(&mut other.inverse_list);
+        self.find.append(&mut other.find);
+        self.step.append(&mut other.step);
+        self.steps.append(&mut other.steps);
+        self.inverse.append(&mut other.inverse);
+        self.weight.append(&mut other.weight);
+        self
+    }
+
     fn all(&self) -> [(&'static str, &BTreeSet<u32>, &'static [u32]); 8] {
         [
             ("check", &self.check, &[0, 1, 2, 3, 4, 5, 6]),
@@ -265,23 +277,45 @@ fn try_list(given: &mut Given, r: &mut Random, k: usize, questions: usize) {
     given.on_list(r, &worse, d);
 }
 
-#[test]
-fn random_lists_and_tables() {
-    let mut given = Given::default();
-    let r = &mut Random::new(1);
+fn short_lists(given: &mut Given, r: &mut Random) {
     for _ in 0..100_000 {
         let k = r.from(1, 40) as usize;
-        try_list(&mut given, r, k, 5);
+        try_list(given, r, k, 5);
     }
+}
+
+fn longer_lists(given: &mut Given, r: &mut Random) {
     for _ in 0..1500 {
         let k = r.from(500, 2000) as usize;
-        try_list(&mut given, r, k, 50);
+        try_list(given, r, k, 50);
     }
+}
+
+fn senseless_tables(given: &mut Given, r: &mut Random) {
     for _ in 0..400_000 {
         let (n, tables) = senseless(r);
         given.on_tables_somewhere(r, n, &tables, 5);
     }
-    longest_lists(&mut given, r);
+}
+
+/// Each part on a thread of its own, with its own random numbers; what they gave, all together.
+fn side_by_side(parts: [fn(&mut Given, &mut Random); 4]) -> Given {
+    std::thread::scope(|scope| {
+        let begin = |(part, seed): (fn(&mut Given, &mut Random), u64)| {
+            scope.spawn(move || {
+                let mut given = Given::default();
+                part(&mut given, &mut Random::new(seed));
+                given
+            })
+        };
+        let running: Vec<_> = parts.into_iter().zip(10..).map(begin).collect();
+        running.into_iter().map(|part| part.join().expect("the part passes")).fold(Given::default(), Given::with)
+    })
+}
+
+#[test]
+fn random_lists_and_tables() {
+    let given = side_by_side([short_lists, longer_lists, senseless_tables, longest_lists]);
     for (export, numbers, possible) in given.all() {
         let missed: Vec<u32> = possible.iter().copied().filter(|number| !numbers.contains(number)).collect();
         assert!(missed.is_empty(), "{export} never gave {missed:?}");

@@ -5,8 +5,8 @@ use Prim.Native.Nat.{ℕ}
 use mathlib.Core.Bool.{Bool, true, false, not}
 use borrow.Author.Tests.{not-true, not-false}
 use Rattle.outcomes.specs.Outcome.{refused}
-use Rattle.cuts.specs.Degree.{noDegree}
-use Rattle.cuts.proofs.Degrees.{degree-in}
+use Rattle.outcomes.specs.Degree.{noDegree}
+use Rattle.outcomes.proofs.Degrees.{degree-in}
 use Rattle.balance.specs.Plan.{shortSizes}
 use Rattle.balance.proofs.Outcomes.{sized-degree, sized-short, sized-done}
 use Rattle.balance.proofs.plan.decide.Statement.{statement}

@@ -5,7 +5,7 @@ use mathlib.Core.Bool.{false}
 use lib.Dec.{ltb}
 use borrow.Author.Tests.{le-ltb, ltb-false}
 use Rattle.order.proofs.Laws.{or-false}
-use Rattle.cuts.specs.Degree.{noDegree}
+use Rattle.outcomes.specs.Degree.{noDegree}
 
 pub degree-in : (d : ℕ) → noDegree d ≡ false → (2 ≤ d) × (d ≤ 64)
 degree-in d e = let i = or-false (ltb d 2) (ltb 64 d) e in (ltb-false d 2 (i .0), ltb-false 64 d (i .1))

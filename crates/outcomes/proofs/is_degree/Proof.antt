@@ -6,8 +6,8 @@ use mathlib.Core.Logic.{_⊎_, inl, inr}
 use lib.Dec.{ltb, leb}
 use borrow.Author.Tests.{lt-ltb, le-ltb, lt-leb, le-leb}
 use Rattle.order.proofs.Laws.{lt-or-le}
-use Rattle.cuts.proofs.is_degree.Statement.{statement}
-use Rattle.cuts.proofs.is_degree.Tie as tie
+use Rattle.outcomes.proofs.is_degree.Statement.{statement}
+use Rattle.outcomes.proofs.is_degree.Tie as tie
 
 returns : tie.Need-returns
 returns c = rw (lt-ltb (c .before .args .d) 2 (c .if1 .taken))
