@@ -9,12 +9,12 @@ use native.Mathlib.Omega.{arith}
 use Rattle.order.proofs.Laws.{lt-or-le}
 use Rattle.outcomes.specs.Outcome.{Outcome, done, refused}
 use Rattle.tables.specs.Tables.{Tables}
-use Rattle.tables.specs.Move.{movedSays, movesOf}
+use Rattle.walks.specs.Move.{movedSays, movesOf}
 use Rattle.bookmarks.specs.Bookmark.{bookmarkOf, markAfter, Advances, Marking, marking, markingOf, markingsOf}
 use Rattle.bookmarks.specs.Parts.{isRefused}
-use Rattle.tables.specs.declared.Step.{Step}
+use Rattle.walks.specs.declared.Step.{Step}
 use Rattle.bookmarks.specs.declared.Bookmark.{Bookmark}
-use Rattle.tables.specs.declared.Moved.{Moved}
+use Rattle.walks.specs.declared.Moved.{Moved}
 
 -- what is promised of a move is one equation
 pub advances-marking : (n : ℕ) (t : Tables) (b : Bookmark) (m : Moved) (left : Bookmark) → Advances n t b m left

@@ -10,12 +10,12 @@ use Rattle.order.proofs.Laws.{lt-or-le, or-false}
 use Rattle.outcomes.specs.Outcome.{Outcome, done, refused, judge, andThen}
 use Rattle.outcomes.proofs.Judging.{judge-append, judge-done}
 use Rattle.tables.specs.Tables.{Tables}
-use Rattle.tables.specs.Move.{movedSays, stepOf, moveOf, moveTests}
+use Rattle.walks.specs.Move.{movedSays, stepOf, moveOf, moveTests}
 use Rattle.bookmarks.specs.Bookmark.{overflows, bookmarkOf, markAfter, Advances}
 use Rattle.bookmarks.specs.Parts.{markOf}
-use Rattle.tables.specs.declared.Step.{Step}
+use Rattle.walks.specs.declared.Step.{Step}
 use Rattle.bookmarks.specs.declared.Bookmark.{Bookmark}
-use Rattle.tables.specs.declared.Moved.{Moved}
+use Rattle.walks.specs.declared.Moved.{Moved}
 
 -- 13
 module _ (b : Bookmark) (s : Step) where

@@ -6,10 +6,10 @@ use mathlib.Core.List.{List, [], _∷_, _++_}
 use lib.Dec.{leb}
 use Rattle.outcomes.specs.Outcome.{Outcome, done, refused, Test, test, judge}
 use Rattle.tables.specs.Tables.{Tables}
-use Rattle.tables.specs.Move.{movedSays, stepOf, moveTests, movesOf}
-use Rattle.tables.specs.declared.Step.{Step}
+use Rattle.walks.specs.Move.{movedSays, stepOf, moveTests, movesOf}
+use Rattle.walks.specs.declared.Step.{Step}
 use Rattle.bookmarks.specs.declared.Bookmark.{Bookmark}
-use Rattle.tables.specs.declared.Moved.{Moved}
+use Rattle.walks.specs.declared.Moved.{Moved}
 use Rattle.bookmarks.specs.declared.Marked.{Marked}
 
 -- a bookmark that has made no move yet

@@ -3,8 +3,8 @@ use mathlib.Core.Path.{_≡_}
 use mathlib.Core.Bool.{Bool, true, false}
 use mathlib.Core.List.{[], _∷_}
 use Rattle.outcomes.specs.Outcome.{Outcome, done, refused, test, judge}
-use Rattle.tables.specs.Move.{movedSays}
-use Rattle.tables.specs.declared.Step.{Step}
+use Rattle.walks.specs.Move.{movedSays}
+use Rattle.walks.specs.declared.Step.{Step}
 use Rattle.bookmarks.specs.Bookmark.{overflows, markAfter}
 use Rattle.bookmarks.specs.declared.Bookmark.{Bookmark}
 use Rattle.bookmarks.specs.declared.Marked.{Marked}

@@ -4,7 +4,7 @@
 // and any tables. On the tables of a legal list a bookmark follows the list's function (demand 2).
 mod marking;
 
-use tables::Moved;
+use walks::Moved;
 ghost use mathlib.Core.Path.{_≡_};
 ghost use Rattle.tables.specs.Tables.{tables};
 ghost use Rattle.bookmarks.specs.Bookmark.{fresh, Advances, markedSays, markingsOf};
@@ -27,7 +27,7 @@ pub struct Marked {
 pub fn advanced(n: u32, starts: &[u32], images: &[u32], holders: &[u32], b: Bookmark) -> Marked
     ensures { λ r. ⌜ Advances n (tables (now (starts .entry)) (now (images .entry)) (now (holders .entry))) b (r .moved) (r .bookmark) ⌝ }
 {
-    match tables::move_query(n, starts, images, holders, b.interval, b.place) {
+    match walks::move_query(n, starts, images, holders, b.interval, b.place) {
         Moved::Refused(r) => Marked {
             bookmark: b,
             moved: Moved::Refused(r),
@@ -65,7 +65,7 @@ pub fn bookmark_moves(
             moves: 0,
             passed: 0,
         },
-        moved: tables::repeated_moves(n, starts, images, holders, x, i, 0),
+        moved: walks::repeated_moves(n, starts, images, holders, x, i, 0),
     };
     let mut made: u32 = 0;
     while made < m {

@@ -2,12 +2,12 @@
 use super::Bookmark;
 use super::Marked;
 use outcomes::Refusal;
-use tables::Moved;
-use tables::Step;
+use walks::Moved;
+use walks::Step;
 ghost use mathlib.Core.Path.{_≡_};
 ghost use Rattle.tables.specs.Tables.{tables};
 ghost use Rattle.bookmarks.specs.Bookmark.{overflows, Advances};
-ghost use Rattle.tables.specs.Move.{movedSays};
+ghost use Rattle.walks.specs.Move.{movedSays};
 ghost use Rattle.bookmarks.specs.Parts.{Marks, isRefused};
 
 // Test 13: whether a counter would pass its width.

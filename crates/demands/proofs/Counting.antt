@@ -14,9 +14,9 @@ use Rattle.outcomes.specs.Outcome.{_then_else_}
 use Rattle.bookmarks.specs.Bookmark.{Marking}
 use Rattle.runs.specs.Runs.{Runs, mapOf}
 use Rattle.demands.specs.Calls.{Call, find, move, moves, total, movesIn, countOfMove, countIn, Bounded}
-use Rattle.tables.specs.Plain.{plainMove, plainMoves}
+use Rattle.walks.specs.Plain.{plainMove, plainMoves}
 use Rattle.demands.specs.PlainWalk.{plainWalk, movesCounts, walkCounts}
-use Rattle.tables.proofs.PlainMoves.{move-below, moves-below}
+use Rattle.walks.proofs.PlainMoves.{move-below, moves-below}
 
 module _ (n : ℕ) (r t : Runs) where
   moves-length : (m p : ℕ) → length (movesCounts n r t m p) ≡ m

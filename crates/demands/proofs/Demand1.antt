@@ -15,10 +15,10 @@ use Rattle.lists.specs.Inverse.{inverseListOf, InverseListed}
 use Rattle.outcomes.specs.declared.Checked.{Checked}
 use Rattle.outcomes.proofs.Judging.{done-refused, map-refused, filled-refused}
 use Rattle.tables.specs.Tables.{sizeOf}
-use Rattle.tables.specs.Move.{findOf, moveOf, movesOf}
+use Rattle.walks.specs.Move.{findOf, moveOf, movesOf}
 use Rattle.preimages.specs.Inverse.{inverseOf}
 use Rattle.weights.specs.Under.{weightOf}
-use Rattle.tables.proofs.Moves.{moves-order}
+use Rattle.walks.proofs.Moves.{moves-order}
 use Rattle.weights.proofs.Stretches.{under-length, under-none}
 use Rattle.bookmarks.specs.Bookmark.{bookmarkOf}
 use Rattle.bookmarks.proofs.Marks.{bookmark-kept}

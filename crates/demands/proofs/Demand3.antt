@@ -14,15 +14,15 @@ use Rattle.runs.specs.Check.{maxRuns}
 use Rattle.runs.proofs.Accepted.{accepted-legal}
 use Rattle.tables.specs.Tables.{tablesOf, maxIntervals}
 use Rattle.bookmarks.specs.Bookmark.{fresh, Marking, markingsOf}
-use Rattle.tables.proofs.LegalTables.{legal-find-beyond}
-use Rattle.tables.specs.Move.{findOf}
+use Rattle.walks.proofs.LegalTables.{legal-find-beyond}
+use Rattle.walks.specs.Move.{findOf}
 use Rattle.cuts.specs.Balance.{balanced}
 use Rattle.balance.proofs.Heads.{answer-is, head-is}
 use Rattle.balance.proofs.Outcomes.{balance-done}
 use Rattle.cuts.proofs.Balancing.{balanced-legal, balanced-map, balanced-light, balanced-count}
 use Rattle.demands.specs.Calls.{Call, total, countIn, Bounded}
-use Rattle.tables.specs.Plain.{maxCount, plainMove, plainMoves}
-use Rattle.tables.proofs.PlainMoves.{count-most}
+use Rattle.walks.specs.Plain.{maxCount, plainMove, plainMoves}
+use Rattle.walks.proofs.PlainMoves.{count-most}
 use Rattle.demands.specs.PlainWalk.{walkCounts, plainTrail}
 use Rattle.demands.specs.Served.{served, servedTrail}
 use Rattle.demands.specs.Demands.{Through, Serves, Demand3}

@@ -9,10 +9,10 @@ use borrow.Author.Tests.{ltb-true, ltb-false, lt-leb, le-leb}
 use Rattle.outcomes.specs.Outcome.{done, refused, judge}
 use Rattle.runs.specs.Runs.{Runs, runAt, mapOf}
 use Rattle.tables.specs.Tables.{Tables}
-use Rattle.tables.specs.Move.{findOf, moveOf, movesOf}
+use Rattle.walks.specs.Move.{findOf, moveOf, movesOf}
 use Rattle.demands.specs.Calls.{Call, find, move, moves, Reply, found, moved}
-use Rattle.tables.specs.Plain.{plainMove, plainMoves}
-use Rattle.tables.proofs.PlainMoves.{moves-interval, moves-below}
+use Rattle.walks.specs.Plain.{plainMove, plainMoves}
+use Rattle.walks.proofs.PlainMoves.{moves-interval, moves-below}
 use Rattle.demands.specs.PlainWalk.{plainFind, plainWalk}
 use Rattle.demands.specs.Served.{served}
 

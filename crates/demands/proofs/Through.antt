@@ -9,15 +9,15 @@ use Rattle.runs.specs.Runs.{Runs, countOf, runAt, mapOf, powerOf}
 use Rattle.runs.specs.Legal.{Legal}
 use Rattle.runs.proofs.Bijection.{map-below, power-below, map-injective, map-onto}
 use Rattle.tables.specs.Tables.{tablesOf, maxIntervals}
-use Rattle.tables.specs.Move.{moveOf, countedAfter}
+use Rattle.walks.specs.Move.{moveOf, countedAfter}
 use Rattle.preimages.specs.Inverse.{inverseOf}
-use Rattle.tables.specs.declared.Step.{Step}
-use Rattle.tables.proofs.LegalTables.{legal-find, legal-move, legal-moves}
+use Rattle.walks.specs.declared.Step.{Step}
+use Rattle.walks.proofs.LegalTables.{legal-find, legal-move, legal-moves}
 use Rattle.preimages.proofs.LegalPreimages.{legal-inverse}
 use Rattle.bookmarks.specs.declared.Bookmark.{Bookmark}
 use Rattle.bookmarks.specs.Bookmark.{fresh, Marking, marking, markingOf, markingsOf}
-use Rattle.tables.specs.Plain.{plainMove, plainMoves}
-use Rattle.tables.proofs.PlainMoves.{count-few, moves-place, moves-below}
+use Rattle.walks.specs.Plain.{plainMove, plainMoves}
+use Rattle.walks.proofs.PlainMoves.{count-few, moves-place, moves-below}
 use Rattle.demands.specs.PlainWalk.{standing}
 use Rattle.demands.specs.Demands.{Through}
 use Rattle.demands.proofs.Marking.{mark-goes}

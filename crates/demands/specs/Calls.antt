@@ -3,7 +3,7 @@ use Prim.Native.Nat.{ℕ, _*_, _≤_}
 use mathlib.Core.List.{List, map}
 use Rattle.order.specs.Lists.{sumOf}
 use Rattle.outcomes.specs.Outcome.{Outcome, done, refused}
-use Rattle.tables.specs.declared.Step.{Step}
+use Rattle.walks.specs.declared.Step.{Step}
 use Rattle.bookmarks.specs.Bookmark.{Marking}
 
 pub data Call : Type 0 where

@@ -14,10 +14,10 @@ use Rattle.runs.specs.Check.{maxRuns, checkTests, checkOf, writeTests}
 use Rattle.lists.specs.Inverse.{inverseRuns, inverseListOf, InverseListed}
 use Rattle.outcomes.specs.declared.Checked.{Checked}
 use Rattle.tables.specs.Tables.{Tables, tablesOf}
-use Rattle.tables.specs.Move.{movedSays, findTests, locateTests, moveTests, passed, stepOf, stayAt, findOf, moveOf, movesOf, Stopped}
+use Rattle.walks.specs.Move.{movedSays, findTests, locateTests, moveTests, passed, stepOf, stayAt, findOf, moveOf, movesOf, Stopped}
 use Rattle.preimages.specs.Inverse.{sourceOf, inverseTests, inverseOf}
 use Rattle.weights.specs.Under.{underTests, underCount, weightOf, startsUnderOf}
-use Rattle.tables.specs.declared.Moved.{Moved}
+use Rattle.walks.specs.declared.Moved.{Moved}
 use Rattle.bookmarks.specs.Bookmark.{bookmarkTests, bookmarkOf, fresh, Advances, marking, markedSays, markingOf, markingsOf}
 use Rattle.bookmarks.specs.declared.Bookmark.{Bookmark}
 use Rattle.bookmarks.specs.declared.Marked.{Marked}
@@ -30,7 +30,7 @@ use Rattle.files.specs.Right.{RightFile}
 use Rattle.files.specs.declared.Header.{Header}
 use Rattle.demands.specs.Judged.{Judged}
 use Rattle.demands.specs.Calls.{Call, total, movesIn, allMoves, countOfMove, countIn, allCounts, Bounded}
-use Rattle.tables.specs.Plain.{maxCount, plainMove, plainMoves}
+use Rattle.walks.specs.Plain.{maxCount, plainMove, plainMoves}
 use Rattle.demands.specs.PlainWalk.{plainWalk, walkCounts, plainTrail, standing}
 use Rattle.demands.specs.Served.{served, servedTrail, Advancing}
 

@@ -9,10 +9,10 @@ use Rattle.outcomes.specs.Outcome.{Outcome, done, refused, judge, mapDone, andT
 use Rattle.runs.specs.Runs.{Runs, runs, countOf, startOf, imageOf, shiftOf}
 use Rattle.runs.specs.Check.{unmatched, unordered, outOfRange, overlap, overlaps, listTests, testsUpTo, checkOf}
 use Rattle.tables.specs.Tables.{Tables, tablesOf, holderOf, misshapen, outside, unheld, broken}
-use Rattle.tables.specs.Move.{passed, walkCount, stepTo, stepOf, moveOf, onwards, movesOf}
+use Rattle.walks.specs.Move.{passed, walkCount, stepTo, stepOf, moveOf, onwards, movesOf}
 use Rattle.preimages.specs.Inverse.{sends, sourceOf, inverseOf}
 use Rattle.runs.specs.Weight.{weight}
-use Rattle.tables.specs.declared.Step.{Step}
+use Rattle.walks.specs.declared.Step.{Step}
 use Rattle.preimages.specs.declared.Source.{Source}
 use Rattle.cuts.specs.Balance.{cutting, balanced}
 

@@ -7,7 +7,7 @@ use lib.Dec.{ltb, leb}
 use Rattle.outcomes.specs.Outcome.{Outcome, done, refused, test, judge, _then_else_}
 use Rattle.runs.specs.Runs.{Runs, runAt, mapOf}
 use Rattle.bookmarks.specs.Bookmark.{Marking, marking}
-use Rattle.tables.specs.Plain.{plainMove, plainMoves}
+use Rattle.walks.specs.Plain.{plainMove, plainMoves}
 use Rattle.bookmarks.specs.declared.Bookmark.{Bookmark}
 use Rattle.demands.specs.Calls.{Call, find, move, moves, Reply, found, moved}
 

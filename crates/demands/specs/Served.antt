@@ -3,9 +3,9 @@ use Prim.Native.Nat.{ℕ, zero, suc}
 use mathlib.Core.List.{List, [], _∷_}
 use Rattle.outcomes.specs.Outcome.{Outcome, done, refused}
 use Rattle.tables.specs.Tables.{Tables}
-use Rattle.tables.specs.Move.{findOf, moveOf, movesOf}
+use Rattle.walks.specs.Move.{findOf, moveOf, movesOf}
 use Rattle.bookmarks.specs.Bookmark.{Advances, Marking, markingOf}
-use Rattle.tables.specs.declared.Step.{Step}
+use Rattle.walks.specs.declared.Step.{Step}
 use Rattle.bookmarks.specs.declared.Bookmark.{Bookmark}
 use Rattle.bookmarks.specs.declared.Marked.{Marked}
 use Rattle.demands.specs.Calls.{Call, find, move, moves, Reply, found, moved}

@@ -4,9 +4,9 @@ use mathlib.Core.Path.{_≡_}
 use native.Mathlib.Omega.{arith}
 use Rattle.outcomes.specs.Outcome.{Outcome, done, refused}
 use Rattle.tables.specs.Tables.{Tables, maxIntervals}
-use Rattle.tables.specs.Move.{moveOf}
-use Rattle.tables.specs.declared.Step.{Step}
-use Rattle.tables.proofs.Moves.{move-count}
+use Rattle.walks.specs.Move.{moveOf}
+use Rattle.walks.specs.declared.Step.{Step}
+use Rattle.walks.proofs.Moves.{move-count}
 use Rattle.export_walks.specs.Answers.{moveAnswer, movesAnswer}
 use Rattle.export_walks.specs.declared.MoveAnswer.{MoveAnswer}
 use Rattle.export_walks.specs.declared.MovesAnswer.{MovesAnswer}

@@ -2,7 +2,7 @@
 -- the refusal, and 0 in every other field.
 use Prim.Native.Nat.{ℕ}
 use Rattle.outcomes.specs.Outcome.{Outcome, done, refused}
-use Rattle.tables.specs.declared.Step.{Step}
+use Rattle.walks.specs.declared.Step.{Step}
 use Rattle.preimages.specs.declared.Source.{Source}
 use Rattle.export_walks.specs.declared.IntervalAnswer.{IntervalAnswer}
 use Rattle.export_walks.specs.declared.WeightAnswer.{WeightAnswer}

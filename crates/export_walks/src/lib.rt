@@ -7,7 +7,7 @@ mod answers;
 
 ghost use mathlib.Core.Path.{_≡_};
 ghost use Rattle.tables.specs.Tables.{tables};
-ghost use Rattle.tables.specs.Move.{findOf, moveOf, movesOf};
+ghost use Rattle.walks.specs.Move.{findOf, moveOf, movesOf};
 ghost use Rattle.preimages.specs.Inverse.{inverseOf};
 ghost use Rattle.weights.specs.Under.{weightOf};
 ghost use Rattle.export_walks.specs.Answers.{findAnswer, moveAnswer, movesAnswer, inverseAnswer, weightAnswer};
@@ -57,7 +57,7 @@ pub extern "C" fn zibewoka_find(
 ) -> IntervalAnswer
     ensures { λ r. ⌜ r ≡ findAnswer place (findOf n (tables (now (starts .entry)) (now (images .entry)) (now (holders .entry))) place) ⌝ }
 {
-    answers::of_find(tables::find(n, starts, images, holders, place), place)
+    answers::of_find(walks::find(n, starts, images, holders, place), place)
 }
 
 // One move from a place of an interval.
@@ -72,7 +72,7 @@ pub extern "C" fn zibewoka_move(
 ) -> MoveAnswer
     ensures { λ r. ⌜ r ≡ moveAnswer (moveOf n (tables (now (starts .entry)) (now (images .entry)) (now (holders .entry))) interval place) ⌝ }
 {
-    let wide = answers::of_moves(tables::move_query(n, starts, images, holders, interval, place));
+    let wide = answers::of_moves(walks::move_query(n, starts, images, holders, interval, place));
     MoveAnswer {
         number: wide.number,
         place: wide.place,
@@ -94,7 +94,7 @@ pub extern "C" fn zibewoka_moves(
 ) -> MovesAnswer
     ensures { λ r. ⌜ r ≡ movesAnswer (movesOf n (tables (now (starts .entry)) (now (images .entry)) (now (holders .entry))) m interval place) ⌝ }
 {
-    answers::of_moves(tables::repeated_moves(n, starts, images, holders, interval, place, m))
+    answers::of_moves(walks::repeated_moves(n, starts, images, holders, interval, place, m))
 }
 
 // The place that a place is reached from, and its interval.

@@ -15,7 +15,7 @@ use Rattle.runs.proofs.Legality.{image-below, own}
 use Rattle.tables.specs.Tables.{Tables, sizeOf, holderOf}
 use Rattle.runs.specs.Weight.{weight}
 use Rattle.weights.specs.Under.{weightOf}
-use Rattle.tables.proofs.LegalTables.{holder-is}
+use Rattle.tables.proofs.LegalShape.{holder-is}
 use Rattle.weights.proofs.LegalWeights.{legal-weight}
 use Rattle.text.specs.Text.{maxSize}
 use Rattle.text.proofs.Signs.{bits-back}

@@ -13,7 +13,7 @@ use Rattle.runs.proofs.Legality.{own}
 use Rattle.runs.proofs.Bijection.{map-onto}
 use Rattle.runs.proofs.Walks.{map-in}
 use Rattle.tables.specs.Tables.{tablesOf, maxIntervals}
-use Rattle.tables.proofs.LegalTables.{shape}
+use Rattle.tables.proofs.LegalShape.{shape}
 use Rattle.preimages.specs.Inverse.{sends, sourceOf, inverseOf}
 use Rattle.preimages.proofs.Sources.{sends-is, inverse-from}
 

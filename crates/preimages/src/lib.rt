@@ -4,7 +4,6 @@
 // list's function (proofs/LegalPreimages).
 use order::wide;
 use outcomes::Refusal;
-use tables::checks;
 ghost use mathlib.Core.Path.{_≡_};
 ghost use Prim.Native.Nat.{_<_};
 ghost use lib.ListN.{length};
@@ -54,7 +53,7 @@ fn first_source(n: u32, starts: &[u32], images: &[u32], j: u32) -> usize
 pub fn inverse(n: u32, starts: &[u32], images: &[u32], holders: &[u32], j: u32) -> Inverted
     ensures { λ r. ⌜ invertedSays r ≡ inverseOf n (tables (now (starts .entry)) (now (images .entry)) (now (holders .entry))) j ⌝ }
 {
-    if checks::is_misshapen(n, starts, images, holders) {
+    if tables::is_misshapen(n, starts, images, holders) {
         return Inverted::Refused(Refusal::TableShape);
     }
     if n <= j {

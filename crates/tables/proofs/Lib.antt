@@ -1,6 +1,3 @@
--- The laws that callers cite, and what the proofs of this crate's functions do.
+-- The laws of the tests, on any tables and on those of a legal list.
 pub mod Passing
-pub mod Steps
-pub mod Moves
-pub mod PlainMoves
-pub mod LegalTables
+pub mod LegalShape

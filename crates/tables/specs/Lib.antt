@@ -1,5 +1,3 @@
--- The definitions of a move table and of the walks through it, in reading order.
+-- The definitions of a move table, and of what is known once tests have passed.
 pub mod Tables
-pub mod Move
-pub mod Plain
 pub mod Parts

@@ -1,14 +1,10 @@
--- What is known once tests have passed, and what is left of a call then: the private functions' contracts cite these.
+-- What is known once tests have passed: the contracts of functions for our own crates cite these.
 use Prim.Native.Nat.{ℕ, _≤_, _<_}
 use mathlib.Core.Path.{_≡_}
 use mathlib.Core.Bool.{false}
-use mathlib.Core.List.{[], _∷_}
 use lib.ListN.{length}
-use Rattle.outcomes.specs.Outcome.{Outcome, judge}
 use Rattle.runs.specs.Runs.{startOf}
-use Rattle.tables.specs.Tables.{Tables, sizeOf, maxIntervals, misshapen, endAt, brokenTest}
-use Rattle.tables.specs.Move.{stepOf}
-use Rattle.tables.specs.declared.Step.{Step}
+use Rattle.tables.specs.Tables.{Tables, sizeOf, maxIntervals, misshapen, endAt}
 
 -- all columns have an entry for each interval
 pub record Columns (t : Tables) : Type 0 where
@@ -39,7 +35,3 @@ pub record Located (n : ℕ) (t : Tables) (x i : ℕ) : Type 0 where
   pub place : i < n
   pub low : startOf (t .list) x ≤ i
   pub high : i < endAt n t x
-
--- what is left of a move then: 12 and the step
-unfoldable pub advanceOf : ℕ → Tables → ℕ → ℕ → Outcome Step
-advanceOf n t x i = judge (brokenTest n t x i ∷ []) (stepOf t x i)

@@ -1,74 +1,40 @@
-// The move table of a run list (starts, images, holders), with any numbers in it, and the walks through it.
-//
-// Each operation's contract is one equation with its definition in specs/, for every input. On the tables of a legal
-// list these are the list's function and its powers (proofs/LegalTables).
-pub mod checks;
-mod walk;
-
+// The move table of a run list (starts, images, holders), with any numbers in it, and the tests that operations on it share:
+// both functions are for our own crates.
 ghost use mathlib.Core.Path.{_≡_};
-ghost use Rattle.tables.specs.Tables.{tables};
-ghost use Rattle.tables.specs.Move.{foundSays, movedSays, findOf, moveOf, movesOf};
+ghost use Rattle.tables.specs.Tables.{tables, misshapen, unheld};
+ghost use Rattle.tables.specs.Parts.{Entered};
 
 // The most intervals that tables may have.
 pub const MAX_INTERVALS: usize = 32768;
 
-// Where a move or a repeated move ends, and how many interval starts it passed.
-pub struct Step {
-    pub place: u32,
-    pub interval: u32,
-    pub count: u64,
-}
-
-pub enum Found {
-    At(u32),
-    Refused(outcomes::Refusal),
-}
-
-pub enum Moved {
-    To(Step),
-    Refused(outcomes::Refusal),
-}
-
-// The interval that a walk from the first one reaches for place i.
-pub fn find(n: u32, starts: &[u32], images: &[u32], holders: &[u32], i: u32) -> Found
-    ensures { λ r. ⌜ foundSays r ≡ findOf n (tables (now (starts .entry)) (now (images .entry)) (now (holders .entry))) i ⌝ }
+// Test 9.
+pub fn is_misshapen(n: u32, starts: &[u32], images: &[u32], holders: &[u32]) -> bool
+    ensures { λ r. ⌜ r ≡ misshapen n (tables (now (starts .entry)) (now (images .entry)) (now (holders .entry))) ⌝ }
 {
-    if checks::is_misshapen(n, starts, images, holders) {
-        return Found::Refused(outcomes::Refusal::TableShape);
+    if n == 0 {
+        return true;
     }
-    if n <= i {
-        return Found::Refused(outcomes::Refusal::PlaceRange(i));
+    if starts.len() == 0 {
+        return true;
     }
-    if i < starts[0] {
-        return Found::Refused(outcomes::Refusal::PlaceRange(i));
+    if starts.len() != images.len() {
+        return true;
     }
-    Found::At((order::stretch_end(starts, 1, i) - 1) as u32)
+    if starts.len() != holders.len() {
+        return true;
+    }
+    MAX_INTERVALS < starts.len()
 }
 
-// One move from place i of interval x.
-pub fn move_query(n: u32, starts: &[u32], images: &[u32], holders: &[u32], x: u32, i: u32) -> Moved
-    ensures { λ r. ⌜ movedSays r ≡ moveOf n (tables (now (starts .entry)) (now (images .entry)) (now (holders .entry))) x i ⌝ }
+// Whether interval x has no holder that can be: test 12 but for what is reached.
+pub fn is_unheld(starts: &[u32], images: &[u32], holders: &[u32], x: u32) -> bool
+    requires { ⌜ Entered (tables (now starts) (now images) (now holders)) x ⌝ }
+    ensures { λ r. ⌜ r ≡ unheld (tables (now (starts .entry)) (now (images .entry)) (now (holders .entry))) x ⌝ }
 {
-    match checks::locate(n, starts, images, holders, x, i) {
-        Moved::Refused(r) => Moved::Refused(r),
-        Moved::To(_) => walk::advance(n, starts, images, holders, x, i),
+    let at = x as usize;
+    let h = holders[at] as usize;
+    if starts.len() <= h {
+        return true;
     }
-}
-
-// m moves from place i of interval x, with the sum of the counts.
-pub fn repeated_moves(
-    n: u32,
-    starts: &[u32],
-    images: &[u32],
-    holders: &[u32],
-    x: u32,
-    i: u32,
-    m: u32,
-) -> Moved
-    ensures { λ r. ⌜ movedSays r ≡ movesOf n (tables (now (starts .entry)) (now (images .entry)) (now (holders .entry))) m x i ⌝ }
-{
-    match checks::locate(n, starts, images, holders, x, i) {
-        Moved::Refused(r) => Moved::Refused(r),
-        Moved::To(_) => walk::moves_from(n, starts, images, holders, x, i, m),
-    }
+    images[at] < starts[h]
 }

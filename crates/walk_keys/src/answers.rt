@@ -3,8 +3,8 @@ use bookmarks::Bookmark;
 use bookmarks::Marked;
 use preimages::Inverted;
 use rows::out;
-use tables::Found;
-use tables::Moved;
+use walks::Found;
+use walks::Moved;
 use weights::Weighed;
 
 pub(crate) fn found(a: Found) {

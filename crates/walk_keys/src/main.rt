@@ -41,9 +41,9 @@ fn call(code: usize, numbers: &[u32], a: &[u32], b: &[u32], c: &[u32]) {
     let q = rows::number(numbers, 2);
     let r = rows::number(numbers, 3);
     match code {
-        23 => answers::found(tables::find(n, a, b, c, p)),
-        133 => answers::moved(tables::move_query(n, a, b, c, p, q)),
-        243 => answers::moved(tables::repeated_moves(n, a, b, c, p, q, r)),
+        23 => answers::found(walks::find(n, a, b, c, p)),
+        133 => answers::moved(walks::move_query(n, a, b, c, p, q)),
+        243 => answers::moved(walks::repeated_moves(n, a, b, c, p, q, r)),
         323 => answers::inverted(preimages::inverse(n, a, b, c, p)),
         423 => answers::weighed(weights::weight(n, a, b, c, p)),
         523 => out::stretch(weights::starts_under(n, a, b, c, p)),

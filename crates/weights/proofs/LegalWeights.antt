@@ -10,7 +10,7 @@ use Rattle.runs.specs.Weight.{under, weight}
 use Rattle.runs.proofs.Legality.{homes}
 use Rattle.runs.proofs.Walks.{under-first, under-count, under-is}
 use Rattle.tables.specs.Tables.{tablesOf, maxIntervals}
-use Rattle.tables.proofs.LegalTables.{shape, holder-is, legal-held}
+use Rattle.tables.proofs.LegalShape.{shape, holder-is, legal-held}
 use Rattle.weights.specs.Under.{underFirst, underCount, weightOf, stretch, startsUnderOf}
 use Rattle.weights.specs.Parts.{stretchOf}
 use Rattle.weights.proofs.Stretches.{placed, weight-indexed}

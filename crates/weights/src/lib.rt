@@ -4,7 +4,6 @@
 // list (proofs/LegalWeights).
 use order::wide;
 use outcomes::Refusal;
-use tables::checks;
 ghost use mathlib.Core.Path.{_≡_};
 ghost use Prim.Native.Nat.{_<_};
 ghost use lib.ListN.{length};
@@ -37,7 +36,7 @@ fn size(n: u32, starts: &[u32], images: &[u32], holders: &[u32], x: u32) -> Weig
     requires { ⌜ Indexed n (tables (now starts) (now images) (now holders)) x ⌝ }
     ensures { λ r. ⌜ weighedSays r ≡ stretchOf n (tables (now (starts .entry)) (now (images .entry)) (now (holders .entry))) x ⌝ }
 {
-    if checks::is_unheld(starts, images, holders, x) {
+    if tables::is_unheld(starts, images, holders, x) {
         return Weighed::Refused(Refusal::BrokenInterval(x));
     }
     let at = x as usize;
@@ -58,7 +57,7 @@ fn size(n: u32, starts: &[u32], images: &[u32], holders: &[u32], x: u32) -> Weig
 pub fn weight(n: u32, starts: &[u32], images: &[u32], holders: &[u32], x: u32) -> Weighed
     ensures { λ r. ⌜ weighedSays r ≡ weightOf n (tables (now (starts .entry)) (now (images .entry)) (now (holders .entry))) x ⌝ }
 {
-    if checks::is_misshapen(n, starts, images, holders) {
+    if tables::is_misshapen(n, starts, images, holders) {
         return Weighed::Refused(Refusal::TableShape);
     }
     if starts.len() <= x as usize {

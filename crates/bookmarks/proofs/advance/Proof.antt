@@ -55,8 +55,8 @@ use Rattle.bookmarks.specs.declared.Marked.{Marked}
 use Rattle.bookmarks.proofs.Held.{Xs, v, Number, Slice}
 use Rattle.bookmarks.proofs.Bookmark as T
 use Rattle.bookmarks.proofs.Bookmark.Laws as T′
-use Rattle.tables.proofs.Moved as S
-use Rattle.tables.proofs.Moved.Laws as S′
+use Rattle.walks.proofs.Moved as S
+use Rattle.walks.proofs.Moved.Laws as S′
 use Rattle.bookmarks.proofs.Marked as N
 use Rattle.bookmarks.proofs.Marked.Laws as N′
 use Rattle.bookmarks.proofs.advanced as adv

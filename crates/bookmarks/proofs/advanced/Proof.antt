@@ -1,7 +1,7 @@
 -- `advanced` meets its contract: by whether the move is refused. All of the work is `move_query`'s and `mark`'s.
 use Rattle.bookmarks.proofs.Marks.{after-refused, bookmark-refused, bookmark-on}
 use Rattle.bookmarks.specs.Bookmark.{markAfter}
-use Rattle.tables.specs.Move.{movedSays}
+use Rattle.walks.specs.Move.{movedSays}
 use mathlib.Core.Path.{sym, ap, _∙_}
 use borrow.Author.Needs.{needs}
 use Rattle.bookmarks.proofs.advanced.Statement.{statement}

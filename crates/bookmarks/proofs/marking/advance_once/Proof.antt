@@ -50,13 +50,13 @@ use denote.Exit.{yes}
 use Rattle.tables.specs.Tables.{tables as tablesIn}
 use Rattle.bookmarks.specs.Bookmark.{Advances}
 use Rattle.bookmarks.specs.declared.Bookmark.{Bookmark}
-use Rattle.tables.specs.declared.Moved.{Moved}
+use Rattle.walks.specs.declared.Moved.{Moved}
 use Rattle.bookmarks.specs.declared.Marked.{Marked}
 use Rattle.bookmarks.proofs.Held.{Xs, v, Number, Slice}
 use Rattle.bookmarks.proofs.Bookmark as T
 use Rattle.bookmarks.proofs.Bookmark.Laws as T′
-use Rattle.tables.proofs.Moved as S
-use Rattle.tables.proofs.Moved.Laws as S′
+use Rattle.walks.proofs.Moved as S
+use Rattle.walks.proofs.Moved.Laws as S′
 use Rattle.bookmarks.proofs.Marked as N
 use Rattle.bookmarks.proofs.Marked.Laws as N′
 use Rattle.bookmarks.proofs.advance as adv

@@ -1,7 +1,7 @@
 -- `answers::of_find` meets its contract, an arm for each variant.
 use borrow.Author.Needs.{needs}
 use mathlib.Core.Path.{sym, ap}
-use Rattle.tables.specs.Move.{foundSays}
+use Rattle.walks.specs.Move.{foundSays}
 use Rattle.export_walks.specs.Answers.{findAnswer}
 use Rattle.export_walks.proofs.answers.of_find.Statement.{statement}
 use Rattle.export_walks.proofs.answers.of_find.Tie as tie

@@ -1,7 +1,7 @@
 -- `answers::of_moves` meets its contract, an arm for each variant.
 use borrow.Author.Needs.{needs}
 use mathlib.Core.Path.{sym, ap}
-use Rattle.tables.specs.Move.{movedSays}
+use Rattle.walks.specs.Move.{movedSays}
 use Rattle.export_walks.specs.Answers.{movesAnswer}
 use Rattle.export_walks.proofs.answers.of_moves.Statement.{statement}
 use Rattle.export_walks.proofs.answers.of_moves.Tie as tie

@@ -3,8 +3,8 @@ use Rattle.tables.proofs.Passing.{unheld-index, unheld-start}
 use native.Mathlib.Omega.{arith}
 use mathlib.Core.Path.{sym}
 use borrow.Author.Needs.{needs}
-use Rattle.tables.proofs.checks.is_unheld.Statement.{statement}
-use Rattle.tables.proofs.checks.is_unheld.Tie as tie
+use Rattle.tables.proofs.is_unheld.Statement.{statement}
+use Rattle.tables.proofs.is_unheld.Tie as tie
 
 mul-h : tie.Need-mul-h
 mul-h c = search needs

@@ -14,7 +14,7 @@ use Rattle.runs.specs.Weight.{weight}
 use Rattle.runs.proofs.Sums.{length-keep}
 use Rattle.runs.proofs.Legality.{homes, home, run-at}
 use Rattle.runs.proofs.Walks.{above-to, walk-bound}
-use Rattle.tables.specs.Plain.{plainCount, maxCount, plainMove, plainMoves}
+use Rattle.walks.specs.Plain.{plainCount, maxCount, plainMove, plainMoves}
 
 module _ (n : ℕ) (r t : Runs) where
   pub moves-interval : (m p : ℕ) → plainMoves n r t m p .interval ≡ runAt n t (plainMoves n r t m p .place)

@@ -6,8 +6,8 @@ use lib.ListN.{length}
 use lib.Dec.{ltb, leb}
 use Rattle.outcomes.specs.Search.{keep}
 use Rattle.runs.specs.Runs.{Runs, imageOf, runAt, mapOf}
-use Rattle.tables.specs.Move.{countedAfter}
-use Rattle.tables.specs.declared.Step.{Step}
+use Rattle.walks.specs.Move.{countedAfter}
+use Rattle.walks.specs.declared.Step.{Step}
 
 -- what a move from p to q counts: the starts of t that lie above the image of t's interval that has p, and not above q
 abbrev pub plainCount : ℕ → Runs → ℕ → ℕ → ℕ

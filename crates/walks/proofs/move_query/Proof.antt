@@ -1,10 +1,10 @@
 -- `move_query` meets its contract: tests 9 to 11, and what is left of a move where they pass.
-use Rattle.tables.proofs.Steps.{located, move-refused, move-located}
-use Rattle.tables.specs.Move.{movedSays}
+use Rattle.walks.proofs.Steps.{located, move-refused, move-located}
+use Rattle.walks.specs.Move.{movedSays}
 use mathlib.Core.Path.{sym, ap, _∙_}
 use borrow.Author.Needs.{needs}
-use Rattle.tables.proofs.move_query.Statement.{statement}
-use Rattle.tables.proofs.move_query.Tie as tie
+use Rattle.walks.proofs.move_query.Statement.{statement}
+use Rattle.walks.proofs.move_query.Tie as tie
 
 locate-requires : tie.Need-locate-requires
 locate-requires c κs = search needs

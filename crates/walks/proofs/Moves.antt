@@ -15,14 +15,15 @@ use Rattle.order.proofs.Laws.{lt-or-le, getD-default}
 use Rattle.outcomes.specs.Outcome.{Outcome, done, refused, judge, mapDone, andThen, _then_else_}
 use Rattle.order.specs.Lists.{leading}
 use Rattle.runs.specs.Runs.{carry}
 use Rattle.tables.specs.Tables.{Tables, holderOf, maxIntervals, unheld, broken, brokenTest}
-use Rattle.tables.specs.Move.{passed, walkCount, stepTo, stayAt, stepOf, moveOf, movesOf, countedAfter, onwards, Stopped}
-use Rattle.tables.specs.Parts.{Shaped, Located, advanceOf}
-use Rattle.tables.specs.declared.Step.{Step}
+use Rattle.walks.specs.Move.{passed, walkCount, stepTo, stayAt, stepOf, moveOf, movesOf, countedAfter, onwards, Stopped}
+use Rattle.tables.specs.Parts.{Shaped, Located}
+use Rattle.walks.specs.Parts.{advanceOf}
+use Rattle.walks.specs.declared.Step.{Step}
 use Rattle.outcomes.proofs.Judging.{done-refused, judge-first}
 use Rattle.order.proofs.Leading.{leading-within, leading-last, leading-next}
 use Rattle.tables.proofs.Passing.{whole-is, held-is}
-use Rattle.tables.proofs.Steps.{locate-in, located, move-is, move-located, advance-broken}
+use Rattle.walks.proofs.Steps.{locate-in, located, move-is, move-located, advance-broken}
 
 -- where the walk from interval h to place j ends
 module _ (l : List ℕ) (h j : ℕ) (i : h < length l) where

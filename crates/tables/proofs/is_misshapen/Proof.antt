@@ -1,8 +1,8 @@
 -- `is_misshapen` meets its contract: its branches are the alternatives of `misshapen`, in order.
 use borrow.Author.Tests.{eq-eqb, ne-eqb}
 use Rattle.tables.specs.Tables.{misshapen}
-use Rattle.tables.proofs.checks.is_misshapen.Statement.{statement}
-use Rattle.tables.proofs.checks.is_misshapen.Tie as tie
+use Rattle.tables.proofs.is_misshapen.Statement.{statement}
+use Rattle.tables.proofs.is_misshapen.Tie as tie
 
 returns : tie.Need-returns
 unfolding misshapen

@@ -1,14 +1,15 @@
 // A move from a place that lies in its interval, and many of them.
 use super::Moved;
 use super::Step;
-use super::checks;
+use super::locating;
 use order::wide;
 use outcomes::Refusal;
 ghost use mathlib.Core.Path.{_≡_};
 ghost use Prim.Native.Nat.{_+_, _<_};
 ghost use Rattle.tables.specs.Tables.{tables};
-ghost use Rattle.tables.specs.Move.{movedSays, movesOf, countedAfter};
-ghost use Rattle.tables.specs.Parts.{Located, advanceOf};
+ghost use Rattle.walks.specs.Move.{movedSays, movesOf, countedAfter};
+ghost use Rattle.tables.specs.Parts.{Located};
+ghost use Rattle.walks.specs.Parts.{advanceOf};
 
 // Test 12 and the step, from a place that lies in interval x.
 pub(crate) fn advance(
@@ -22,7 +23,7 @@ pub(crate) fn advance(
     requires { ⌜ Located n (tables (now starts) (now images) (now holders)) x i ⌝ }
     ensures { λ r. ⌜ movedSays r ≡ advanceOf n (tables (now (starts .entry)) (now (images .entry)) (now (holders .entry))) x i ⌝ }
 {
-    if checks::is_unheld(starts, images, holders, x) {
+    if tables::is_unheld(starts, images, holders, x) {
         return Moved::Refused(Refusal::BrokenInterval(x));
     }
     let at = x as usize;
@@ -65,7 +66,7 @@ pub(crate) fn moves_from(
     requires { ⌜ Located n (tables (now starts) (now images) (now holders)) x i ⌝ }
     ensures { λ r. ⌜ movedSays r ≡ movesOf n (tables (now (starts .entry)) (now (images .entry)) (now (holders .entry))) m x i ⌝ }
 {
-    let mut step = checks::stay(x, i);
+    let mut step = locating::stay(x, i);
     let mut made: u32 = 0;
     while made < m {
         match advance(n, starts, images, holders, step.interval, step.place) {

@@ -1,10 +1,10 @@
 -- `find` meets its contract: an outcome law for each way to return.
-use Rattle.tables.proofs.Steps.{find-shape, find-far, find-low, find-at}
+use Rattle.walks.proofs.Steps.{find-shape, find-far, find-low, find-at}
 use Rattle.tables.proofs.Passing.{shaped}
 use native.Mathlib.Omega.{arith}
 use borrow.Author.Needs.{needs}
-use Rattle.tables.proofs.find.Statement.{statement}
-use Rattle.tables.proofs.find.Tie as tie
+use Rattle.walks.proofs.find.Statement.{statement}
+use Rattle.walks.proofs.find.Tie as tie
 
 is-misshapen-requires : tie.Need-is-misshapen-requires
 is-misshapen-requires c κs = search needs

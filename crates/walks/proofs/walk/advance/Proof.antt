@@ -1,11 +1,11 @@
 -- `advance` meets its contract: an outcome law for each way to return.
-use Rattle.tables.proofs.Steps.{advance-broken, advance-end}
+use Rattle.walks.proofs.Steps.{advance-broken, advance-end}
 use Rattle.tables.proofs.Passing.{broken-unheld, broken-far, whole, held-is}
 use native.Mathlib.Omega.{arith}
 use mathlib.Core.Path.{sym, _∙_}
 use borrow.Author.Needs.{needs}
-use Rattle.tables.proofs.walk.advance.Statement.{statement}
-use Rattle.tables.proofs.walk.advance.Tie as tie
+use Rattle.walks.proofs.walk.advance.Statement.{statement}
+use Rattle.walks.proofs.walk.advance.Tie as tie
 
 is-unheld-requires : tie.Need-is-unheld-requires
 is-unheld-requires c κs = search needs

@@ -1,12 +1,12 @@
 -- `repeated_moves` meets its contract: tests 9 to 11 once, and the moves where they pass.
-use Rattle.tables.proofs.Moves.{moves-refused}
-use Rattle.tables.proofs.Steps.{located}
-use Rattle.tables.specs.Move.{movedSays}
+use Rattle.walks.proofs.Moves.{moves-refused}
+use Rattle.walks.proofs.Steps.{located}
+use Rattle.walks.specs.Move.{movedSays}
 use native.Mathlib.Omega.{arith}
 use mathlib.Core.Path.{sym, ap, _∙_}
 use borrow.Author.Needs.{needs}
-use Rattle.tables.proofs.repeated_moves.Statement.{statement}
-use Rattle.tables.proofs.repeated_moves.Tie as tie
+use Rattle.walks.proofs.repeated_moves.Statement.{statement}
+use Rattle.walks.proofs.repeated_moves.Tie as tie
 
 locate-requires : tie.Need-locate-requires
 locate-requires c κs = search needs

@@ -9,12 +9,12 @@ use Rattle.outcomes.specs.Outcome.{Outcome, done, refused, Test, test, judge, m
 use Rattle.outcomes.specs.Refusal.{refusalSays}
 use Rattle.order.specs.Lists.{leading}
 use Rattle.runs.specs.Runs.{startOf, carry}
 use Rattle.tables.specs.Tables.{Tables, holderOf, shapeTest, indexTest, placeTest, brokenTest}
-use Rattle.tables.specs.declared.Step.{Step}
-use Rattle.tables.specs.declared.Found.{Found}
-use Rattle.tables.specs.declared.Found.the-variants.{At, Refused as NotFound}
-use Rattle.tables.specs.declared.Moved.{Moved}
-use Rattle.tables.specs.declared.Moved.the-variants.{To, Refused as NotMoved}
+use Rattle.walks.specs.declared.Step.{Step}
+use Rattle.walks.specs.declared.Found.{Found}
+use Rattle.walks.specs.declared.Found.the-variants.{At, Refused as NotFound}
+use Rattle.walks.specs.declared.Moved.{Moved}
+use Rattle.walks.specs.declared.Moved.the-variants.{To, Refused as NotMoved}
 
 -- the outcome that each answer is
 abbrev pub foundSays : Found → Outcome ℕ

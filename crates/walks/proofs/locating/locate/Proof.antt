@@ -1,13 +1,13 @@
 -- `locate` meets its contract: an outcome law for each way to return.
-use Rattle.tables.proofs.Steps.{locate-shape, locate-index, locate-place, locate-in}
+use Rattle.walks.proofs.Steps.{locate-shape, locate-index, locate-place, locate-in}
 use Rattle.tables.proofs.Passing.{shaped, outside-far, outside-low, outside-high}
 use Rattle.order.proofs.Laws.{entry-after}
 use mathlib.Core.Path.{ap, _∙_}
 use native.Mathlib.Omega.{arith}
 use Rattle.outcomes.specs.Outcome.{done}
 use borrow.Author.Needs.{needs}
-use Rattle.tables.proofs.checks.locate.Statement.{statement}
-use Rattle.tables.proofs.checks.locate.Tie as tie
+use Rattle.walks.proofs.locating.locate.Statement.{statement}
+use Rattle.walks.proofs.locating.locate.Tie as tie
 
 is-misshapen-requires : tie.Need-is-misshapen-requires
 is-misshapen-requires c κs = search needs

@@ -12,12 +12,13 @@ use borrow.Author.Tests.{lt-ltb, le-ltb, le-leb, lt-leb, leb-false}
 use Rattle.outcomes.specs.Outcome.{done, refused, judge, andThen}
 use Rattle.order.specs.Lists.{leading}
 use Rattle.runs.specs.Runs.{startOf, carry}
 use Rattle.tables.specs.Tables.{Tables, sizeOf, holderOf, misshapen, outside, broken, shapeTest, indexTest, placeTest, brokenTest}
-use Rattle.tables.specs.Move.{passed, walkCount, stepTo, stayAt, findOf, stepOf, moveOf, movesOf, locateTests}
-use Rattle.tables.specs.Parts.{Shaped, Indexed, Located, advanceOf}
-use Rattle.tables.specs.declared.Step.{Step}
+use Rattle.walks.specs.Move.{passed, walkCount, stepTo, stayAt, findOf, stepOf, moveOf, movesOf, locateTests}
+use Rattle.tables.specs.Parts.{Shaped, Indexed, Located}
+use Rattle.walks.specs.Parts.{advanceOf}
+use Rattle.walks.specs.declared.Step.{Step}
 use Rattle.outcomes.proofs.Judging.{judge-append, judge-first}
 use Rattle.tables.proofs.Passing.{shaped, inside, inside-is}
 
 -- find
 module _ (n : ℕ) (t : Tables) (i : ℕ) where

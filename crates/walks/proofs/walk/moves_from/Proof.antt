@@ -1,14 +1,14 @@
 -- `moves_from` meets its contract. The invariant is `Walking`: the place lies in its interval, and the step is what so
 -- many moves come to.
-use Rattle.tables.proofs.Moves.{Walking, walking-start, walking-fits, walking-more, walking-refused, walking-end}
-use Rattle.tables.specs.Move.{movedSays}
+use Rattle.walks.proofs.Moves.{Walking, walking-start, walking-fits, walking-more, walking-refused, walking-end}
+use Rattle.walks.specs.Move.{movedSays}
 use Rattle.tables.specs.Tables.{tables}
 use borrow.Author.Needs.{needs}
 use native.Mathlib.Omega.{arith}
 use mathlib.Core.Path.{sym, ap, _∙_}
 use Prim.Native.Nat.{_-_}
-use Rattle.tables.proofs.walk.moves_from.Statement.{statement}
-use Rattle.tables.proofs.walk.moves_from.Tie as tie
+use Rattle.walks.proofs.walk.moves_from.Statement.{statement}
+use Rattle.walks.proofs.walk.moves_from.Tie as tie
 
 abbrev Inv-loop : tie.InvT-loop
 Inv-loop n starts images holders x i m step₀ made₀ step made =

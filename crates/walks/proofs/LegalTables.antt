@@ -1,0 +1,70 @@
+-- Through the tables of a legal list, balanced or not, the walks give the list's function and its powers; no call on a
+-- place below n is refused. A holder is the index of the run that has the image, so a walk from it passes the starts up to
+-- the place reached (Walks).
+use Prim.Native.Nat.{ℕ, zero, suc, _+_, _≤_, _<_}
+use mathlib.Core.Path.{_≡_, refl, sym, ap, _∙_}
+use native.Mathlib.Omega.{arith}
+use Rattle.outcomes.specs.Outcome.{done, refused, mapDone, andThen}
+use Rattle.runs.specs.Runs.{Runs, countOf, imageOf, endOf, runAt, mapOf}
+use Rattle.runs.specs.Legal.{Legal}
+use Rattle.runs.proofs.Legality.{homes, run-at, own}
+use Rattle.runs.proofs.Bijection.{map-below}
+use Rattle.tables.specs.Tables.{tablesOf, maxIntervals}
+use Rattle.walks.specs.Move.{passed, walkCount, stepTo, stepOf, findOf, moveOf, movesOf, onwards}
+use Rattle.walks.specs.Plain.{plainCount, plainMove, plainMoves}
+use Rattle.tables.proofs.Passing.{whole}
+use Rattle.tables.proofs.LegalShape.{shape, legal-located, holder-is, legal-held}
+use Rattle.walks.proofs.Steps.{find-far, find-at, locate-in, move-located, advance-on}
+use Rattle.walks.proofs.PlainMoves.{moves-interval, moves-below}
+use Rattle.runs.proofs.Walks.{walk-passed, walk-count, above-to, map-in}
+
+module _ (n : ℕ) (r : Runs) (c : Legal n r) (few : countOf r ≤ maxIntervals) where
+  -- find gives the run that has the place
+  pub legal-find : (p : ℕ) → p < n → findOf n (tablesOf n r) p ≡ done (runAt n r p)
+  legal-find p h =
+      let l : 0 < endOf n r 0 = omega (arith, homes n r c .lasting 0 (c .some)) in
+      let z : runAt n r 0 ≡ 0 = run-at n r (homes n r c) 0 0 (c .some) (omega (arith, c .first)) l in
+      let w = rw z at (walk-passed n r (homes n r c) 0 p (omega arith) h) in
+      sym (find-at n (tablesOf n r) p (shape n r c few) h (omega (arith, c .first)) (runAt n r p) (omega arith))
+
+  pub legal-find-beyond : (i : ℕ) → n ≤ i → findOf n (tablesOf n r) i ≡ refused 11 i
+  legal-find-beyond i h = sym (find-far n (tablesOf n r) i (shape n r c few) h)
+
+  -- a move gives the function's value, the run that has it, and the starts above the image and not above it
+  module _ (p : ℕ) (h : p < n) where
+    legal-count : walkCount (r .starts) (runAt n r (imageOf r (runAt n r p))) (mapOf n r p) ≡ plainCount n r p (mapOf n r p)
+    unfolding walkCount passed
+    legal-count =
+        let i = imageOf r (runAt n r p) in
+        let j = map-in n r c p h in
+        let w = walk-passed n r (homes n r c) i (mapOf n r p) (j .0) (j .2) in
+        omega (arith, walk-count n r (homes n r c) i (mapOf n r p) (j .0) (j .2), above-to i (mapOf n r p) (r .starts))
+
+    legal-interval : runAt n r (imageOf r (runAt n r p)) + passed (r .starts) (runAt n r (imageOf r (runAt n r p))) (mapOf n r p)
+        ≡ runAt n r (mapOf n r p)
+    unfolding passed
+    legal-interval =
+        let i = imageOf r (runAt n r p) in
+        let j = map-in n r c p h in
+        omega (arith, walk-passed n r (homes n r c) i (mapOf n r p) (j .0) (j .2))
+
+    legal-step : stepOf (tablesOf n r) (runAt n r p) p ≡ plainMove n r r p
+    unfolding stepOf stepTo plainMove
+    legal-step =
+        rw (holder-is n r c few (runAt n r p) (own n r c p h .0))
+        (λ i. record { place = mapOf n r p; interval = legal-interval i; count = legal-count i })
+
+    pub legal-move : moveOf n (tablesOf n r) (runAt n r p) p ≡ done (plainMove n r r p)
+    legal-move =
+        let b = whole n (tablesOf n r) (runAt n r p) p (legal-held n r c few (runAt n r p) (own n r c p h .0)) (map-in n r c p h .2) in
+        move-located n (tablesOf n r) (runAt n r p) p (legal-located n r c few p h)
+        ∙ sym (advance-on n (tablesOf n r) (runAt n r p) p b)
+        ∙ ap done legal-step
+
+  -- repeated moves give the m-fold function, the run that has its value, and the sum of the counts
+  pub legal-moves : (m p : ℕ) → p < n → movesOf n (tablesOf n r) m (runAt n r p) p ≡ done (plainMoves n r r m p)
+  unfolding movesOf onwards andThen mapDone plainMoves
+  legal-moves zero p h = sym (locate-in n (tablesOf n r) (runAt n r p) p (legal-located n r c few p h))
+  legal-moves (suc m) p h =
+      let s = plainMoves n r r m p in
+      rw (legal-moves m p h, moves-interval n r r m p, legal-move (s .place) (moves-below n r r (map-below n r c) m p h))

@@ -1,0 +1,5 @@
+-- The laws of the walks.
+pub mod Steps
+pub mod Moves
+pub mod PlainMoves
+pub mod LegalTables

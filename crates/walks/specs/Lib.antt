@@ -1,0 +1,4 @@
+-- The definitions of the walks, in reading order.
+pub mod Move
+pub mod Plain
+pub mod Parts

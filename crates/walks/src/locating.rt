@@ -1,0 +1,48 @@
+// The tests of 9 to 11 that a move begins with, and where no moves lead.
+use super::Moved;
+use super::Step;
+use outcomes::Refusal;
+ghost use mathlib.Core.Path.{_≡_};
+ghost use Rattle.tables.specs.Tables.{tables};
+ghost use Rattle.walks.specs.Move.{movedSays, movesOf, stayAt};
+
+// Where no moves lead.
+pub(crate) fn stay(x: u32, i: u32) -> Step
+    ensures { λ r. ⌜ r ≡ stayAt x i ⌝ }
+{
+    Step {
+        place: i,
+        interval: x,
+        count: 0,
+    }
+}
+
+// Tests 9 to 11, and no move.
+pub(crate) fn locate(
+    n: u32,
+    starts: &[u32],
+    images: &[u32],
+    holders: &[u32],
+    x: u32,
+    i: u32,
+) -> Moved
+    ensures { λ r. ⌜ movedSays r ≡ movesOf n (tables (now (starts .entry)) (now (images .entry)) (now (holders .entry))) 0 x i ⌝ }
+{
+    if tables::is_misshapen(n, starts, images, holders) {
+        return Moved::Refused(Refusal::TableShape);
+    }
+    let at = x as usize;
+    if starts.len() <= at {
+        return Moved::Refused(Refusal::IntervalIndex(x));
+    }
+    if n <= i {
+        return Moved::Refused(Refusal::PlaceRange(i)); // not below n
+    }
+    if i < starts[at] {
+        return Moved::Refused(Refusal::PlaceRange(i)); // below x's start
+    }
+    if order::entry_or(starts, at + 1, n) <= i {
+        return Moved::Refused(Refusal::PlaceRange(i)); // not below x's end
+    }
+    Moved::To(stay(x, i))
+}
