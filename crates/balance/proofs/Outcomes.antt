@@ -6,10 +6,8 @@ use mathlib.Core.List.{List, [], _∷_, _++_, map}
 use native.Mathlib.Omega.{arith}
 use lib.ListN.{length, take, drop, replicate, length-replicate}
 use lib.Seq.{drop-drop}
-use lib.Dec.{ltb}
-use borrow.Author.Tests.{le-ltb, ltb-false}
 use Rattle.order.specs.Lists.{All}
-use Rattle.order.proofs.Laws.{or-false, all-split}
+use Rattle.order.proofs.Laws.{all-split}
 use Rattle.outcomes.specs.Outcome.{Outcome, done, refused, test, Long, judge, andThen, mapDone, filled, over}
 use Rattle.outcomes.specs.Refusal.{refusalSays}
 use Rattle.outcomes.specs.declared.Refusal.{Refusal}
@@ -30,7 +28,7 @@ use Rattle.balance.specs.Plan.{sizesOf, allSizes, shortSizes, sizedOf, p
 use Rattle.balance.specs.Parts.{TablesWritten, Fillable, Filled}
 use Rattle.balance.specs.declared.Balanced.the-variants.{Intervals, Refused}
 use Rattle.balance.specs.declared.Sizes.{Sizes}
-use Rattle.balance.proofs.Writing.{legal-count}
+use Rattle.balance.proofs.Writing.{runs-below}
 
 -- the lent tables with another working table
 abbrev with-working : Lent → List ℕ → Lent
@@ -221,7 +219,7 @@ module _ (n : ℕ) (r : Runs) (d : ℕ) (l : Lent) (p : plannedOf n r d (sizesOf
 module _ (n : ℕ) (r : Runs) (d c : ℕ) (l : Lent) (f : Fillable n r d c l) where
   pub cuts-fit : countOf r + c ≤ n
   cuts-fit =
-      omega (arith, f .cuts .counted, legal-count n (balanced d n r) (balanced-legal d n (f .low) r (f .legal)))
+      omega (arith, f .cuts .counted, runs-below n (balanced d n r) (balanced-legal d n (f .low) r (f .legal)))
 
   pub cuts-few : countOf r + c ≤ tableSize d (countOf r)
   cuts-few = omega (arith, f .cuts .counted, balanced-count d n (f .low) r (f .legal))

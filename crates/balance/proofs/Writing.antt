@@ -33,8 +33,8 @@ has-counted n r c p k h e = go (home n r (homes n r c) p h)
         (omega (arith, run-below n r (homes n r c) p h), rw f (record { known = hx; from = a; to = b }))
 
 -- there are no more runs than places
-pub legal-count : (n : ℕ) (r : Runs) → Legal n r → countOf r ≤ n
-legal-count n r c = strict-length n (r .starts) (homes n r c .up) (at-all (λ y. y < n) (r .starts) (c .below))
+pub runs-below : (n : ℕ) (r : Runs) → Legal n r → countOf r ≤ n
+runs-below n r c = strict-length n (r .starts) (homes n r c .up) (at-all (λ y. y < n) (r .starts) (c .below))
 
 -- the holder of an image, by counting the starts up to it
 pub holder-counted : (n : ℕ) (r : Runs) → Legal n r → (x : ℕ) → x < countOf r

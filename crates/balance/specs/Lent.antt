@@ -33,7 +33,7 @@ lentColumns l = allColumns (l .tables) ++ (l .working ∷ [])
 abbrev pub firstOf : ℕ → Lent → Tables
 firstOf k l = eachColumn (take k) (l .tables)
 
--- how many entries each of the three tables must have for k runs, and how many the working table: B, both of them
+-- how many entries each table that is lent must have for k runs, and how many of the working table are cleared: B, both
 abbrev pub tableSize : ℕ → ℕ → ℕ
 tableSize d k = boundOf d k
 

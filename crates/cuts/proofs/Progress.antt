@@ -19,7 +19,7 @@ use Rattle.runs.specs.Weight.{weight}
 use Rattle.runs.proofs.Walks.{weight-is, run-below, under-at, weight-less}
 use Rattle.cuts.specs.Balance.{cutPlace, cutAt}
 use Rattle.merging.specs.Merged.{merged, Starts}
-use Rattle.merging.specs.Marks.{Skips}
+use Rattle.cuts.specs.Marks.{Skips}
 use Rattle.cuts.specs.Cuts.{withCuts, BalancingCuts}
 use Rattle.cuts.specs.Parts.{Begins, PieceAt, Covers}
 use Rattle.merging.specs.declared.Mark.{Mark}

@@ -1,5 +1,6 @@
 -- What balancing is, the list after cuts and what finding them promises; then what the parts of the search do.
 pub mod Balance
 pub mod Cuts
+pub mod Marks
 pub mod Ranks
 pub mod Parts

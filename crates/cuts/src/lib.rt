@@ -4,6 +4,7 @@
 // What balancing is stands in specs/Balance, and what `find_cuts` asks and promises in specs/Cuts. It is for crates that
 // have had the list checked.
 
+mod marks;
 mod pieces;
 mod sweep;
 

@@ -1,4 +1,5 @@
 // The cuts that balance a list.
+use super::marks;
 use super::pieces;
 use merging::Mark;
 ghost use Prim.Native.Nat.{_≤_};
@@ -31,14 +32,14 @@ pub(crate) fn sweep(
     let mut mark = Mark { starts: 0, cuts: 0 };
     while p < n {
         let piece = pieces::piece_at(n, starts, images, order, ranked, &working[..cuts], p);
-        let middle = merging::skip(n, starts, &working[..cuts], mark, d, piece.to);
-        let last = merging::skip(n, starts, &working[..cuts], middle, d, piece.to);
+        let middle = marks::skip(n, starts, &working[..cuts], mark, d, piece.to);
+        let last = marks::skip(n, starts, &working[..cuts], middle, d, piece.to);
         if last.starts + last.cuts < mark.starts + mark.cuts + 2 * d {
             if p == q {
                 q = piece.to;
                 mark = last;
             } else {
-                mark = merging::mark_at(starts, &working[..cuts], q);
+                mark = marks::mark_at(starts, &working[..cuts], q);
             }
             p = q;
         } else {
@@ -49,7 +50,7 @@ pub(crate) fn sweep(
             if u < q {
                 p = pieces::image_around(n, starts, images, order, ranked, &working[..cuts], u);
             }
-            mark = merging::mark_at(starts, &working[..cuts], p);
+            mark = marks::mark_at(starts, &working[..cuts], p);
         }
     }
     cuts

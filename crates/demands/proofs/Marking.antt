@@ -10,16 +10,15 @@ use native.Mathlib.Nat.{mul-le-mul-left}
 use borrow.Author.Tests.{le-leb, lt-leb}
 use Rattle.order.specs.Lists.{All}
 use Rattle.order.proofs.Laws.{lt-or-le}
-use Rattle.outcomes.specs.Outcome.{Outcome, done, refused}
+use Rattle.outcomes.specs.Outcome.{done, refused}
 use Rattle.runs.specs.Runs.{Runs, runAt, mapOf}
 use Rattle.tables.specs.Tables.{Tables, maxIntervals}
 use Rattle.walks.specs.Move.{moveOf}
-use Rattle.bookmarks.specs.Bookmark.{bookmarkOf, fresh, markAfter, Marking, marking, markedSays, markingOf, markingsOf}
+use Rattle.bookmarks.specs.Bookmark.{fresh, markAfter, Marking, marking, markedSays, markingOf, markingsOf}
 use Rattle.bookmarks.specs.declared.Bookmark.{Bookmark}
 use Rattle.bookmarks.specs.declared.Marked.{Marked}
 use Rattle.bookmarks.proofs.Marks.{bookmark-overflow, bookmark-goes}
 use Rattle.bookmarks.proofs.Markings.{advances-marking}
-use Rattle.walks.specs.declared.Step.{Step}
 use Rattle.demands.specs.Calls.{Bounded}
 use Rattle.walks.specs.Plain.{plainMove}
 use Rattle.demands.specs.PlainWalk.{plainTrail, standing}

@@ -1,5 +1,5 @@
 -- Through the tables of a legal list t the walks give the function of any list r that has the same one: the walks on t's
--- own tables (tables/proofs/LegalTables), said as the plain walk says them.
+-- own tables (walks/proofs/LegalTables), said as the plain walk says them.
 use Prim.Native.Nat.{ℕ, zero, suc, _+_, _*_, _^_, _≤_, _<_}
 use mathlib.Core.Path.{_≡_, refl, sym, ap, _∙_}
 use native.Mathlib.Numerals.{add-one}

@@ -5,14 +5,14 @@ use mathlib.Core.Bool.{true, false}
 use mathlib.Core.List.{List, [], _∷_, _++_}
 use lib.Dec.{ltb, leb}
 use Rattle.outcomes.specs.Outcome.{Outcome, done, refused, test, judge, _then_else_}
-use Rattle.runs.specs.Runs.{Runs, runAt, mapOf}
+use Rattle.runs.specs.Runs.{Runs, runAt}
 use Rattle.bookmarks.specs.Bookmark.{Marking, marking}
 use Rattle.walks.specs.Plain.{plainMove, plainMoves}
 use Rattle.bookmarks.specs.declared.Bookmark.{Bookmark}
 use Rattle.demands.specs.Calls.{Call, find, move, moves, Reply, found, moved}
 
 -- r is the accepted run list, t the balanced list. The walk stands at a place p, in the interval of t that has it. Moves and
--- repeated moves are plainMove and plainMoves (tables/specs/Plain).
+-- repeated moves are plainMove and plainMoves (walks/specs/Plain).
 module _ (n : ℕ) (r t : Runs) where
   -- A find at i answers the interval of t that has i; where i is not below n it is refused with 11 and i.
   unfoldable pub plainFind : ℕ → Outcome ℕ

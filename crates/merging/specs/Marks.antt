@@ -1,5 +1,5 @@
 -- Marks in a list's starts and cuts, merged.
-use Prim.Native.Nat.{ℕ, _+_, _≤_, _<_}
+use Prim.Native.Nat.{ℕ, _≤_}
 use mathlib.Core.Path.{_≡_}
 use mathlib.Core.List.{List}
 use lib.ListN.{length, getD}
@@ -12,11 +12,3 @@ pub record At (n : ℕ) (starts cuts : List ℕ) (mark : Mark) (m : ℕ) : Type 
   pub within : m ≤ length (merged starts cuts)
   pub starts-before : mark .starts ≡ countBelow (getD (merged starts cuts) m n) starts
   pub cuts-before : mark .cuts ≡ countBelow (getD (merged starts cuts) m n) cuts
-
--- the mark that is `count` entries on, or before the first one that is not below t
-pub record Skips (n : ℕ) (starts cuts : List ℕ) (mark : Mark) (count t : ℕ) (to : Mark) : Type 0 where
-  pub at : At n starts cuts to (to .starts + to .cuts)
-  pub below : to .starts + to .cuts ≤ countBelow t (merged starts cuts)
-  pub far : to .starts + to .cuts ≤ mark .starts + mark .cuts + count
-  pub stopped : to .starts + to .cuts < mark .starts + mark .cuts + count
-      → to .starts + to .cuts ≡ countBelow t (merged starts cuts)

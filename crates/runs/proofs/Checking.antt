@@ -1,4 +1,4 @@
--- What `check` answers, by the facts that its tests show: one law for each way to return.
+-- What `check_order` answers, by the facts that its tests show: one law for each way to return.
 use Prim.Native.Nat.{ℕ, suc, _-_, _≤_, _<_}
 use mathlib.Core.Path.{_≡_, sym, _∙_}
 use mathlib.Core.List.{List}

@@ -2,17 +2,17 @@
 -- image. The other way the images of the order follow on each other from 0, so that they share no place and cover all
 -- that lie before the last one's end; as many places as the lengths add up to, and these add up to n.
 use Prim.Native.Nat.{ℕ, zero, suc, _-_, _≤_, _<_}
-use mathlib.Core.Path.{_≡_, sym, ap}
+use mathlib.Core.Path.{_≡_, ap}
 use mathlib.Core.Logic.{_⊎_, inl, inr}
 use native.Mathlib.Omega.{arith}
 use Rattle.order.specs.Lists.{bit}
 use Rattle.order.proofs.Laws.{lt-or-le}
 use Rattle.outcomes.specs.Outcome.{done}
-use Rattle.runs.specs.Runs.{Runs, countOf, imageOf, lengthOf, imageEnd}
+use Rattle.runs.specs.Runs.{Runs, countOf, imageOf, imageEnd}
 use Rattle.runs.specs.Legal.{Legal, IntervalSequence}
 use Rattle.runs.specs.Parts.{ranked}
 use Rattle.runs.specs.Check.{maxRuns, checkOf}
-use Rattle.runs.proofs.Sums.{inside-true, sumTo, sum-mono, sum-one, sum-zero, sum-less, tally}
+use Rattle.runs.proofs.Sums.{inside-true, sum-mono, sum-one, sum-zero, sum-less, tally}
 use Rattle.runs.proofs.Legality.{Parted, parted, lands, lands-total}
 use Rattle.runs.proofs.Ranking.{ranked-below, ranked-occurs, ranked-one}
 use Rattle.runs.proofs.Tiling.{legal-tiled}

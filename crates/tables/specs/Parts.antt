@@ -1,4 +1,4 @@
--- What is known once tests have passed: the contracts of functions for our own crates cite these.
+-- What is known once tests have passed: the contracts of `is_unheld` and of private functions of walks and weights cite it.
 use Prim.Native.Nat.{ℕ, _≤_, _<_}
 use mathlib.Core.Path.{_≡_}
 use mathlib.Core.Bool.{false}

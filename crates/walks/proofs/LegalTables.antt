@@ -2,7 +2,7 @@
 -- place below n is refused. A holder is the index of the run that has the image, so a walk from it passes the starts up to
 -- the place reached (Walks).
 use Prim.Native.Nat.{ℕ, zero, suc, _+_, _≤_, _<_}
-use mathlib.Core.Path.{_≡_, refl, sym, ap, _∙_}
+use mathlib.Core.Path.{_≡_, sym, ap, _∙_}
 use native.Mathlib.Omega.{arith}
 use Rattle.outcomes.specs.Outcome.{done, refused, mapDone, andThen}
 use Rattle.runs.specs.Runs.{Runs, countOf, imageOf, endOf, runAt, mapOf}

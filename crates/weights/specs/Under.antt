@@ -1,15 +1,14 @@
 -- The starts under an image and their number as walked on any tables (document 01, "Walking"). On the tables of a legal
 -- list they are those of the list (proofs/LegalWeights).
 use Prim.Native.Nat.{ℕ, _+_}
-use mathlib.Core.Bool.{Bool, _&&_, _||_}
+use mathlib.Core.Bool.{Bool, _||_}
 use mathlib.Core.List.{List, [], _∷_}
-use lib.ListN.{length, take, drop}
+use lib.ListN.{take, drop}
 use lib.Dec.{ltb, leb, eqb}
 use Rattle.outcomes.specs.Outcome.{Outcome, done, refused, Test, test, judge, _then_else_}
 use Rattle.outcomes.specs.Refusal.{refusalSays}
 use Rattle.order.specs.Lists.{leading}
-use Rattle.outcomes.specs.Search.{keep}
-use Rattle.runs.specs.Runs.{Runs, startOf, imageOf, imageEnd}
+use Rattle.runs.specs.Runs.{startOf, imageOf, imageEnd}
 use Rattle.tables.specs.Tables.{Tables, holderOf, unheld, shapeTest, indexTest, endAt}
 use Rattle.weights.specs.declared.Weighed.{Weighed}
 use Rattle.weights.specs.declared.Weighed.the-variants.{Weight, Refused}

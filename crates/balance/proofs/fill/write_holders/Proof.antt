@@ -8,7 +8,7 @@ use Rattle.order.proofs.Laws.{strict-sorted, count-le-length, getD-map}
 use Rattle.runs.specs.Runs.{runs, runAt}
 use Rattle.runs.proofs.Legality.{homes, image-below}
 use Rattle.order.proofs.Filling.{Filling, filling-none, filling-length, filling-next, filling-all}
-use Rattle.balance.proofs.Writing.{legal-count, holder-counted}
+use Rattle.balance.proofs.Writing.{runs-below, holder-counted}
 use Rattle.balance.proofs.fill.write_holders.Statement.{statement}
 use Rattle.balance.proofs.fill.write_holders.Tie as tie
 
@@ -66,7 +66,7 @@ cast-to c =
       arith,
       c .count-below .ensures,
       count-le-length (getD (a .args .images .now) (c .before .before .before .loop .x) 0 + 1) (a .args .starts .now),
-      legal-count (a .args .n) (runs (a .args .starts .now) (a .args .images .now)) (a .pre .0),
+      runs-below (a .args .n) (runs (a .args .starts .now) (a .args .images .now)) (a .pre .0),
     )
 
 mul-to : tie.Need-mul-to Inv-loop μ-loop

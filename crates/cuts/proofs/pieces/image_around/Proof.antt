@@ -1,6 +1,6 @@
 -- `image_around` meets its contract: a piece begins as far before the place sent to u as its image before u.
 use borrow.Author.Needs.{needs}
-use Prim.Native.Nat.{ℕ, _-_, _≤_}
+use Prim.Native.Nat.{_-_, _≤_}
 use native.Mathlib.Omega.{arith}
 use Rattle.order.proofs.Laws.{strict-sorted}
 use Rattle.runs.specs.Runs.{Runs, runs}

@@ -4,11 +4,11 @@ use mathlib.Core.Path.{_≡_}
 use native.Mathlib.Omega.{arith}
 use lib.ListN.{length}
 use Rattle.order.specs.Lists.{countBelow}
 use Rattle.merging.specs.Merged.{merged}
 use Rattle.merging.specs.Marks.{At}
 use Rattle.merging.proofs.Merged.{at-sum, at-own, at-stop, at-go}
-use Rattle.merging.proofs.skip.Statement.{statement}
-use Rattle.merging.proofs.skip.Tie as tie
+use Rattle.cuts.proofs.marks.skip.Statement.{statement}
+use Rattle.cuts.proofs.marks.skip.Tie as tie
 
 abbrev Inv-loop : tie.InvT-loop
 Inv-loop n starts cuts count to at₀ i₀ at i = (i ≤ count) × At n starts cuts at (at .starts + at .cuts)
