@@ -8,10 +8,6 @@ SHELL := bash
 .SHELLFLAGS := -euo pipefail -c
 .PHONY: list test bench
 
-# A crate waits for its whole layer, so four are proved side by side even on two cores, and a core is seldom idle. Each
-# takes about 1 GiB.
-export RT_JOBS ?= 4
-
 # What is proved is shown on standard error as it is proved, and all that was said where it fails.
 list:
 	@mkdir -p target
