@@ -55,7 +55,7 @@ fn write_holders(n: u32, starts: &[u32], images: &[u32], to: &mut [u32])
 {
     let mut x = 0;
     while x < images.len() {
-        to[x] = (order::count_below(starts, images[x] + 1) - 1) as u32;
+        to[x] = (searching::count_below(starts, images[x] + 1) - 1) as u32;
         x += 1;
     }
 }

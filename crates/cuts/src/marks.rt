@@ -12,10 +12,10 @@ pub(crate) fn mark_at(starts: &[u32], cuts: &[u32], t: u32) -> Mark
     requires { ⌜ Sorted (now starts) × Sorted (now cuts) ⌝ }
     ensures { λ r. ⌜ (r .starts ≡ countBelow t (now (starts .entry))) × (r .cuts ≡ countBelow t (now (cuts .entry))) ⌝ }
 {
-    let before = order::count_below(starts, t);
+    let before = searching::count_below(starts, t);
     Mark {
         starts: before,
-        cuts: order::count_below(cuts, t),
+        cuts: searching::count_below(cuts, t),
     }
 }
 

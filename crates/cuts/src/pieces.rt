@@ -17,7 +17,7 @@ fn run_at_rank(order: &[u32], ranked: &[u32], q: u32) -> usize
     requires { ⌜ Ranking (now order) (now ranked) q ⌝ }
     ensures { λ r. ⌜ r ≡ getD (now (order .entry)) (countBelow (q + 1) (now (ranked .entry)) - 1) 0 ⌝ }
 {
-    order[order::count_below(ranked, q + 1) - 1] as usize
+    order[searching::count_below(ranked, q + 1) - 1] as usize
 }
 
 // The place that the list's function sends to `q`, and its run.
@@ -57,7 +57,7 @@ pub(crate) fn piece_at(
     let origin = origin_of(n, starts, images, order, ranked, p);
     let after = Mark {
         starts: origin.run + 1,
-        cuts: order::count_below(cuts, origin.place + 1),
+        cuts: searching::count_below(cuts, origin.place + 1),
     };
     let end = merging::entry_at(n, starts, cuts, after);
     Piece {
@@ -71,7 +71,7 @@ fn start_to(start: u32, cuts: &[u32], v: u32) -> u32
     requires { ⌜ Sorted (now cuts) × (v + 1 < 4294967296) ⌝ }
     ensures { λ r. ⌜ Higher start (now (cuts .entry)) v r ⌝ }
 {
-    let count = order::count_below(cuts, v + 1);
+    let count = searching::count_below(cuts, v + 1);
     if count == 0 {
         return start;
     }

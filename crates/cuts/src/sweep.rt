@@ -44,7 +44,7 @@ pub(crate) fn sweep(
             p = q;
         } else {
             let u = piece.start + (merging::entry_at(n, starts, &working[..cuts], middle) - p);
-            order::insert(working, cuts, u);
+            searching::insert(working, cuts, u);
             cuts += 1;
             p = q;
             if u < q {

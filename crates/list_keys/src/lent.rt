@@ -89,7 +89,7 @@ pub(crate) fn balance(numbers: &[u32], starts: &[u32], images: &[u32]) {
 
 // Checks a file, and lists it into the lent text.
 fn list_into(file: &[u8], text: &mut [u8]) {
-    answers::file(files::check_file(file));
+    answers::file(file_checks::check_file(file));
     let count = listings::list_file(file, text);
     out::written(count, text);
 }

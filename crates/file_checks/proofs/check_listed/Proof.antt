@@ -1,10 +1,10 @@
 -- `check_listed` meets its contract: check's own tests, and then the degree's.
 use mathlib.Core.Path.{sym, ap, _∙_}
 use Rattle.outcomes.specs.Refusal.{checkedSays}
 use Rattle.files.proofs.Bodies.{listed-refused, listed-checked}
 use borrow.Author.Needs.{needs}
-use Rattle.files.proofs.check_listed.Statement.{statement}
-use Rattle.files.proofs.check_listed.Tie as tie
+use Rattle.file_checks.proofs.check_listed.Statement.{statement}
+use Rattle.file_checks.proofs.check_listed.Tie as tie
 
 check-requires : tie.Need-check-requires
 check-requires c κs = search needs

@@ -2,10 +2,10 @@
 use mathlib.Core.Path.{_∙_}
 use native.Mathlib.Omega.{arith}
 use Rattle.runs.specs.Check.{maxRuns}
 use Rattle.files.proofs.Bodies.{body-is}
 use borrow.Author.Needs.{needs}
-use Rattle.files.proofs.check_list.Statement.{statement}
-use Rattle.files.proofs.check_list.Tie as tie
+use Rattle.file_checks.proofs.check_list.Statement.{statement}
+use Rattle.file_checks.proofs.check_list.Tie as tie
 
 cast-read-list : tie.Need-cast-read-list
 cast-read-list c = search needs

@@ -2,9 +2,9 @@
 use borrow.Author.Needs.{needs}
 use borrow.Author.Tests.{not-false, not-true}
 use mathlib.Core.Path.{sym, _∙_}
 use Rattle.files.proofs.Bodies.{degree-passed, degree-refused}
-use Rattle.files.proofs.check_degree.Statement.{statement}
-use Rattle.files.proofs.check_degree.Tie as tie
+use Rattle.file_checks.proofs.check_degree.Statement.{statement}
+use Rattle.file_checks.proofs.check_degree.Tie as tie
 
 is-degree-requires : tie.Need-is-degree-requires
 is-degree-requires c κs = search needs

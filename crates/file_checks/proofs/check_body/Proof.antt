@@ -2,8 +2,8 @@
 use mathlib.Core.Path.{sym}
 use lib.Seq.{length-take-le}
 use borrow.Author.Needs.{needs}
-use Rattle.files.proofs.check_body.Statement.{statement}
-use Rattle.files.proofs.check_body.Tie as tie
+use Rattle.file_checks.proofs.check_body.Statement.{statement}
+use Rattle.file_checks.proofs.check_body.Tie as tie
 
 cast-k : tie.Need-cast-k
 cast-k c = search needs

@@ -1,11 +1,11 @@
 -- `check_file` meets its contract: the header's tests, and then the body's.
 use mathlib.Core.Path.{sym, ap, _∙_}
 use Rattle.files.specs.File.{fileSays}
 use Rattle.files.proofs.Heading.{heading-laid}
 use Rattle.files.proofs.Bodies.{file-refused, file-read}
 use borrow.Author.Needs.{needs}
-use Rattle.files.proofs.check_file.Statement.{statement}
-use Rattle.files.proofs.check_file.Tie as tie
+use Rattle.file_checks.proofs.check_file.Statement.{statement}
+use Rattle.file_checks.proofs.check_file.Tie as tie
 
 read-header-requires : tie.Need-read-header-requires
 read-header-requires c κs = search needs

@@ -1,0 +1,2 @@
+-- How a search narrows.
+mod Narrowing

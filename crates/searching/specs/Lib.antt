@@ -1,0 +1,2 @@
+-- What the parts of the searches ask and promise.
+pub mod Parts
