@@ -1,4 +1,3 @@
--- The laws that callers cite, and what the proofs of this crate's functions do.
+-- The laws that callers cite.
 pub mod Marks
 pub mod Markings
-mod Held

@@ -1,7 +1,7 @@
 -- Laws of outcomes. Of `judge`: more tests after the first ones, and what a passed or a refused list of tests says; of a
 -- function of a result; of what is left in a lent table; and of test 8.
 use Prim.Native.Nat.{ℕ, _≤_}
-use mathlib.Core.Path.{_≡_, refl, sym}
+use mathlib.Core.Path.{_≡_, refl, sym, ap, _∙_}
 use mathlib.Core.Bool.{Bool, true, false}
 use mathlib.Core.List.{List, [], _∷_, _++_, map}
 use native.Mathlib.Omega.{arith}
@@ -48,6 +48,16 @@ judge-done (t ∷ ts) a b e = judge-done ts a b (sym (judge-first t ts a b (sym 
 pub judge-on : {A : Type 0} (ts us : List Test) (a b : A) → judge ts a ≡ done b → judge (ts ++ us) a ≡ judge us a
 unfolding andThen
 judge-on ts us a b e = rw (judge-append ts us a a, e)
+
+-- tests that cannot apply once the others have passed can be left out
+pub judge-less : {A : Type 0} (ts us : List Test) (a b : A) → ((c : A) → judge ts b ≡ done c → judge us a ≡ done b)
+    → judge (ts ++ us) a ≡ judge ts b
+unfolding andThen
+judge-less {A = A} ts us a b h = judge-append ts us b a ∙ go (judge ts b) refl
+  where
+    go : (o : Outcome A) → judge ts b ≡ o → andThen o (λ _. judge us a) ≡ o
+    go (done c) e = h c e ∙ ap done (judge-done ts b c e)
+    go (refused k p) e = refl
 
 -- a refusal goes through
 pub map-refused : {A B : Type 0} (f : A → B) (o : Outcome A) (k p : ℕ) → mapDone f o ≡ refused k p → o ≡ refused k p

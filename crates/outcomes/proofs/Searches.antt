@@ -7,7 +7,7 @@ use mathlib.Core.List.{List, [], _∷_}
 use native.Mathlib.Nat.{not-suc-le-zero, le-of-suc-le-suc}
 use native.Mathlib.Omega.{arith}
 use lib.ListN.{length, getD}
-use borrow.Author.Tests.{lt-ltb, le-ltb}
+use borrow.Author.Tests.{lt-ltb, le-ltb, ltb-true}
 use Rattle.outcomes.specs.Search.{firstFrom, firstBelow, anyBelow, insertAt}
 use Rattle.order.proofs.Laws.{lt-or-le}
 
@@ -69,6 +69,36 @@ module _ (p : ℕ → Bool) where
       go : (firstBelow p k < k) ⊎ (k ≤ firstBelow p k) → anyBelow p k ≡ false
       go (inl l) = absurd (h (firstBelow p k) l (first-true k l))
       go (inr l) = le-ltb (firstBelow p k) k l
+
+-- one index more: an index that was found stays, else the new one is looked at
+module _ (p : ℕ → Bool) (k : ℕ) where
+  pub any-old : anyBelow p k ≡ true → (anyBelow p (suc k) ≡ true) × (firstBelow p (suc k) ≡ firstBelow p k)
+  any-old e =
+      let h = ltb-true (firstBelow p k) k e in
+      let a = first-least p (suc k) (firstBelow p k) (omega arith) (first-true p k h) in
+      let b = first-least p k (firstBelow p (suc k)) (omega arith) (first-true p (suc k) (omega arith)) in
+      (lt-ltb (firstBelow p (suc k)) (suc k) (omega arith), omega arith)
+
+  -- none below k, so none below it with k in view
+  none-yet : anyBelow p k ≡ false → k ≤ firstBelow p (suc k)
+  none-yet e = go (lt-or-le (firstBelow p (suc k)) k)
+    where
+      go : (firstBelow p (suc k) < k) ⊎ (k ≤ firstBelow p (suc k)) → k ≤ firstBelow p (suc k)
+      go (inl h) =
+          absurd (false≢true (sym (any-false p k (firstBelow p (suc k)) e h) ∙ first-true p (suc k) (omega arith)))
+      go (inr h) = h
+
+  pub any-here : anyBelow p k ≡ false → p k ≡ true → (anyBelow p (suc k) ≡ true) × (firstBelow p (suc k) ≡ k)
+  any-here e h =
+      let a = first-least p (suc k) k (omega arith) h in
+      (lt-ltb (firstBelow p (suc k)) (suc k) (omega arith), omega (arith, none-yet e))
+
+  pub any-not : anyBelow p k ≡ false → p k ≡ false → anyBelow p (suc k) ≡ false
+  any-not e h = any-none p (suc k) (λ x l t. go x (lt-or-le x k) l t)
+    where
+      go : (x : ℕ) → (x < k) ⊎ (k ≤ x) → x < suc k → p x ≡ true → ⊥
+      go x (inl m) l t = false≢true (sym (any-false p k x e m) ∙ t)
+      go x (inr m) l t = let q : x ≡ k = omega arith in false≢true (sym h ∙ ap p (sym q) ∙ t)
 
 pub length-insert : (x v : ℕ) (l : List ℕ) → x ≤ length l → length (insertAt x v l) ≡ suc (length l)
 length-insert zero v l h = refl

@@ -7,7 +7,8 @@ use Rattle.outcomes.specs.declared.Checked.{Checked}
 use Rattle.outcomes.specs.declared.Checked.the-variants.{Accepted, Refused}
 
 -- The trade's words: 1 empty, 2 crowded, 3 late, 4 disorder, 5 overrun, 6 clash, 7 degree, 8 short, 9 misfit,
--- 10 stranger, 11 astray, 12 torn, 13 spent, 14 unlanded, 15 header.
+-- 10 stranger, 11 astray, 12 torn, 13 spent, 14 unlanded, 15 header. 16, whose place may pass 32 bits, is a case of the
+-- answer to questions together (questions/specs/Questions).
 abbrev pub numberOf : Refusal → ℕ
 numberOf ListShape = 1
 numberOf TooManyRuns = 2

@@ -71,9 +71,9 @@ module _ (n : ℕ) (t : Tables) (x i : ℕ) where
   unfolding broken
   broken-unheld h = simp h
 
-  pub broken-far : unheld t x ≡ false → n ≤ carry (t .list) x i → broken n t x i ≡ true
+  pub broken-held : unheld t x ≡ false → (a b : ℕ) → a ≡ n → b ≡ carry (t .list) x i → leb a b ≡ broken n t x i
   unfolding broken
-  broken-far h l = simp (h, le-leb _ _ l)
+  broken-held h a b p q = simp (h, p, q)
 
   pub whole : unheld t x ≡ false → carry (t .list) x i < n → broken n t x i ≡ false
   unfolding broken

@@ -1,4 +1,5 @@
--- What is known once tests have passed: the contracts of `is_unheld` and of private functions of walks and weights cite it.
+-- What is known once tests have passed: the contracts of `is_unheld` and `is_broken` and of functions of walks, weights and
+-- questions cite it.
 use Prim.Native.Nat.{ℕ, _≤_, _<_}
 use mathlib.Core.Path.{_≡_}
 use mathlib.Core.Bool.{false}

@@ -3,32 +3,39 @@
 -- the place reached (Walks).
 use Prim.Native.Nat.{ℕ, zero, suc, _+_, _≤_, _<_}
 use mathlib.Core.Path.{_≡_, sym, ap, _∙_}
+use mathlib.Core.Bool.{false}
 use native.Mathlib.Omega.{arith}
 use Rattle.outcomes.specs.Outcome.{done, refused, mapDone, andThen}
 use Rattle.runs.specs.Runs.{Runs, countOf, imageOf, endOf, runAt, mapOf}
 use Rattle.runs.specs.Legal.{Legal}
 use Rattle.runs.proofs.Legality.{homes, run-at, own}
 use Rattle.runs.proofs.Bijection.{map-below}
-use Rattle.tables.specs.Tables.{tablesOf, maxIntervals}
-use Rattle.walks.specs.Move.{passed, walkCount, stepTo, stepOf, findOf, moveOf, movesOf, onwards}
+use Rattle.tables.specs.Tables.{tablesOf, maxIntervals, broken}
+use Rattle.walks.specs.Move.{passed, foundAt, walkCount, stepTo, stepOf, findOf, moveOf, movesOf, onwards}
 use Rattle.walks.specs.Plain.{plainCount, plainMove, plainMoves}
 use Rattle.tables.proofs.Passing.{whole}
 use Rattle.tables.proofs.LegalShape.{shape, legal-located, holder-is, legal-held}
-use Rattle.walks.proofs.Steps.{find-far, find-at, locate-in, move-located, advance-on}
+use Rattle.walks.proofs.Steps.{far, findable, find-out, find-at, locate-in, move-located, advance-on}
 use Rattle.walks.proofs.PlainMoves.{moves-interval, moves-below}
 use Rattle.runs.proofs.Walks.{walk-passed, walk-count, above-to, map-in}
 
 module _ (n : ℕ) (r : Runs) (c : Legal n r) (few : countOf r ≤ maxIntervals) where
   -- find gives the run that has the place
-  pub legal-find : (p : ℕ) → p < n → findOf n (tablesOf n r) p ≡ done (runAt n r p)
-  legal-find p h =
+  pub legal-found : (p : ℕ) → p < n → foundAt (tablesOf n r) p ≡ runAt n r p
+  unfolding foundAt passed
+  legal-found p h =
       let l : 0 < endOf n r 0 = omega (arith, homes n r c .lasting 0 (c .some)) in
       let z : runAt n r 0 ≡ 0 = run-at n r (homes n r c) 0 0 (c .some) (omega (arith, c .first)) l in
       let w = rw z at (walk-passed n r (homes n r c) 0 p (omega arith) h) in
-      sym (find-at n (tablesOf n r) p (shape n r c few) h (omega (arith, c .first)) (runAt n r p) (omega arith))
+      omega arith
+
+  pub legal-find : (p : ℕ) → p < n → findOf n (tablesOf n r) p ≡ done (runAt n r p)
+  legal-find p h =
+      let f = findable n (r .starts) p h (omega (arith, c .first)) in
+      sym (find-at n (tablesOf n r) p (shape n r c few) f (runAt n r p) (sym (legal-found p h)))
 
   pub legal-find-beyond : (i : ℕ) → n ≤ i → findOf n (tablesOf n r) i ≡ refused 11 i
-  legal-find-beyond i h = sym (find-far n (tablesOf n r) i (shape n r c few) h)
+  legal-find-beyond i h = sym (find-out n (tablesOf n r) i (shape n r c few) (far n (r .starts) i h))
 
   -- a move gives the function's value, the run that has it, and the starts above the image and not above it
   module _ (p : ℕ) (h : p < n) where
@@ -48,17 +55,20 @@ module _ (n : ℕ) (r : Runs) (c : Legal n r) (few : countOf r ≤ maxIntervals)
         let j = map-in n r c p h in
         omega (arith, walk-passed n r (homes n r c) i (mapOf n r p) (j .0) (j .2))
 
-    legal-step : stepOf (tablesOf n r) (runAt n r p) p ≡ plainMove n r r p
+    pub legal-step : stepOf (tablesOf n r) (runAt n r p) p ≡ plainMove n r r p
     unfolding stepOf stepTo plainMove
     legal-step =
         rw (holder-is n r c few (runAt n r p) (own n r c p h .0))
         (λ i. record { place = mapOf n r p; interval = legal-interval i; count = legal-count i })
 
+    pub legal-whole : broken n (tablesOf n r) (runAt n r p) p ≡ false
+    legal-whole =
+        whole n (tablesOf n r) (runAt n r p) p (legal-held n r c few (runAt n r p) (own n r c p h .0)) (map-in n r c p h .2)
+
     pub legal-move : moveOf n (tablesOf n r) (runAt n r p) p ≡ done (plainMove n r r p)
     legal-move =
-        let b = whole n (tablesOf n r) (runAt n r p) p (legal-held n r c few (runAt n r p) (own n r c p h .0)) (map-in n r c p h .2) in
         move-located n (tablesOf n r) (runAt n r p) p (legal-located n r c few p h)
-        ∙ sym (advance-on n (tablesOf n r) (runAt n r p) p b)
+        ∙ sym (advance-on n (tablesOf n r) (runAt n r p) p legal-whole)
         ∙ ap done legal-step
 
   -- repeated moves give the m-fold function, the run that has its value, and the sum of the counts

@@ -15,7 +15,7 @@ use Rattle.order.proofs.Laws.{lt-or-le, getD-default}
 use Rattle.outcomes.specs.Outcome.{Outcome, done, refused, judge, mapDone, andThen, _then_else_}
 use Rattle.order.specs.Lists.{leading}
 use Rattle.runs.specs.Runs.{carry}
-use Rattle.tables.specs.Tables.{Tables, holderOf, maxIntervals, unheld, broken, brokenTest}
+use Rattle.tables.specs.Tables.{Tables, sizeOf, holderOf, maxIntervals, unheld, broken, brokenTest}
 use Rattle.walks.specs.Move.{passed, walkCount, stepTo, stayAt, stepOf, moveOf, movesOf, countedAfter, onwards, Stopped}
 use Rattle.tables.specs.Parts.{Shaped, Located}
 use Rattle.walks.specs.Parts.{advanceOf}
@@ -27,11 +27,11 @@ use Rattle.walks.proofs.Steps.{locate-in, located, move-is, move-locate
 
 -- where the walk from interval h to place j ends
 module _ (l : List ℕ) (h j : ℕ) (i : h < length l) where
-  reached-index : h + passed l h j < length l
+  pub reached-index : h + passed l h j < length l
   unfolding passed
   reached-index = omega (arith, leading-within (λ s. leb s j) l (suc h) i)
 
-  reached-low : getD l h 0 ≤ j → getD l (h + passed l h j) 0 ≤ j
+  pub reached-low : getD l h 0 ≤ j → getD l (h + passed l h j) 0 ≤ j
   unfolding passed
   reached-low b = go (leading (λ s. leb s j) (drop (suc h) l)) refl
     where
@@ -41,7 +41,7 @@ module _ (l : List ℕ) (h j : ℕ) (i : h < length l) where
           let z : h + suc c ≡ suc h + c = omega arith in
           rw (z, ← getD-drop) (leb-true _ j (leading-last (λ s. leb s j) (drop (suc h) l) c e))
 
-  reached-high : (n : ℕ) → j < n → j < getD l (suc (h + passed l h j)) n
+  pub reached-high : (n : ℕ) → j < n → j < getD l (suc (h + passed l h j)) n
   unfolding passed
   reached-high n b = go (lt-or-le (suc (h + passed l h j)) (length l))
     where
@@ -52,6 +52,14 @@ module _ (l : List ℕ) (h j : ℕ) (i : h < length l) where
           let f = leading-next (λ s. leb s j) (drop (suc h) l) (omega (arith, length-drop (suc h) l)) in
           rw (getD-default l (suc (h + c)) n 0 k, z, ← getD-drop) (leb-false _ j f)
       go (inr k) = rw (List·getD-eq-default l n k) b
+
+-- a step from an interval that has its holder counts no more starts than there are
+pub held-count : (t : Tables) (x i : ℕ) → unheld t x ≡ false → sizeOf t ≤ maxIntervals → stepOf t x i .count ≤ maxIntervals
+unfolding stepOf stepTo walkCount
+held-count t x i u f =
+    let h = held-is t x u in
+    let l = reached-index (t .list .starts) (holderOf t x) (carry (t .list) x i) (h .0) in
+    omega arith
 
 -- a step that was made
 module _ (n : ℕ) (t : Tables) (x i : ℕ) (s : Step) (e : done s ≡ advanceOf n t x i) where
@@ -77,12 +85,7 @@ module _ (n : ℕ) (t : Tables) (x i : ℕ) (s : Step) (e : done s ≡ advanceOf
       })
 
   pub step-count : Shaped n t → s .count ≤ maxIntervals
-  unfolding stepOf stepTo walkCount
-  step-count f =
-      let w = step-is in
-      let h = held-is t x (w .0) in
-      let l = reached-index (t .list .starts) (holderOf t x) (carry (t .list) x i) (h .0) in
-      omega (arith, ap (λ (s : Step). s .count) (w .2))
+  step-count f = let w = step-is in rw (w .2) (held-count t x i (w .0) (f .few))
 
 -- so is a move's count small
 pub move-count : (n : ℕ) (t : Tables) (x i : ℕ) (s : Step) → done s ≡ moveOf n t x i → s .count ≤ maxIntervals

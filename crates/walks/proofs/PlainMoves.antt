@@ -37,6 +37,11 @@ module _ (n : ℕ) (r t : Runs) where
     moves-below zero p h = h
     moves-below (suc m) p h = below _ (moves-below m p h)
 
+-- lists that have one function move alike
+pub move-same : (n : ℕ) (r t : Runs) (p : ℕ) → mapOf n t p ≡ mapOf n r p → plainMove n t t p ≡ plainMove n r t p
+unfolding plainMove
+move-same n r t p e = rw e
+
 -- a move counts no more starts than there are
 keep-few : (f : ℕ → Bool) (l : List ℕ) → length (keep f l) ≤ length l
 keep-few f l = omega (arith, length-keep f l, count-le f l)

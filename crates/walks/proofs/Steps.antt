@@ -1,24 +1,42 @@
 -- What find and a move come to, by the facts that their tests show; and that after a move the place lies in the
 -- interval reached.
-use Prim.Native.Nat.{ℕ, _+_, _-_, _≤_, _<_}
+use Prim.Native.Nat.{ℕ, _+_, _-_, _^_, _≤_, _<_}
 use mathlib.Core.Path.{_≡_, refl, sym, _∙_}
 use mathlib.Core.Bool.{Bool, true, false}
-use mathlib.Core.List.{[], _∷_}
+use mathlib.Core.List.{List, [], _∷_}
 use native.Mathlib.Numerals.{add-one}
 use native.Mathlib.Omega.{arith}
-use lib.ListN.{drop}
-use lib.Dec.{leb}
-use borrow.Author.Tests.{lt-ltb, le-ltb, le-leb, lt-leb, leb-false}
+use lib.ListN.{drop, getD}
+use lib.Dec.{leb, ltb}
+use borrow.Author.Tests.{le-ltb, le-leb, lt-leb, leb-false, ltb-false}
 use Rattle.outcomes.specs.Outcome.{done, refused, judge, andThen}
 use Rattle.order.specs.Lists.{leading}
-use Rattle.runs.specs.Runs.{startOf, carry}
+use Rattle.runs.specs.Runs.{carry}
 use Rattle.tables.specs.Tables.{Tables, sizeOf, holderOf, misshapen, outside, broken, shapeTest, indexTest, placeTest, brokenTest}
-use Rattle.walks.specs.Move.{passed, walkCount, stepTo, stayAt, findOf, stepOf, moveOf, movesOf, locateTests}
+use Rattle.order.proofs.Laws.{or-false}
+use Rattle.walks.specs.Move.{passed, walkCount, stepTo, stayAt, foundAt, unfindable, findOf, stepOf, moveOf, movesOf, locateTests}
 use Rattle.tables.specs.Parts.{Shaped, Indexed, Located}
-use Rattle.walks.specs.Parts.{advanceOf}
+use Rattle.walks.specs.Parts.{advanceOf, Movable}
 use Rattle.walks.specs.declared.Step.{Step}
 use Rattle.outcomes.proofs.Judging.{judge-append, judge-first}
-use Rattle.tables.proofs.Passing.{shaped, inside, inside-is}
+use Rattle.tables.proofs.Passing.{shaped, inside, inside-is, whole-is}
+
+-- 11 for find
+module _ (n : ℕ) (l : List ℕ) (i : ℕ) where
+  pub far : n ≤ i → unfindable n l i ≡ true
+  unfolding unfindable
+  far h = simp (le-leb _ _ h)
+
+  pub near : i < n → unfindable n l i ≡ ltb i (getD l 0 0)
+  unfolding unfindable
+  near h = simp (lt-leb _ _ h)
+
+  pub findable : i < n → getD l 0 0 ≤ i → unfindable n l i ≡ false
+  findable h b = rw (near h) (le-ltb _ _ b)
+
+  pub findable-is : unfindable n l i ≡ false → (i < n) × (getD l 0 0 ≤ i)
+  unfolding unfindable
+  findable-is e = let a = or-false (leb n i) _ e in (leb-false n i (a .0), ltb-false i _ (a .1))
 
 -- find
 module _ (n : ℕ) (t : Tables) (i : ℕ) where
@@ -27,18 +45,13 @@ module _ (n : ℕ) (t : Tables) (i : ℕ) where
   find-shape b q e = simp (sym q ∙ e)
 
   module _ (s : Shaped n t) where
-    pub find-far : n ≤ i → refused 11 i ≡ findOf n t i
+    pub find-out : unfindable n (t .list .starts) i ≡ true → refused 11 i ≡ findOf n t i
     unfolding findOf judge
-    find-far h = simp (s .fits, le-leb _ _ h)
+    find-out b = simp (s .fits, b)
 
-    pub find-low : i < n → i < startOf (t .list) 0 → refused 11 i ≡ findOf n t i
+    pub find-at : unfindable n (t .list .starts) i ≡ false → (x : ℕ) → x ≡ foundAt t i → done x ≡ findOf n t i
     unfolding findOf judge
-    find-low h l = simp (s .fits, lt-leb _ _ h, lt-ltb _ _ l)
-
-    pub find-at : i < n → startOf (t .list) 0 ≤ i
-        → (x : ℕ) → x ≡ leading (λ s. leb s i) (drop 1 (t .list .starts)) → done x ≡ findOf n t i
-    unfolding findOf passed judge
-    find-at h l x e = simp (s .fits, lt-leb _ _ h, le-ltb _ _ l, e)
+    find-at b x e = simp (s .fits, b, e)
 
 module _ (n : ℕ) (t : Tables) (x i : ℕ) where
   -- 9 to 11 on their own
@@ -90,21 +103,25 @@ module _ (n : ℕ) (t : Tables) (x i : ℕ) where
   unfolding advanceOf judge
   advance-on b = simp b
 
-  -- the step by its numbers
-  advance-to : broken n t x i ≡ false
-      → (h j c : ℕ) → h ≡ holderOf t x → j ≡ carry (t .list) x i
-      → c ≡ leading (λ s. leb s j) (drop (h + 1) (t .list .starts))
-      → done (record { place = j; interval = h + c; count = c }) ≡ advanceOf n t x i
-  unfolding advanceOf stepOf stepTo walkCount passed judge
-  advance-to b h j c p q r = simp (b, r, add-one, p, q)
+  -- a move that no test refuses can be made
+  pub movable : n < 2 ^ 32 → Located n t x i → broken n t x i ≡ false → Movable t x i
+  movable m l b =
+      let w = whole-is n t x i b in
+      record {
+        entered = record { index = l .at .index; full = l .at .shape .full };
+        few = l .at .shape .few;
+        low = l .low;
+        held = w .0;
+        fits = omega (arith, w .1);
+      }
 
-  -- the same by the index after the last start passed
-  pub advance-end : broken n t x i ≡ false
-      → (h j e : ℕ) → h ≡ holderOf t x → j ≡ carry (t .list) x i
-      → e ≡ h + 1 + leading (λ s. leb s j) (drop (h + 1) (t .list .starts))
-      → done (record { place = j; interval = e - 1; count = e - (h + 1) }) ≡ advanceOf n t x i
-  advance-end b h j e p q r =
-      let c = leading (λ s. leb s j) (drop (h + 1) (t .list .starts)) in
-      let y : e - 1 ≡ h + c = omega arith in
-      let z : e - (h + 1) ≡ c = omega arith in
-      rw (y, z) (advance-to b h j c p q refl)
+-- the step by its numbers: the holder, the place reached, and the index after the last start passed
+pub step-by : (t : Tables) (x i h j e : ℕ) → h ≡ holderOf t x → j ≡ carry (t .list) x i
+    → e ≡ h + 1 + leading (λ s. leb s j) (drop (h + 1) (t .list .starts))
+    → record { place = j; interval = e - 1; count = e - (h + 1) } ≡ stepOf t x i
+unfolding stepOf stepTo walkCount passed
+step-by t x i h j e p q r =
+    let c = leading (λ s. leb s j) (drop (h + 1) (t .list .starts)) in
+    let y : e - 1 ≡ h + c = omega arith in
+    let z : e - (h + 1) ≡ c = omega arith in
+    rw (y, z) (simp (add-one, p, q))

@@ -1,14 +1,14 @@
 -- Find, move and repeated move (document 01, "Walking"), on any tables.
 use Prim.Native.Nat.{ℕ, zero, suc, _+_, _<_}
 use mathlib.Core.Path.{_≡_}
-use mathlib.Core.Bool.{_||_}
+use mathlib.Core.Bool.{Bool, _||_}
 use mathlib.Core.List.{List, [], _∷_}
-use lib.ListN.{drop}
+use lib.ListN.{drop, getD}
 use lib.Dec.{ltb, leb}
 use Rattle.outcomes.specs.Outcome.{Outcome, done, refused, Test, test, judge, mapDone, andThen}
 use Rattle.outcomes.specs.Refusal.{refusalSays}
 use Rattle.order.specs.Lists.{leading}
-use Rattle.runs.specs.Runs.{startOf, carry}
+use Rattle.runs.specs.Runs.{carry}
 use Rattle.tables.specs.Tables.{Tables, holderOf, shapeTest, indexTest, placeTest, brokenTest}
 use Rattle.walks.specs.declared.Step.{Step}
 use Rattle.walks.specs.declared.Found.{Found}
@@ -29,12 +29,19 @@ movedSays (NotMoved r) = refusalSays r
 unfoldable pub passed : List ℕ → ℕ → ℕ → ℕ
 passed starts h j = leading (λ s. leb s j) (drop (suc h) starts)
 
--- Find: the walk from interval 0 for place i. 11 here: i is not below n, or below the first start.
+-- Find: the walk from interval 0 for place i reaches as many intervals further as it passes starts.
+unfoldable pub foundAt : Tables → ℕ → ℕ
+foundAt t i = passed (t .list .starts) 0 i
+
+-- 11 for find: i is not below n, or below the first start
+unfoldable pub unfindable : ℕ → List ℕ → ℕ → Bool
+unfindable n starts i = leb n i || ltb i (getD starts 0 0)
+
 abbrev pub findTests : ℕ → Tables → ℕ → List Test
-findTests n t i = shapeTest n t ∷ test 11 (leb n i || ltb i (startOf (t .list) 0)) i ∷ []
+findTests n t i = shapeTest n t ∷ test 11 (unfindable n (t .list .starts) i) i ∷ []
 
 unfoldable pub findOf : ℕ → Tables → ℕ → Outcome ℕ
-findOf n t i = judge (findTests n t i) (passed (t .list .starts) 0 i)
+findOf n t i = judge (findTests n t i) (foundAt t i)
 
 -- what a walk from interval h to place j counts: the starts passed
 unfoldable pub walkCount : List ℕ → ℕ → ℕ → ℕ

@@ -1,14 +1,18 @@
 // Walks through move tables with any numbers in them: find, move and repeated move.
 //
 // Each operation's contract is one equation with its definition in specs/, for every input. On the tables of a legal
-// list these are the list's function and its powers (proofs/LegalTables).
+// list these are the list's function and its powers (proofs/LegalTables). The parts of find and of a move that questions share
+// with them stand last, and ask for what the tests before them show.
 mod locating;
 mod walk;
 
 use outcomes::Refusal;
 ghost use mathlib.Core.Path.{_≡_};
+ghost use Prim.Native.Nat.{_<_};
+ghost use lib.ListN.{length};
 ghost use Rattle.tables.specs.Tables.{tables};
-ghost use Rattle.walks.specs.Move.{foundSays, movedSays, findOf, moveOf, movesOf};
+ghost use Rattle.walks.specs.Move.{foundSays, movedSays, unfindable, findOf, moveOf, movesOf, stepOf};
+ghost use Rattle.walks.specs.Parts.{Movable};
 
 // Where a move or a repeated move ends, and how many interval starts it passed.
 pub struct Step {
@@ -34,10 +38,7 @@ pub fn find(n: u32, starts: &[u32], images: &[u32], holders: &[u32], i: u32) -> 
     if tables::is_misshapen(n, starts, images, holders) {
         return Found::Refused(Refusal::TableShape);
     }
-    if n <= i {
-        return Found::Refused(Refusal::PlaceRange(i));
-    }
-    if i < starts[0] {
+    if is_unfindable(n, starts, i) {
         return Found::Refused(Refusal::PlaceRange(i));
     }
     Found::At((order::stretch_end(starts, 1, i) - 1) as u32)
@@ -68,5 +69,32 @@ pub fn repeated_moves(
     match locating::locate(n, starts, images, holders, x, i) {
         Moved::Refused(r) => Moved::Refused(r),
         Moved::To(_) => walk::moves_from(n, starts, images, holders, x, i, m),
+    }
+}
+
+// Test 11 of find, for our own crates.
+pub fn is_unfindable(n: u32, starts: &[u32], i: u32) -> bool
+    requires { ⌜ 0 < length (now starts) ⌝ }
+    ensures { λ r. ⌜ r ≡ unfindable n (now (starts .entry)) i ⌝ }
+{
+    if n <= i {
+        return true;
+    }
+    i < starts[0]
+}
+
+// The step from place i of interval x where no test refuses it, for our own crates.
+pub fn step_from(starts: &[u32], images: &[u32], holders: &[u32], x: u32, i: u32) -> Step
+    requires { ⌜ Movable (tables (now starts) (now images) (now holders)) x i ⌝ }
+    ensures { λ r. ⌜ r ≡ stepOf (tables (now (starts .entry)) (now (images .entry)) (now (holders .entry))) x i ⌝ }
+{
+    let at = x as usize;
+    let j = images[at] + (i - starts[at]);
+    let from = holders[at] as usize + 1;
+    let end = order::stretch_end(starts, from, j);
+    Step {
+        place: j,
+        interval: (end - 1) as u32,
+        count: (end - from) as u64,
     }
 }

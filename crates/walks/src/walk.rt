@@ -2,7 +2,6 @@
 use super::Moved;
 use super::Step;
 use super::locating;
-use order::wide;
 use outcomes::Refusal;
 ghost use mathlib.Core.Path.{_≡_};
 ghost use Prim.Native.Nat.{_+_, _<_};
@@ -23,21 +22,10 @@ pub(crate) fn advance(
     requires { ⌜ Located n (tables (now starts) (now images) (now holders)) x i ⌝ }
     ensures { λ r. ⌜ movedSays r ≡ advanceOf n (tables (now (starts .entry)) (now (images .entry)) (now (holders .entry))) x i ⌝ }
 {
-    if tables::is_unheld(starts, images, holders, x) {
+    if tables::is_broken(n, starts, images, holders, x, i) {
         return Moved::Refused(Refusal::BrokenInterval(x));
     }
-    let at = x as usize;
-    let j = wide(images[at]) + wide(i - starts[at]);
-    if wide(n) <= j {
-        return Moved::Refused(Refusal::BrokenInterval(x));
-    }
-    let from = holders[at] as usize + 1;
-    let end = order::stretch_end(starts, from, j as u32);
-    Moved::To(Step {
-        place: j as u32,
-        interval: (end - 1) as u32,
-        count: (end - from) as u64,
-    })
+    Moved::To(super::step_from(starts, images, holders, x, i))
 }
 
 // A step with what was counted before it.

@@ -1,7 +1,9 @@
--- `find` meets its contract: an outcome law for each way to return.
-use Rattle.walks.proofs.Steps.{find-shape, find-far, find-low, find-at}
+-- `find` meets its contract.
+use Rattle.walks.proofs.Steps.{find-shape, find-out, find-at}
+use Rattle.walks.proofs.Finding.{passed-end, found-first}
 use Rattle.tables.proofs.Passing.{shaped}
 use native.Mathlib.Omega.{arith}
+use mathlib.Core.Path.{sym, _∙_}
 use borrow.Author.Needs.{needs}
 use Rattle.walks.proofs.find.Statement.{statement}
 use Rattle.walks.proofs.find.Tie as tie
@@ -12,42 +14,38 @@ is-misshapen-requires c κs = search needs
 returns : tie.Need-returns
 returns c = find-shape _ _ _ _ (c .before .is-misshapen .ensures) (c .if1 .taken)
 
+is-unfindable-requires : tie.Need-is-unfindable-requires
+is-unfindable-requires c κs =
+    let s = shaped _ _ _ (c .before .is-misshapen .ensures) (c .if1 .left) in
+    omega arith
+
 returns-2 : tie.Need-returns-2
 returns-2 c =
     let e = c .before in
-    find-far _ _ _ (shaped _ _ _ (e .before .is-misshapen .ensures) (e .if1 .left)) (omega arith)
+    let s = shaped _ _ _ (e .before .before .is-misshapen .ensures) (e .before .if1 .left) in
+    find-out _ _ _ s (sym (e .is-unfindable .ensures) ∙ c .if2 .taken)
 
-shared-slice-read-if3 : tie.Need-shared-slice-read-if3
-shared-slice-read-if3 c =
+stretch-end-requires : tie.Need-stretch-end-requires
+stretch-end-requires c κs =
+    let e = c .before in
+    let s = shaped _ _ _ (e .before .before .is-misshapen .ensures) (e .before .if1 .left) in
+    omega arith
+
+sub-t11 : tie.Need-sub-t11
+sub-t11 c = search needs
+
+cast-t12 : tie.Need-cast-t12
+cast-t12 c =
     let e = c .before .before in
-    let s = shaped _ _ _ (e .before .is-misshapen .ensures) (e .if1 .left) in
+    let s = shaped _ _ _ (e .before .before .is-misshapen .ensures) (e .before .if1 .left) in
     omega arith
 
 returns-3 : tie.Need-returns-3
 returns-3 c =
-    let e = c .before .before .before in
-    find-low _ _ _ (shaped _ _ _ (e .before .is-misshapen .ensures) (e .if1 .left)) (omega arith) (omega arith)
-
-stretch-end-requires : tie.Need-stretch-end-requires
-stretch-end-requires c κs =
-    let e = c .before .before .before in
-    let s = shaped _ _ _ (e .before .is-misshapen .ensures) (e .if1 .left) in
-    omega arith
-
-sub-t14 : tie.Need-sub-t14
-sub-t14 c = search needs
-
-cast-t11 : tie.Need-cast-t11
-cast-t11 c =
-    let e = c .before .before .before .before in
-    let s = shaped _ _ _ (e .before .is-misshapen .ensures) (e .if1 .left) in
-    omega arith
-
-returns-4 : tie.Need-returns-4
-returns-4 c =
-    let e = c .before .before .before .before in
-    let s = shaped _ _ _ (e .before .is-misshapen .ensures) (e .if1 .left) in
-    find-at _ _ _ s (omega arith) (omega arith) _ (omega (arith, c .stretch-end .ensures .0))
+    let e = c .before .before in
+    let s = shaped _ _ _ (e .before .before .is-misshapen .ensures) (e .before .if1 .left) in
+    let f = sym (e .is-unfindable .ensures) ∙ c .before .if2 .left in
+    find-at _ _ _ s f _ (passed-end _ 0 _ _ (c .stretch-end .ensures .0) ∙ found-first _ _)
 
 pub find-spec : {M : Type 1} → statement M
 find-spec =
@@ -55,10 +53,9 @@ find-spec =
     (tie.spec
     is-misshapen-requires
     returns
+    is-unfindable-requires
     returns-2
-    shared-slice-read-if3
-    returns-3
     stretch-end-requires
-    sub-t14
-    cast-t11
-    returns-4)
+    sub-t11
+    cast-t12
+    returns-3)
