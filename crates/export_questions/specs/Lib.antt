@@ -1,0 +1,2 @@
+-- The answers that cross the boundary.
+pub mod Answers

@@ -1,0 +1,34 @@
+// Questions together as a C function on numbers and slices, for a host program in Rust or C: thin above the proved
+// operation.
+//
+// A slice passes as pointer and length. So do the records, which are filled in where they lie. The answer is a struct by
+// value: `number` 0 means done; else it is the paper's number, `place` is the place, the interval or the index given with
+// it, and `count` is 0. specs/Answers.antt says which answer each outcome is.
+mod answers;
+
+use questions::Question;
+ghost use Rattle.tables.specs.Tables.{tables};
+ghost use Rattle.export_questions.specs.Answers.{AnswersHost};
+
+// The answer: the count is of the starts passed in finding. A record's index may pass 32 bits, so that the place has 64.
+#[repr(C)]
+pub struct QuestionsAnswer {
+    pub number: u32,
+    pub count: u32,
+    pub place: u64,
+}
+
+// Fills the records in, or leaves them all.
+#[no_mangle]
+pub extern "C" fn zibewoka_questions(
+    n: u32,
+    starts: &[u32],
+    images: &[u32],
+    holders: &[u32],
+    questions: &mut [Question],
+) -> QuestionsAnswer
+    ensures { λ r. ⌜ AnswersHost n (tables (now (starts .entry)) (now (images .entry)) (now (holders .entry))) (now (questions .entry)) r (now (questions .exit)) ⌝ }
+{
+    let answered = questions::answer(n, starts, images, holders, questions);
+    answers::of_questions(answered)
+}
