@@ -1,0 +1,2 @@
+-- What is promised of few questions.
+pub mod Few
