@@ -12,6 +12,7 @@ use Rattle.order.specs.Lists.{All}
 use Rattle.order.proofs.Laws.{all-append, sum-append}
 use Rattle.outcomes.specs.Outcome.{_then_else_}
 use Rattle.bookmarks.specs.Bookmark.{Marking}
+use Rattle.questions.specs.declared.Question.{Question}
 use Rattle.runs.specs.Runs.{Runs, mapOf}
 use Rattle.demands.specs.Calls.{Call, find, move, moves, total, movesIn, countOfMove, countIn, Bounded}
 use Rattle.walks.specs.Plain.{plainMove, plainMoves}
@@ -87,6 +88,11 @@ pub bounded-total : (b : ℕ) (l : List Marking) → All (Bounded b) l
     → total (map (λ w. countOfMove (w .answer)) l) ≤ length l * b
 bounded-total b [] a = omega arith
 bounded-total b (w ∷ l) a = omega (arith, a .0 .move, bounded-total b l (a .1))
+
+-- those of questions together
+pub records-total : (b : ℕ) (l : List Question) → All (λ q. q .count ≤ b) l → total (map (λ q. q .count) l) ≤ length l * b
+records-total b [] a = omega arith
+records-total b (q ∷ l) a = omega (arith, a .0, records-total b l (a .1))
 
 -- so all counts together are at most b for each move
 pub all-most : (b : ℕ) (ls : List (List ℕ)) → All (All (λ c. c ≤ b)) ls → total (map total ls) ≤ total (map length ls) * b

@@ -1,20 +1,20 @@
 -- Demand 1. The order of conditions of each operation is read off its definition; what `judge` gives is proved once for
--- all of them; and a refusal leaves what was lent, since `filled`, `filledTables` and `markAfter` do.
+-- all of them; and a refusal leaves what was lent, since `filled`, `filledTables`, `markAfter` and `recordsAfter` do.
 use Prim.Native.Nat.{ℕ, zero, suc, suc-le-suc}
-use mathlib.Core.Path.{_≡_, refl, sym, _∙_}
+use mathlib.Core.Path.{_≡_, refl, sym, ap, _∙_}
 use mathlib.Core.Bool.{Bool, true, false}
 use mathlib.Core.List.{List, [], _∷_, map}
 use native.Mathlib.Nat.{not-suc-le-zero, le-of-suc-le-suc}
 use native.Mathlib.Omega.{arith}
 use lib.ListN.{length}
-use Rattle.outcomes.specs.Outcome.{done, refused, Test, test, judge, _then_else_}
+use Rattle.outcomes.specs.Outcome.{Outcome, done, refused, Test, test, judge, _then_else_}
 use Rattle.outcomes.specs.Refusal.{checkedSays}
 use Rattle.runs.specs.Runs.{Runs}
 use Rattle.runs.specs.Check.{listTests, testsUpTo}
 use Rattle.lists.specs.Inverse.{inverseListOf, InverseListed}
 use Rattle.outcomes.specs.declared.Checked.{Checked}
 use Rattle.outcomes.proofs.Judging.{done-refused, map-refused, filled-refused}
-use Rattle.tables.specs.Tables.{sizeOf}
+use Rattle.tables.specs.Tables.{Tables, sizeOf}
 use Rattle.walks.specs.Move.{findOf, moveOf, movesOf}
 use Rattle.preimages.specs.Inverse.{inverseOf}
 use Rattle.weights.specs.Under.{weightOf}
@@ -22,6 +22,9 @@ use Rattle.walks.proofs.Moves.{moves-order}
 use Rattle.weights.proofs.Stretches.{under-length, under-none}
 use Rattle.bookmarks.specs.Bookmark.{bookmarkOf}
 use Rattle.bookmarks.proofs.Marks.{bookmark-kept}
+use Rattle.questions.specs.Questions.{answeredSays, answersOf, filledIn, recordsAfter, Answers}
+use Rattle.questions.specs.declared.Question.{Question}
+use Rattle.questions.specs.declared.Answered.{Answered}
 use Rattle.balance.specs.Lent.{Lent, balancedSays, balanceOf, Balances}
 use Rattle.balance.specs.declared.Balanced.{Balanced}
 use Rattle.balance.proofs.Heads.{tables-kept}
@@ -85,12 +88,18 @@ balance-kept n r d entry exit o c k p e =
     let w = c .working ∙ filled-refused _ _ k p (entry .working) q in
     λ j. record { tables = t j; working = w j }
 
+questions-kept : (n : ℕ) (t : Tables) (qs : List Question) (a : Answered) (left : List Question) → Answers n t qs a left
+    → (k p : ℕ) → answeredSays a ≡ refused k p → left ≡ qs
+unfolding recordsAfter
+questions-kept n t qs a left w k p e =
+    w .records ∙ ap (λ (o : Outcome ℕ). recordsAfter (filledIn t) o qs) (sym (w .says) ∙ e)
+
 -- what `judge` gives is judged
 judged : {A : Type 0} (order : List ℕ) (ts : List Test) (a : A) → map (λ t. t .number) ts ≡ order → Judged order ts a (judge ts a)
 judged order ts a e = record { in-order = e; when-done = judge-passes a ts; when-refused = judge-refuses a ts }
 
 pub demand1 : Demand1
-unfolding listTests testsUpTo countTests layoutTests headerTests bodyTests fileTests inverseListOf balanceOf findOf moveOf movesOf inverseOf weightOf bookmarkOf fileOf
+unfolding listTests testsUpTo countTests layoutTests headerTests bodyTests fileTests inverseListOf balanceOf findOf moveOf movesOf inverseOf weightOf bookmarkOf answersOf fileOf
 demand1 = record {
   check = λ n r. judged _ _ _ refl;
   inverse-list = λ n r a b. judged _ _ _ refl;
@@ -104,8 +113,10 @@ demand1 = record {
   under-refused = λ n t x k p e. sym (under-none n t x k p (sym e));
   under-size = λ n t x w e. under-length n t x w (sym e);
   bookmark = λ n t b. judged _ _ _ refl;
+  questions = λ n t ps. judged _ _ _ refl;
   file = λ most bytes. judged _ _ _ refl;
   inverse-list-kept = inverse-list-kept;
   balance-kept = balance-kept;
   bookmark-kept = bookmark-kept;
+  questions-kept = questions-kept;
 }

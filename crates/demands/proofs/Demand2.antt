@@ -1,5 +1,6 @@
 -- Demand 2: acceptance is `check`'s own theorem (runs/proofs/Sequences, Intervals), and the walks through a list's own tables and
--- through those of its balanced list are one theorem (Through), since both lists are legal and have one function.
+-- through those of its balanced list are one theorem (Through), since both lists are legal and have one function. What holds
+-- of questions on any tables is theirs (questions/proofs/Agreeing, Passing).
 use Prim.Native.Nat.{ℕ, _≤_}
 use mathlib.Core.Path.{refl}
 use native.Mathlib.Omega.{arith}
@@ -11,6 +12,8 @@ use Rattle.runs.proofs.Sequences.{accepted-sequence, sequence-accepted}
 use Rattle.runs.proofs.Intervals.{accepted-intervals, intervals-accepted}
 use Rattle.tables.specs.Tables.{maxIntervals}
 use Rattle.files.proofs.Accepted.{file-accepted}
+use Rattle.questions.proofs.Agreeing.{records-agree}
+use Rattle.questions.proofs.Passing.{passes-once}
 use Rattle.cuts.specs.Balance.{balanced}
 use Rattle.cuts.proofs.Balancing.{balanced-legal, balanced-map, balanced-cuts}
 use Rattle.demands.specs.Demands.{Through, Demand2}
@@ -31,4 +34,6 @@ demand2 = record {
   accepted-file = file-accepted;
   own-tables = λ n r a. let l = accepted-legal n r a in through n r r (l .0) (l .0) (omega (arith, l .1)) (λ p h. refl);
   balanced-tables = λ n r d a many few. let l = accepted-legal n r a in through-balanced n r (l .0) (l .1) d many;
+  questions-agree = records-agree;
+  questions-pass = λ n t qs a left w c e. passes-once t n qs a left w c e;
 }

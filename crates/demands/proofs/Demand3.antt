@@ -1,19 +1,24 @@
 -- Demand 3. What `balance` promises puts the tables of the balanced list at the head of the lent ones; through these the
 -- single calls are the plain walk's, so whole lists of calls are (Serving, Marking); and since no interval is heavy, no
 -- move passes more than 2d − 1 starts (Counting).
-use Prim.Native.Nat.{ℕ, zero, suc, _-_, _*_, _≤_, _<_}
+use Prim.Native.Nat.{ℕ, zero, suc, _*_, _≤_, _<_}
 use mathlib.Core.Path.{_≡_, refl, sym, ap, _∙_}
 use mathlib.Core.List.{List, [], _∷_, _++_, map}
 use native.Mathlib.Omega.{arith}
 use lib.ListN.{length}
 use Rattle.order.specs.Lists.{All}
-use Rattle.outcomes.specs.Outcome.{refused}
+use Rattle.outcomes.specs.Outcome.{done, refused}
 use Rattle.runs.specs.Runs.{Runs, countOf, runAt}
 use Rattle.runs.specs.Legal.{Legal}
 use Rattle.runs.specs.Check.{maxRuns}
 use Rattle.runs.proofs.Accepted.{accepted-legal}
 use Rattle.tables.specs.Tables.{tablesOf, maxIntervals}
 use Rattle.bookmarks.specs.Bookmark.{fresh, Marking, markingsOf}
+use Rattle.questions.specs.Questions.{answeredSays, placesOf, recordsAfter, Answers}
+use Rattle.questions.specs.Plain.{plainAnswers, plainQuestion}
+use Rattle.questions.specs.declared.Question.{Question}
+use Rattle.questions.specs.declared.Answered.{Answered}
+use Rattle.questions.proofs.LegalQuestions.{plain-counts}
 use Rattle.walks.proofs.LegalTables.{legal-find-beyond}
 use Rattle.walks.specs.Move.{findOf}
 use Rattle.cuts.specs.Balance.{balanced}
@@ -28,7 +33,7 @@ use Rattle.demands.specs.Served.{served, servedTrail}
 use Rattle.demands.specs.Demands.{Through, Serves, Demand3}
 use Rattle.demands.proofs.Demand2.{balanced-few, through-balanced}
 use Rattle.demands.proofs.Serving.{same-replies}
-use Rattle.demands.proofs.Counting.{counts-length, counts-sum, counts-most, bounded-total, all-most}
+use Rattle.demands.proofs.Counting.{counts-length, counts-sum, counts-most, bounded-total, records-total, all-most}
 use Rattle.demands.proofs.Marking.{fresh-stands, same-trail, trail-length, trail-bounds, end-bounds, advance-bounds, advancing-served, trail-last}
 
 module _ (n : ℕ) (r : Runs) (d : ℕ) (c : Legal n r) (k : countOf r ≤ maxRuns) (many : 2 ≤ d) (few : d ≤ 64) where
@@ -66,6 +71,20 @@ module _ (n : ℕ) (r : Runs) (d : ℕ) (c : Legal n r) (k : countOf r ≤ maxRu
       end-bounds n (maxCount d) r t (tablesOf n t) (walks .move) (walks .inside) most small m (fresh p (runAt n t p))
       (fresh-stands n (maxCount d) r t p h)
 
+  -- questions together: what the contract says, by the plain walk
+  told : (qs : List Question) (a : Answered) (left : List Question) → Answers n (tablesOf n t) qs a left
+      → (answeredSays a ≡ plainAnswers n t (placesOf qs))
+      × (left ≡ recordsAfter (plainQuestion n r t) (plainAnswers n t (placesOf qs)) qs)
+  told qs a left w = (w .says ∙ walks .questions (placesOf qs), w .records ∙ walks .records qs)
+
+  told-most : (qs : List Question) (a : Answered) (left : List Question) → Answers n (tablesOf n t) qs a left
+      → (c : ℕ) → answeredSays a ≡ done c → All (λ q. q .count ≤ maxCount d) left
+  unfolding recordsAfter
+  told-most qs a left w c e =
+      let s = told qs a left w in
+      let f : done c ≡ plainAnswers n t (placesOf qs) = sym e ∙ s .0 in
+      rw (s .1, ← f) (plain-counts n r t (maxCount d) most qs c f)
+
   -- the tables of the balanced list serve the plain walk
   pub tables-serve : Serves n r t d (tablesOf n t)
   tables-serve =
@@ -101,6 +120,9 @@ module _ (n : ℕ) (r : Runs) (d : ℕ) (c : Legal n r) (k : countOf r ≤ maxRu
             advance-bounds n b r t (tablesOf n t) (walks .move) (walks .inside) most small ms _ (fresh-stands n b r t p h) a;
         same-end = λ p h m. fresh-end m p h;
         end-bounds = λ p h m. bounds-at m p h;
+        same-questions = told;
+        question-bounds = told-most;
+        question-total = λ qs a left w c e. records-total b left (told-most qs a left w c e);
       }
 
 pub demand3 : Demand3

@@ -14,26 +14,22 @@ use Rattle.preimages.specs.Inverse.{inverseOf}
 use Rattle.walks.specs.declared.Step.{Step}
 use Rattle.walks.proofs.LegalTables.{legal-find, legal-move, legal-moves}
 use Rattle.preimages.proofs.LegalPreimages.{legal-inverse}
+use Rattle.questions.proofs.LegalQuestions.{legal-answers, legal-records}
 use Rattle.bookmarks.specs.declared.Bookmark.{Bookmark}
 use Rattle.bookmarks.specs.Bookmark.{fresh, Marking, marking, markingOf, markingsOf}
 use Rattle.walks.specs.Plain.{plainMove, plainMoves}
-use Rattle.walks.proofs.PlainMoves.{count-few, moves-place, moves-below}
+use Rattle.walks.proofs.PlainMoves.{move-same, count-few, moves-place, moves-below}
 use Rattle.demands.specs.PlainWalk.{standing}
 use Rattle.demands.specs.Demands.{Through}
 use Rattle.demands.proofs.Marking.{mark-goes}
 
 module _ (n : ℕ) (r t : Runs) (c : Legal n t) (same : (p : ℕ) → p < n → mapOf n t p ≡ mapOf n r p) where
-  -- one step of both
-  step-plain : (p : ℕ) → p < n → plainMove n t t p ≡ plainMove n r t p
-  unfolding plainMove
-  step-plain p h = rw (same p h)
-
   steps-plain : (m p : ℕ) → p < n → plainMoves n t t m p ≡ plainMoves n r t m p
   unfolding plainMoves
   steps-plain zero p h = refl
   steps-plain (suc m) p h =
       let s = plainMoves n t t m p in
-      ap (countedAfter (s .count)) (step-plain (s .place) (moves-below n t t (map-below n t c) m p h))
+      ap (countedAfter (s .count)) (move-same n r t (s .place) (same _ (moves-below n t t (map-below n t c) m p h)))
       ∙ ap (λ (u : Step). countedAfter (u .count) (plainMove n r t (u .place))) (steps-plain m p h)
 
 -- m moves of a bookmark that is fresh at p, by the moves of the list
@@ -86,7 +82,7 @@ pub through : (n : ℕ) (r t : Runs) → Legal n r → Legal n t → countOf t �
     → Through n r t
 through n r t l c few same =
     let move-to : (p : ℕ) → p < n → moveOf n (tablesOf n t) (runAt n t p) p ≡ done (plainMove n r t p) =
-    λ p h. legal-move n t c few p h ∙ ap done (step-plain n r t c same p h) in
+    λ p h. legal-move n t c few p h ∙ ap done (move-same n r t p (same p h)) in
     record {
       find = legal-find n t c few;
       move = move-to;
@@ -94,6 +90,8 @@ through n r t l c few same =
       bookmark = mark-goes n r t (tablesOf n t) move-to;
       bookmark-moves = marks-are n r t few move-to (power-below n r l);
       inverse = λ p h. ap (inverseOf n (tablesOf n t)) (sym (same p h)) ∙ legal-inverse n t c few p h;
+      questions = legal-answers n t c few;
+      records = legal-records n t c few r same;
       onto = map-onto n r l;
       inside = map-below n r l;
       one-to-one = map-injective n r l;

@@ -1,6 +1,6 @@
 -- The three demands, in our words. Their proofs are in proofs/, apart from what they say. That every call stays in bounds
 -- and ends is what the checker proves of each function; here stands what its contract's definitions come to.
-use Prim.Native.Nat.{ℕ, suc, _+_, _-_, _*_, _^_, _≤_, _<_}
+use Prim.Native.Nat.{ℕ, suc, _+_, _*_, _^_, _≤_, _<_}
 use mathlib.Core.Path.{_≡_}
 use mathlib.Core.Logic.{_↔_, _⊎_}
 use mathlib.Core.List.{List, [], _∷_, _++_, map}
@@ -14,13 +14,18 @@ use Rattle.runs.specs.Check.{maxRuns, checkTests, checkOf, writeTests}
 use Rattle.lists.specs.Inverse.{inverseRuns, inverseListOf, InverseListed}
 use Rattle.outcomes.specs.declared.Checked.{Checked}
 use Rattle.tables.specs.Tables.{Tables, tablesOf}
-use Rattle.walks.specs.Move.{movedSays, findTests, locateTests, moveTests, passed, stepOf, stayAt, findOf, moveOf, movesOf, Stopped}
+use Rattle.walks.specs.Move.{movedSays, findTests, locateTests, moveTests, foundAt, stepOf, stayAt, findOf, moveOf, movesOf, Stopped}
 use Rattle.preimages.specs.Inverse.{sourceOf, inverseTests, inverseOf}
 use Rattle.weights.specs.Under.{underTests, underCount, weightOf, startsUnderOf}
 use Rattle.walks.specs.declared.Moved.{Moved}
 use Rattle.bookmarks.specs.Bookmark.{bookmarkTests, bookmarkOf, fresh, Advances, marking, markedSays, markingOf, markingsOf}
 use Rattle.bookmarks.specs.declared.Bookmark.{Bookmark}
 use Rattle.bookmarks.specs.declared.Marked.{Marked}
+use Rattle.questions.specs.Questions.{answeredSays, placesOf, questionTests, foundLast, answersOf, filledIn, recordsAfter, Answers}
+use Rattle.questions.specs.Agree.{Agrees, OnePass}
+use Rattle.questions.specs.Plain.{plainAnswers, plainQuestion}
+use Rattle.questions.specs.declared.Question.{Question}
+use Rattle.questions.specs.declared.Answered.{Answered}
 use Rattle.cuts.specs.Balance.{balanced, boundOf}
 use Rattle.balance.specs.Lent.{Lent, Room, firstOf, balancedSays, balanceTests, balanceOf, Balances}
 use Rattle.balance.specs.declared.Balanced.{Balanced}
@@ -34,8 +39,9 @@ use Rattle.walks.specs.Plain.{maxCount, plainMove, plainMoves}
 use Rattle.demands.specs.PlainWalk.{plainWalk, walkCounts, plainTrail, standing}
 use Rattle.demands.specs.Served.{served, servedTrail, Advancing}
 
--- DEMAND 1. Whatever numbers stand in a list, a file, tables or a bookmark, a call does its work or gives the number of the
--- first condition that applies, in an order that is fixed; and a refused call leaves all that was lent as it was.
+-- DEMAND 1. Whatever numbers stand in a list, a file, tables, a bookmark or questions, a call does its work or gives the
+-- number of the first condition that applies, in an order that is fixed; and a refused call leaves all that was lent as it
+-- was. The numbers are 1 to 15, and 16 for questions.
 pub record Demand1 : Type 0 where
   pub check : (n : ℕ) (r : Runs) → Judged (1 ∷ 2 ∷ 3 ∷ 4 ∷ 5 ∷ 6 ∷ []) (checkTests n r) tt (checkOf n r)
   pub inverse-list : (n : ℕ) (r : Runs) (a b : List ℕ)
@@ -43,7 +49,7 @@ pub record Demand1 : Type 0 where
   pub balance : (n : ℕ) (r : Runs) (d : ℕ) (l : Lent)
       → Judged (1 ∷ 2 ∷ 3 ∷ 4 ∷ 5 ∷ 6 ∷ 7 ∷ 8 ∷ []) (balanceTests n r d l) (tablesOf n (balanced d n r)) (balanceOf n r d l)
   pub find : (n : ℕ) (t : Tables) (i : ℕ)
-      → Judged (9 ∷ 11 ∷ []) (findTests n t i) (passed (t .list .starts) 0 i) (findOf n t i)
+      → Judged (9 ∷ 11 ∷ []) (findTests n t i) (foundAt t i) (findOf n t i)
   pub move : (n : ℕ) (t : Tables) (x i : ℕ)
       → Judged (9 ∷ 10 ∷ 11 ∷ 12 ∷ []) (moveTests n t x i) (stepOf t x i) (moveOf n t x i)
   -- a repeated move of no moves; any other is refused exactly where that one is, or where it cannot leave an interval on
@@ -62,6 +68,9 @@ pub record Demand1 : Type 0 where
   pub under-size : (n : ℕ) (t : Tables) (x w : ℕ) → weightOf n t x ≡ done w → length (startsUnderOf n t x) ≡ w
   pub bookmark : (n : ℕ) (t : Tables) (b : Bookmark)
       → Judged (9 ∷ 10 ∷ 11 ∷ 12 ∷ 13 ∷ []) (bookmarkTests n t b) (stepOf t (b .interval) (b .place)) (bookmarkOf n t b)
+  -- questions together: 16 before 11, and each over all records before the next
+  pub questions : (n : ℕ) (t : Tables) (ps : List ℕ)
+      → Judged (9 ∷ 16 ∷ 11 ∷ 12 ∷ []) (questionTests n t ps) (foundLast t ps (length ps)) (answersOf n t ps)
   -- a file has an order of its own
   pub file : (most : ℕ) (bytes : List ℕ)
       → Judged (15 ∷ 1 ∷ 2 ∷ 15 ∷ 15 ∷ 15 ∷ 3 ∷ 4 ∷ 5 ∷ 6 ∷ 7 ∷ []) (fileTests most bytes) (headerOf bytes) (fileOf most bytes)
@@ -72,9 +81,12 @@ pub record Demand1 : Type 0 where
       → (k p : ℕ) → balancedSays o ≡ refused k p → exit ≡ entry
   pub bookmark-kept : (n : ℕ) (t : Tables) (b : Bookmark) (m : Moved) (left : Bookmark) → Advances n t b m left
       → (k p : ℕ) → movedSays m ≡ refused k p → left ≡ b
+  pub questions-kept : (n : ℕ) (t : Tables) (qs : List Question) (a : Answered) (left : List Question) → Answers n t qs a left
+      → (k p : ℕ) → answeredSays a ≡ refused k p → left ≡ qs
 
 -- DEMAND 2. The lists that are accepted are the disjoint interval sequences, as Nishimoto and Tabei define them, of at most
--- 16,384 runs. Find, moves, repeated moves, bookmarks and inverse through their tables give the sequence's function.
+-- 16,384 runs. Find, moves, repeated moves, bookmarks, inverse and questions together through their tables give the
+-- sequence's function.
 
 -- the walks through the tables of the list t give the function of the list r
 pub record Through (n : ℕ) (r t : Runs) : Type 0 where
@@ -93,6 +105,12 @@ pub record Through (n : ℕ) (r t : Runs) : Type 0 where
       (standing n r t (powerOf n r (suc m) p) (suc m) (plainMoves n r t (suc m) p .count))
   pub inverse : (p : ℕ) → p < n
       → inverseOf n (tablesOf n t) (mapOf n r p) ≡ done (record { place = p; interval = runAt n t p })
+  -- questions together: the answer, and the records left, filled in by the function of r and the starts of t; the only refusals
+  -- are those of places that fall or are not below n
+  pub questions : (ps : List ℕ) → answersOf n (tablesOf n t) ps ≡ plainAnswers n t ps
+  pub records : (qs : List Question)
+      → recordsAfter (filledIn (tablesOf n t)) (answersOf n (tablesOf n t) (placesOf qs)) qs
+      ≡ recordsAfter (plainQuestion n r t) (plainAnswers n t (placesOf qs)) qs
   -- the function maps the places one to one onto themselves
   pub onto : (q : ℕ) → q < n → (p : ℕ) × (p < n) × (mapOf n r p ≡ q)
   pub inside : (p : ℕ) → p < n → mapOf n r p < n
@@ -106,10 +124,17 @@ pub record Demand2 : Type 0 where
   pub accepted-file : (bytes : List ℕ) (h : Header) → (fileOf maxRuns bytes ≡ done h) ↔ ((h ≡ headerOf bytes) × RightFile bytes)
   pub own-tables : (n : ℕ) (r : Runs) → checkOf n r ≡ done tt → Through n r r
   pub balanced-tables : (n : ℕ) (r : Runs) (d : ℕ) → checkOf n r ≡ done tt → 2 ≤ d → d ≤ 64 → Through n r (balanced d n r)
+  -- questions that are answered together, on any tables: each record agrees with find and move done alone; and one pass over
+  -- the places finds each record's interval and counts the answer, which is the last one's
+  pub questions-agree : (n : ℕ) (t : Tables) (qs : List Question) (a : Answered) (left : List Question) → Answers n t qs a left
+      → (c : ℕ) → answeredSays a ≡ done c → All (Agrees n t) left
+  pub questions-pass : (n : ℕ) (t : Tables) (qs : List Question) (a : Answered) (left : List Question) → Answers n t qs a left
+      → (c : ℕ) → answeredSays a ≡ done c → OnePass t (placesOf qs) left c
 
 -- DEMAND 3. An accepted list of k runs, a degree from 2 to 64 and lent tables of at least B entries: balancing fits in B
 -- and leaves the same permutation. Any list of calls through the filled entries, refused ones included, is answered as the
--- plain walk answers it, each move passing at most 2d − 1 starts; and so for the moves of one bookmark.
+-- plain walk answers it, each move passing at most 2d − 1 starts; and so for the moves of one bookmark, and for questions
+-- together.
 
 -- The tables τ serve, at degree d, the plain walk over the list r and the balanced list t, from any place p and the
 -- interval of t that has it.
@@ -139,6 +164,15 @@ pub record Serves (n : ℕ) (r t : Runs) (d : ℕ) (τ : Tables) : Type 0 where
   pub same-end : (p : ℕ) → p < n → (m : ℕ)
       → plainTrail n r t (suc m) p 0 0 ≡ plainTrail n r t m p 0 0 ++ (markingsOf n τ (suc m) (fresh p (runAt n t p)) ∷ [])
   pub end-bounds : (p : ℕ) → p < n → (m : ℕ) → Bounded (maxCount d) (markingsOf n τ m (fresh p (runAt n t p)))
+  -- Questions together, over the contract of `answer` and for any records: the answer, and each record as the plain walk's find
+  -- and move would fill it in. Where they are answered, the count of each record, and all of them together.
+  pub same-questions : (qs : List Question) (a : Answered) (left : List Question) → Answers n τ qs a left
+      → (answeredSays a ≡ plainAnswers n t (placesOf qs))
+      × (left ≡ recordsAfter (plainQuestion n r t) (plainAnswers n t (placesOf qs)) qs)
+  pub question-bounds : (qs : List Question) (a : Answered) (left : List Question) → Answers n τ qs a left
+      → (c : ℕ) → answeredSays a ≡ done c → All (λ q. q .count ≤ maxCount d) left
+  pub question-total : (qs : List Question) (a : Answered) (left : List Question) → Answers n τ qs a left
+      → (c : ℕ) → answeredSays a ≡ done c → total (map (λ q. q .count) left) ≤ length left * maxCount d
 
 abbrev pub Demand3 : Type 0
 Demand3 =

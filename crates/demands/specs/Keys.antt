@@ -1,6 +1,7 @@
 -- The keys that are proved about the definitions: one table, one statement. Its rows are written from document 01: the keys
--- that it marks to be proved, the example's listing, ψ, and both ends of a shift. On the left stands what is asked of a
--- definition, on the right the numbers that the document gives.
+-- that it marks to be proved, the example's listing, ψ, and both ends of a shift; and from document 02, what its text comes
+-- to for questions together (A.1). On the left stands what is asked of a definition, on the right the numbers that the
+-- document gives, or that were worked out from it by hand.
 use Prim.Native.Nat.{ℕ, suc}
 use mathlib.Core.Path.{_≡_, refl}
 use mathlib.Core.List.{List, [], _∷_, _++_, map}
@@ -8,12 +9,14 @@ use lib.IntN.{ℤ, pos, negsuc}
 use Rattle.outcomes.specs.Outcome.{Outcome, done, refused, judge, mapDone, andThen}
 use Rattle.runs.specs.Runs.{Runs, runs, countOf, startOf, imageOf, shiftOf}
 use Rattle.runs.specs.Check.{unmatched, unordered, outOfRange, overlap, overlaps, listTests, testsUpTo, checkOf}
-use Rattle.tables.specs.Tables.{Tables, tablesOf, holderOf, misshapen, outside, unheld, broken}
-use Rattle.walks.specs.Move.{passed, walkCount, stepTo, stepOf, moveOf, onwards, movesOf}
+use Rattle.tables.specs.Tables.{Tables, tables, tablesOf, holderOf, misshapen, outside, unheld, broken}
+use Rattle.walks.specs.Move.{passed, foundAt, unfindable, walkCount, stepTo, stepOf, moveOf, onwards, movesOf}
 use Rattle.preimages.specs.Inverse.{sends, sourceOf, inverseOf}
 use Rattle.runs.specs.Weight.{weight}
 use Rattle.walks.specs.declared.Step.{Step}
 use Rattle.preimages.specs.declared.Source.{Source}
+use Rattle.questions.specs.Questions.{fallsAt, unfindableAt, brokenAt, answersOf, filledIn, recordsAfter}
+use Rattle.questions.specs.declared.Question.{Question}
 use Rattle.cuts.specs.Balance.{cutting, balanced}
 
 -- An outcome as a row of numbers: 0 and its values, or the refusal's number and place.
@@ -29,6 +32,21 @@ movedRow o = rowFrom (λ s. s .place ∷ s .interval ∷ s .count ∷ []) o
 
 abbrev pub invertedRow : Outcome Source → List ℕ
 invertedRow o = rowFrom (λ s. s .place ∷ s .interval ∷ []) o
+
+-- records, one after the other: place, interval, place and interval reached, count
+abbrev pub recordsRow : List Question → List ℕ
+recordsRow [] = []
+recordsRow (q ∷ qs) = q .place ∷ q .interval ∷ q .«to_place» ∷ q .«to_interval» ∷ q .count ∷ recordsRow qs
+
+-- records that ask about these places, with another number in the fields to be filled in; the answer, and what it leaves
+abbrev pub asked : ℕ → Question
+asked p = record { place = p; interval = 9; «to_place» = 9; «to_interval» = 9; count = 9 }
+
+abbrev pub answeredRow : ℕ → Tables → List ℕ → List ℕ
+answeredRow n t ps = rowFrom (λ c. c ∷ []) (answersOf n t ps)
+
+abbrev pub leftRow : ℕ → Tables → List ℕ → List ℕ
+leftRow n t ps = recordsRow (recordsAfter (filledIn t) (answersOf n t ps) (map asked ps))
 
 -- an integer as its sign, which is 1 below 0 and else 0, and its size
 abbrev pub signedRow : ℤ → List ℕ
@@ -71,6 +89,13 @@ abbrev pub psi : Runs
 psi =
     runs (0 ∷ 1 ∷ 5 ∷ 6 ∷ 12 ∷ 17 ∷ 19 ∷ 22 ∷ 25 ∷ 32 ∷ 34 ∷ 42 ∷ 43 ∷ [])
     (11 ∷ 28 ∷ 2 ∷ 22 ∷ 32 ∷ 38 ∷ 42 ∷ 12 ∷ 15 ∷ 0 ∷ 3 ∷ 37 ∷ 40 ∷ [])
+
+-- the example's tables with two holders that are none, and tables whose starts do not rise
+abbrev pub lostHolder : Tables
+lostHolder = record { list = exampleTables .list; holders = 5 ∷ 9 ∷ 4 ∷ 9 ∷ 0 ∷ 2 ∷ [] }
+
+abbrev pub mixedStarts : Tables
+mixedStarts = tables (0 ∷ 9 ∷ 4 ∷ 12 ∷ []) (0 ∷ 9 ∷ 4 ∷ 12 ∷ []) (0 ∷ 1 ∷ 0 ∷ 3 ∷ [])
 
 -- a row of the table
 infix 4 _is_
@@ -115,8 +140,34 @@ keys =
     -- ψ: no cut at d 2; place 15, interval 4
     (countOf (balanced 2 45 psi) ∷ [] is 13 ∷ []) ∷
     (movedRow (moveOf 45 (tablesOf 45 (balanced 2 45 psi)) 4 15) is 0 ∷ 35 ∷ 10 ∷ 1 ∷ []) ∷
+    -- questions together: the listing's tables, two places equal; no records
+    (answeredRow 16 exampleTables (0 ∷ 3 ∷ 3 ∷ 11 ∷ 15 ∷ []) is 0 ∷ 5 ∷ []) ∷
+    (leftRow 16 exampleTables (0 ∷ 3 ∷ 3 ∷ 11 ∷ 15 ∷ []) is
+    0 ∷ 0 ∷ 14 ∷ 5 ∷ 0 ∷ 3 ∷ 1 ∷ 13 ∷ 5 ∷ 0 ∷ 3 ∷ 1 ∷ 13 ∷ 5 ∷ 0 ∷ 11 ∷ 4 ∷ 3 ∷ 1 ∷ 1 ∷ 15 ∷ 5 ∷ 7 ∷ 3 ∷ 1 ∷ []) ∷
+    (answeredRow 16 exampleTables [] is 0 ∷ 0 ∷ []) ∷
+    -- the tables' own test comes first, for no records too; then places that fall, after one that is not below n and before
+    -- one, and twice, and nothing is filled in; then two places not below n, and one below the first start
+    (answeredRow 0 exampleTables (3 ∷ 2 ∷ []) is 9 ∷ 0 ∷ []) ∷
+    (answeredRow 0 exampleTables [] is 9 ∷ 0 ∷ []) ∷
+    (answeredRow 16 exampleTables (99 ∷ 2 ∷ []) is 16 ∷ 1 ∷ []) ∷
+    (answeredRow 16 exampleTables (3 ∷ 2 ∷ 99 ∷ []) is 16 ∷ 1 ∷ []) ∷
+    (answeredRow 16 exampleTables (5 ∷ 3 ∷ 1 ∷ []) is 16 ∷ 1 ∷ []) ∷
+    (leftRow 16 exampleTables (3 ∷ 2 ∷ []) is 3 ∷ 9 ∷ 9 ∷ 9 ∷ 9 ∷ 2 ∷ 9 ∷ 9 ∷ 9 ∷ 9 ∷ []) ∷
+    (answeredRow 16 exampleTables (3 ∷ 16 ∷ 20 ∷ []) is 11 ∷ 16 ∷ []) ∷
+    (answeredRow 16 (tables (2 ∷ 4 ∷ []) (10 ∷ 8 ∷ []) (0 ∷ 0 ∷ [])) (1 ∷ 3 ∷ []) is 11 ∷ 1 ∷ []) ∷
+    -- intervals 1 and 3 cannot be left: 16 and 11 of a later record come first; 12 with the lower one; and no record lies
+    -- there. A move that would reach n
+    (answeredRow 16 lostHolder (3 ∷ 2 ∷ []) is 16 ∷ 1 ∷ []) ∷
+    (answeredRow 16 lostHolder (2 ∷ 3 ∷ 99 ∷ []) is 11 ∷ 99 ∷ []) ∷
+    (answeredRow 16 lostHolder (0 ∷ 3 ∷ 7 ∷ []) is 12 ∷ 1 ∷ []) ∷
+    (answeredRow 16 lostHolder (0 ∷ 1 ∷ 4 ∷ []) is 0 ∷ 2 ∷ []) ∷
+    (answeredRow 15 exampleTables (0 ∷ 1 ∷ []) is 12 ∷ 0 ∷ []) ∷
+    -- starts in any order: found 0, 0, 2 and 3
+    (answeredRow 16 mixedStarts (0 ∷ 5 ∷ 9 ∷ 13 ∷ []) is 0 ∷ 3 ∷ []) ∷
+    (leftRow 16 mixedStarts (0 ∷ 5 ∷ 9 ∷ 13 ∷ []) is
+    0 ∷ 0 ∷ 0 ∷ 0 ∷ 0 ∷ 5 ∷ 0 ∷ 5 ∷ 0 ∷ 0 ∷ 9 ∷ 2 ∷ 9 ∷ 2 ∷ 2 ∷ 13 ∷ 3 ∷ 13 ∷ 3 ∷ 0 ∷ []) ∷
     []
 
 pub keys-hold : map computed keys ≡ map given keys
-unfolding judge mapDone andThen unmatched unordered outOfRange overlap overlaps listTests testsUpTo misshapen outside unheld broken passed walkCount stepTo stepOf moveOf onwards movesOf sends sourceOf inverseOf cutting balanced
+unfolding judge mapDone andThen unmatched unordered outOfRange overlap overlaps listTests testsUpTo misshapen outside unheld broken passed foundAt unfindable walkCount stepTo stepOf moveOf onwards movesOf sends sourceOf inverseOf fallsAt unfindableAt brokenAt answersOf filledIn recordsAfter cutting balanced
 keys-hold = refl
