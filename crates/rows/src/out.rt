@@ -55,33 +55,32 @@ pub fn written(count: usize, s: &[u8]) {
     line(b"|");
 }
 
+// Two numbers, as the number and the place of a refusal.
+pub fn pair(a: u64, b: u64) {
+    number(a);
+    number(b);
+    end();
+}
+
 // The number and the place of a refusal.
 pub fn refusal(r: Refusal) {
-    number(r.number() as u64);
-    number(r.place() as u64);
-    end();
+    pair(r.number() as u64, r.place() as u64);
 }
 
 // 0 and a value.
 pub fn one(a: u64) {
-    number(0);
-    number(a);
-    end();
+    pair(0, a);
 }
 
 // The same with two values.
 pub fn two(a: u64, b: u64) {
     number(0);
-    number(a);
-    number(b);
-    end();
+    pair(a, b);
 }
 
 // The same with three values.
 pub fn three(a: u64, b: u64, c: u64) {
     number(0);
     number(a);
-    number(b);
-    number(c);
-    end();
+    pair(b, c);
 }

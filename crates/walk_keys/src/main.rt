@@ -9,10 +9,12 @@
 //     under n x : starts : images : holders
 //     bookmark n, place, interval, moves, and starts passed as a high and a low number : starts : images : holders
 //     bookmark-moves n x i m : starts : images : holders
+//     questions n : starts : images : holders : places, at most eight
 //
-// `under` is answered by how many starts there are, and which. A bookmark is lent, so it is printed after its call; its
-// move on the spot runs within `bookmark-moves`.
+// `under` is answered by how many starts there are, and which. A bookmark and the records of questions are lent, so they
+// are printed after the call; a bookmark's move on the spot runs within `bookmark-moves`.
 mod answers;
+mod asking;
 
 use bookmarks::Bookmark;
 use rows::out;
@@ -33,9 +35,9 @@ fn advance(numbers: &[u32], starts: &[u32], images: &[u32], holders: &[u32]) {
     answers::marked(bookmarks::advanced(rows::number(numbers, 0), starts, images, holders, before));
 }
 
-// Runs what is called: a, b and c are starts, images and holders. A number or a slice that the row lacks is 0 or empty,
-// and is not looked at.
-fn call(code: usize, numbers: &[u32], a: &[u32], b: &[u32], c: &[u32]) {
+// Runs what is called: a, b and c are starts, images and holders, and d the places of questions. A number or a slice that
+// the row lacks is 0 or empty, and is not looked at.
+fn call(code: usize, numbers: &[u32], a: &[u32], b: &[u32], c: &[u32], d: &[u32]) {
     let n = rows::number(numbers, 0);
     let p = rows::number(numbers, 1);
     let q = rows::number(numbers, 2);
@@ -49,7 +51,8 @@ fn call(code: usize, numbers: &[u32], a: &[u32], b: &[u32], c: &[u32]) {
         523 => out::stretch(weights::starts_under(n, a, b, c, p)),
         663 => advance(numbers, a, b, c),
         743 => answers::marked(bookmarks::bookmark_moves(n, a, b, c, p, q, r)),
-        800..=899 => {}
+        814 => asking::questions(n, a, b, c, d),
+        900..=999 => {}
         _ => out::no_call(),
     }
 }
@@ -60,7 +63,7 @@ fn run_row(line: &[u8], entries: &mut [u32]) {
     let row = rows::read(line, entries);
     call(
         rows::code_of(
-            b" find move moves inverse weight under bookmark bookmark-moves #",
+            b" find move moves inverse weight under bookmark bookmark-moves questions #",
             line,
             row,
         ),
@@ -68,6 +71,7 @@ fn run_row(line: &[u8], entries: &mut [u32]) {
         rows::part(entries, row, 1),
         rows::part(entries, row, 2),
         rows::part(entries, row, 3),
+        rows::part(entries, row, 4),
     );
 }
 
