@@ -8,6 +8,7 @@ mod random;
 use random::{list_of, List, Random};
 use std::hint::black_box;
 use std::time::{Duration, Instant};
+use zibewoka::Question;
 
 /// Seconds of a call of the library and of its peer, each by the fastest of many rounds, turn by turn.
 fn seconds<A, B>(mut library: impl FnMut() -> A, mut peer: impl FnMut() -> B) -> [f64; 2] {
@@ -30,6 +31,8 @@ fn time<T>(calls: u32, call: &mut impl FnMut() -> T) -> Duration {
     }
     begun.elapsed()
 }
+
+const SHAPES: [&str; 3] = ["shuffled", "reversed", "cuts"];
 
 /// A list of k runs of about 1,000 places each, by the order of their images; "cuts" has three runs as long as all the
 /// others together: the image of the first lies over the others' starts, and that of each next over the one before it,
@@ -111,7 +114,70 @@ fn line(r: &mut Random, shape: &str, k: usize, d: u32) -> String {
     format!("| {shape} | {k} | {d} | {size} | {} |", cells.join(" | "))
 }
 
-fn main() {
+/// How many questions a line asks, k in a call: one call alone would teach the processor its jumps, as one list would.
+const QUESTIONS: usize = 16384;
+
+/// One of so many questions is also answered by find and move alone, since all of them would take long. The number is odd,
+/// so that they stand everywhere in their calls.
+const APART: usize = 61;
+
+/// Questions at random places, each k of them in rising order.
+fn questions(r: &mut Random, n: u32, k: usize) -> Vec<Question> {
+    let mut places: Vec<u32> = (0..QUESTIONS).map(|_| r.below(u64::from(n)) as u32).collect();
+    places.chunks_mut(k).for_each(|call| call.sort_unstable());
+    places.into_iter().map(|place| Question { place, ..Question::default() }).collect()
+}
+
+/// The peer refuses as the library does: no places at all, places that fall, a place beyond n, intervals without a holder.
+fn assert_refused_alike(n: u32, s: &[u32], i: &[u32], h: &[u32], asked: &[Question]) {
+    let falling: Vec<Question> = asked.iter().rev().copied().collect();
+    let torn = vec![u32::MAX; h.len()];
+    for (number, n, h, asked) in [(9, 0, h, asked), (16, n, h, &falling), (11, 1, h, asked), (12, n, &torn, asked)] {
+        let [mut records, mut peer_records] = [asked.to_vec(), asked.to_vec()];
+        let refused = zibewoka::questions(n, s, i, h, &mut records).expect_err("damaged");
+        assert_eq!(refused.number, number);
+        assert_eq!(peer::questions(n, s, i, h, &mut peer_records), Err((number, refused.place)));
+        assert!(records == asked && peer_records == asked, "a refusal fills no record");
+    }
+}
+
+/// One line of the table of questions: the library's time, its ratio to the peer's, and that to find and move one by one.
+fn questions_line(r: &mut Random, shape: &str, k: usize, d: u32) -> String {
+    let List { n, starts, images } = list(r, shape, k);
+    let [mut s, mut i, mut h, mut w] = [0; 4].map(|_| vec![0; d as usize * k / (d as usize - 1)]);
+    let size = zibewoka::balance(n, &starts, &images, d, &mut s, &mut i, &mut h, &mut w).expect("legal") as usize;
+    let (s, i, h) = (&s[..size], &i[..size], &h[..size]);
+
+    let mut asked = questions(r, n, k);
+    let mut peer_asked = asked.clone();
+    assert_refused_alike(n, s, i, h, &asked[..k]);
+    let ask = |asked: &mut [Question]| {
+        asked.chunks_mut(k).map(|call| zibewoka::questions(n, s, i, h, call).expect("in order")).sum::<u32>()
+    };
+    let ask_peer = |asked: &mut [Question]| {
+        asked.chunks_mut(k).map(|call| peer::questions(n, s, i, h, call).expect("in order")).sum::<u32>()
+    };
+    let [library, peer] = seconds(|| ask(&mut asked), || ask_peer(&mut peer_asked));
+    assert_eq!(ask(&mut asked), ask_peer(&mut peer_asked));
+    assert!(asked == peer_asked, "the peer answers alike");
+
+    let places: Vec<u32> = asked.iter().step_by(APART).map(|question| question.place).collect();
+    let answer_alone = |&place: &u32| {
+        let interval = zibewoka::find(n, s, i, h, place).expect("a place");
+        zibewoka::move_once(n, s, i, h, interval, place).expect("a move").interval
+    };
+    let [again, alone] = seconds(|| ask(&mut asked), || places.iter().map(answer_alone).sum::<u32>());
+    let each = |whole: f64| whole * 1e9 / QUESTIONS as f64;
+    let alone = alone * 1e9 / places.len() as f64;
+    format!(
+        "| {shape} | {k} | {d} | {size} | {:.1} | {:.2} | {:.3} |",
+        each(library),
+        library / peer,
+        each(again) / alone
+    )
+}
+
+fn print_calls(r: &mut Random) {
     println!("Times of the library, and each as a ratio to the peer in safe Rust (below 1: the library is faster).");
     println!(
         "Release builds, the fastest of a hundred rounds. No lent buffer is cleared between calls; the library clears"
@@ -122,12 +188,35 @@ fn main() {
         "| list | k | d | K | check µs | × | balance µs | × | find ns | × | move ns | × | repeated, ns a move | × |"
     );
     println!("|---|---|---|---|---|---|---|---|---|---|---|---|---|---|");
-    let r = &mut Random::new(7);
-    for shape in ["shuffled", "reversed", "cuts"] {
+    for shape in SHAPES {
         for k in [16, 64, 128, 256, 1024, 16384] {
             for d in [2, 8, 64] {
                 println!("{}", line(r, shape, k, d));
             }
         }
     }
+}
+
+fn print_questions(r: &mut Random) {
+    println!(
+        "Questions at random places in rising order, as many in a call as the list has runs: the library's time, as a"
+    );
+    println!("ratio to the peer's, and as a ratio to that of find and move one by one through the library.");
+    println!();
+    println!("| list | k | d | K | ns a question | × peer | × one by one |");
+    println!("|---|---|---|---|---|---|---|");
+    for shape in SHAPES {
+        for k in [64, 1024, 16384] {
+            for d in [2, 8] {
+                println!("{}", questions_line(r, shape, k, d));
+            }
+        }
+    }
+}
+
+fn main() {
+    let r = &mut Random::new(7);
+    print_calls(r);
+    println!();
+    print_questions(r);
 }

@@ -78,6 +78,34 @@ pub struct MovesAnswer {
     pub count: u64,
 }
 
+/// A question, the record of [`questions`]: the place asked about, and what the call fills in.
+#[repr(C)]
+#[derive(Clone, Copy, Debug, Default, PartialEq, Eq, Hash)]
+pub struct Question {
+    /// The place asked about: it stays.
+    pub place: u32,
+    /// The interval that has it.
+    pub interval: u32,
+    /// The place that a move from there reaches.
+    pub to_place: u32,
+    /// The interval that has that one.
+    pub to_interval: u32,
+    /// How many starts the move's walk passed.
+    pub count: u32,
+}
+
+/// The answer of [`questions`].
+#[repr(C)]
+#[derive(Clone, Copy, Debug, PartialEq, Eq)]
+pub struct QuestionsAnswer {
+    /// 0, or the paper's number.
+    pub number: u32,
+    /// How many starts were passed in finding all intervals.
+    pub count: u32,
+    /// The place given with the number, of 64 bits since it may be a record's index; 0 where the call is done.
+    pub place: u64,
+}
+
 // A slice crosses as pointer and length.
 type Ptr = *const u32;
 type MutPtr = *mut u32;
@@ -107,9 +135,17 @@ unsafe extern "C" {
     fn zibewoka_weight(
         n: u32, starts: Ptr, k: usize, images: Ptr, ki: usize, holders: Ptr, kh: usize, interval: u32,
     ) -> WeightAnswer;
+    fn zibewoka_questions(
+        n: u32, starts: Ptr, k: usize, images: Ptr, ki: usize, holders: Ptr, kh: usize,
+        questions: *mut Question, lq: usize,
+    ) -> QuestionsAnswer;
 }
 
+// Each function from here on, and the safe one over it, is inlined into the host's own crate: a call of an export is then
+// one call, whose answer need not pass through memory.
+
 /// `zibewoka_check`.
+#[inline]
 pub fn check(n: u32, starts: &[u32], images: &[u32]) -> ListAnswer {
     // SAFETY: here and below, each pointer and length is that of a Rust slice, which lives for the call and which no
     // other `&mut` shares; the functions are proved to keep within them, whatever numbers they hold.
@@ -118,6 +154,7 @@ pub fn check(n: u32, starts: &[u32], images: &[u32]) -> ListAnswer {
 
 /// `zibewoka_balance`.
 #[allow(clippy::too_many_arguments)] // the export's own
+#[inline]
 pub fn balance(
     n: u32,
     starts: &[u32],
@@ -150,6 +187,7 @@ pub fn balance(
 }
 
 /// `zibewoka_inverse_list`.
+#[inline]
 pub fn inverse_list(
     n: u32,
     starts: &[u32],
@@ -173,9 +211,9 @@ pub fn inverse_list(
     }
 }
 
-// Calls an export that takes n, the three tables and numbers.
+// Calls an export that takes n, the three tables and more.
 macro_rules! on_tables {
-    ($export:ident, $n:ident, $starts:ident, $images:ident, $holders:ident, $($number:ident),+) => {
+    ($export:ident, $n:ident, $starts:ident, $images:ident, $holders:ident, $($more:expr),+) => {
         // SAFETY: as in `check`.
         unsafe {
             $export(
@@ -186,23 +224,26 @@ macro_rules! on_tables {
                 $images.len(),
                 $holders.as_ptr(),
                 $holders.len(),
-                $($number),+
+                $($more),+
             )
         }
     };
 }
 
 /// `zibewoka_find`.
+#[inline]
 pub fn find(n: u32, starts: &[u32], images: &[u32], holders: &[u32], place: u32) -> IntervalAnswer {
     on_tables!(zibewoka_find, n, starts, images, holders, place)
 }
 
 /// `zibewoka_move`.
+#[inline]
 pub fn move_once(n: u32, starts: &[u32], images: &[u32], holders: &[u32], interval: u32, place: u32) -> MoveAnswer {
     on_tables!(zibewoka_move, n, starts, images, holders, interval, place)
 }
 
 /// `zibewoka_moves`.
+#[inline]
 pub fn moves(
     n: u32,
     starts: &[u32],
@@ -216,11 +257,25 @@ pub fn moves(
 }
 
 /// `zibewoka_inverse`.
+#[inline]
 pub fn inverse(n: u32, starts: &[u32], images: &[u32], holders: &[u32], place: u32) -> IntervalAnswer {
     on_tables!(zibewoka_inverse, n, starts, images, holders, place)
 }
 
 /// `zibewoka_weight`.
+#[inline]
 pub fn weight(n: u32, starts: &[u32], images: &[u32], holders: &[u32], interval: u32) -> WeightAnswer {
     on_tables!(zibewoka_weight, n, starts, images, holders, interval)
+}
+
+/// `zibewoka_questions`.
+#[inline]
+pub fn questions(
+    n: u32,
+    starts: &[u32],
+    images: &[u32],
+    holders: &[u32],
+    questions: &mut [Question],
+) -> QuestionsAnswer {
+    on_tables!(zibewoka_questions, n, starts, images, holders, questions.as_mut_ptr(), questions.len())
 }

@@ -3,8 +3,9 @@
 //! A run list is a length `n` with two slices of one length: run i sends the places from `starts[i]` up to the next start
 //! (or `n`) to as many places from `images[i]` on. [`check`] says whether a list is a permutation of the places below
 //! `n`; [`balance`] writes its balanced tables (starts, images, holders) into lent slices; [`find`], [`move_once`],
-//! [`moves`], [`inverse`] and [`weight`] walk through any tables. Every function takes any numbers: where it cannot
-//! answer, it says why by a [`Refusal`] and has changed nothing that was lent.
+//! [`moves`], [`inverse`] and [`weight`] walk through any tables, and [`questions`] finds and moves for many places in
+//! one call. Every function takes any numbers: where it cannot answer, it says why by a [`Refusal`] and has changed
+//! nothing that was lent.
 //!
 //! [`exports`] has the same functions with the answers as they cross the boundary.
 
@@ -16,12 +17,15 @@ use std::fmt;
 #[allow(unsafe_code)]
 pub mod exports;
 
+pub use exports::Question;
+
 // The README's example is compiled and run as a test.
 #[cfg(doctest)]
 #[doc = include_str!("../../README.md")]
 struct Readme;
 
-/// Why a call was refused: the first condition, in rising number, that applied. `docs/NUMBERS.md` has the whole table.
+/// Why a call was refused: the first condition that applied, in the order of that call's tests. `docs/NUMBERS.md` has the
+/// whole table and these orders.
 ///
 /// | number | refused because | place |
 /// |---|---|---|
@@ -35,17 +39,19 @@ struct Readme;
 /// | 8 | a lent table has fewer than B entries (inverse list: than k) | B (or k) |
 /// | 9 | `n` is 0, or the tables are empty, of unequal count, or above 32,768 entries | 0 |
 /// | 10 | there is no interval of that index | the index |
-/// | 11 | the place is not below `n`, outside the interval, or (find) below the first start | the place |
+/// | 11 | the place is not below `n`, outside the interval, or (find, questions) below the first start | the place |
 /// | 12 | the interval's entries do not fit: its holder, or where it leads | the interval |
 /// | 14 | no interval sends a place there | the place |
+/// | 16 | a question's place is below that of the one before | the question's index |
 ///
 /// 13 and 15 are the numbers of bookmarks and of files, which have no export.
 #[derive(Clone, Copy, Debug, PartialEq, Eq, Hash)]
 pub struct Refusal {
-    /// 1 to 12, or 14.
+    /// A number of the table.
     pub number: u32,
-    /// The run, interval, place or size that the number speaks of.
-    pub place: u32,
+    /// The run, interval, place, size or index that the number speaks of. It has 64 bits for the sake of 16 alone: there is
+    /// no limit to how many questions are handed in, so that the index of one may pass 32 bits.
+    pub place: u64,
 }
 
 impl fmt::Display for Refusal {
@@ -76,10 +82,10 @@ pub struct Step {
     pub count: u64,
 }
 
-fn done(number: u32, place: u32) -> Result<(), Refusal> {
+fn done(number: u32, place: impl Into<u64>) -> Result<(), Refusal> {
     match number {
         0 => Ok(()),
-        _ => Err(Refusal { number, place }),
+        _ => Err(Refusal { number, place: place.into() }),
     }
 }
 
@@ -87,6 +93,7 @@ fn done(number: u32, place: u32) -> Result<(), Refusal> {
 ///
 /// # Errors
 /// Numbers 1 to 6.
+#[inline]
 pub fn check(n: u32, starts: &[u32], images: &[u32]) -> Result<(), Refusal> {
     let answer = exports::check(n, starts, images);
     done(answer.number, answer.place)
@@ -100,6 +107,7 @@ pub fn check(n: u32, starts: &[u32], images: &[u32]) -> Result<(), Refusal> {
 /// # Errors
 /// Numbers 1 to 8; 8 where a lent table has fewer than B entries.
 #[allow(clippy::too_many_arguments)] // the paper's own
+#[inline]
 pub fn balance(
     n: u32,
     starts: &[u32],
@@ -119,6 +127,7 @@ pub fn balance(
 ///
 /// # Errors
 /// Numbers 1 to 6, and 8 where a lent table has fewer than k entries.
+#[inline]
 pub fn inverse_list(
     n: u32,
     starts: &[u32],
@@ -134,6 +143,7 @@ pub fn inverse_list(
 ///
 /// # Errors
 /// Numbers 9 and 11.
+#[inline]
 pub fn find(n: u32, starts: &[u32], images: &[u32], holders: &[u32], place: u32) -> Result<u32, Refusal> {
     let answer = exports::find(n, starts, images, holders, place);
     done(answer.number, answer.place)?;
@@ -144,6 +154,7 @@ pub fn find(n: u32, starts: &[u32], images: &[u32], holders: &[u32], place: u32)
 ///
 /// # Errors
 /// Numbers 9 to 12.
+#[inline]
 pub fn move_once(
     n: u32,
     starts: &[u32],
@@ -161,6 +172,7 @@ pub fn move_once(
 ///
 /// # Errors
 /// Numbers 9 to 12; 12 with the interval that could not be left, and then there is no part result.
+#[inline]
 pub fn moves(
     n: u32,
     starts: &[u32],
@@ -179,6 +191,7 @@ pub fn moves(
 ///
 /// # Errors
 /// Numbers 9, 11 and 14.
+#[inline]
 pub fn inverse(n: u32, starts: &[u32], images: &[u32], holders: &[u32], place: u32) -> Result<Position, Refusal> {
     let answer = exports::inverse(n, starts, images, holders, place);
     done(answer.number, answer.place)?;
@@ -189,8 +202,40 @@ pub fn inverse(n: u32, starts: &[u32], images: &[u32], holders: &[u32], place: u
 ///
 /// # Errors
 /// Numbers 9, 10 and 12.
+#[inline]
 pub fn weight(n: u32, starts: &[u32], images: &[u32], holders: &[u32], interval: u32) -> Result<u32, Refusal> {
     let answer = exports::weight(n, starts, images, holders, interval);
     done(answer.number, answer.place)?;
     Ok(answer.weight)
+}
+
+/// Answers questions that stand in rising order of place, equal ones too: each record gets the interval that has its
+/// place, as [`find`] gives it, and the place reached, the interval reached and the count of a move from there, as
+/// [`move_once`] gives them. What these fields held before is not read.
+///
+/// One pass over the starts finds all intervals; the answer is how many it passed, which is the last record's interval,
+/// or 0 where there are no records.
+///
+/// ```
+/// use zibewoka::Question;
+///
+/// let (starts, images, holders) = ([0, 2, 4, 6, 8, 12], [14, 12, 10, 8, 0, 4], [5, 5, 4, 4, 0, 2]);
+/// let mut records = [3, 11].map(|place| Question { place, ..Question::default() });
+/// assert_eq!(zibewoka::questions(16, &starts, &images, &holders, &mut records), Ok(4));
+/// assert_eq!(records[1], Question { place: 11, interval: 4, to_place: 3, to_interval: 1, count: 1 });
+/// ```
+///
+/// # Errors
+/// Number 9; then 16, with the record's index; then 11; then 12: each of the lowest record that it applies to.
+#[inline]
+pub fn questions(
+    n: u32,
+    starts: &[u32],
+    images: &[u32],
+    holders: &[u32],
+    questions: &mut [Question],
+) -> Result<u32, Refusal> {
+    let answer = exports::questions(n, starts, images, holders, questions);
+    done(answer.number, answer.place)?;
+    Ok(answer.count)
 }

@@ -1,6 +1,8 @@
 //! The peers: the same calls in safe Rust, as a careful programmer would write them, with vectors for working room.
 
-pub type Outcome<T> = Result<T, (u32, u32)>;
+use zibewoka::Question;
+
+pub type Outcome<T, P = u32> = Result<T, (u32, P)>;
 
 /// Tests 1 to 6. Answers the runs in rising order of image, as image and index.
 fn check_into_order(n: u32, starts: &[u32], images: &[u32]) -> Outcome<Vec<(u32, u32)>> {
@@ -177,21 +179,35 @@ fn located(n: u32, starts: &[u32], images: &[u32], holders: &[u32], x: u32, i: u
     Ok(())
 }
 
-/// A move from a place that its interval has: the place and the interval reached, and the holder; or nothing where the
+/// The place that a move reaches from a place that its interval has, and the holder to go on from; or nothing where the
 /// interval is broken.
 #[inline(always)]
-fn step(n: u32, starts: &[u32], images: &[u32], holders: &[u32], x: usize, i: u32) -> Option<(u32, usize, usize)> {
+fn landing(n: u32, starts: &[u32], images: &[u32], holders: &[u32], x: usize, i: u32) -> Option<(u32, usize)> {
     let image = images[x];
     let h = holders[x] as usize;
     let j = image.checked_add(i - starts[x]).filter(|&j| j < n)?;
     if image < *starts.get(h)? {
         return None;
     }
-    let mut reached = h;
+    Some((j, h))
+}
+
+/// The interval reached by going on while the next start is at most j.
+#[inline(always)]
+fn on_from(starts: &[u32], from: usize, j: u32) -> usize {
+    let mut reached = from;
     while starts.get(reached + 1).is_some_and(|&start| start <= j) {
         reached += 1;
     }
-    Some((j, reached, h))
+    reached
+}
+
+/// A move from a place that its interval has: the place and the interval reached, and the holder; or nothing where the
+/// interval is broken.
+#[inline(always)]
+fn step(n: u32, starts: &[u32], images: &[u32], holders: &[u32], x: usize, i: u32) -> Option<(u32, usize, usize)> {
+    let (j, h) = landing(n, starts, images, holders, x, i)?;
+    Some((j, on_from(starts, h, j), h))
 }
 
 #[inline(never)]
@@ -224,4 +240,45 @@ pub fn moves(
         (place, interval, count) = (j, y, count + (y - h) as u64);
     }
     Ok((place, interval as u32, count))
+}
+
+/// Tests 16 and 11 of questions.
+fn in_order(n: u32, first_start: u32, questions: &[Question]) -> Outcome<(), u64> {
+    if let Some(x) = questions.windows(2).position(|pair| pair[1].place < pair[0].place) {
+        return Err((16, x as u64 + 1));
+    }
+    // Since places do not fall, the lowest record that 11 refuses is the first of all, or the first whose place is not below n.
+    let below = questions.first().filter(|q| q.place < first_start);
+    match below.or_else(|| questions.get(questions.partition_point(|q| q.place < n))) {
+        Some(q) => Err((11, u64::from(q.place))),
+        None => Ok(()),
+    }
+}
+
+#[inline(never)]
+pub fn questions(
+    n: u32,
+    starts: &[u32],
+    images: &[u32],
+    holders: &[u32],
+    questions: &mut [Question],
+) -> Outcome<u32, u64> {
+    fits(n, starts, images, holders).map_err(|(number, place)| (number, u64::from(place)))?;
+    in_order(n, starts[0], questions)?;
+    // Of one length, as was tested.
+    let (images, holders) = (&images[..starts.len()], &holders[..starts.len()]);
+    let mut x = 0;
+    for q in questions.iter() {
+        x = on_from(starts, x, q.place);
+        if landing(n, starts, images, holders, x, q.place).is_none() {
+            return Err((12, x as u64));
+        }
+    }
+    let mut x = 0;
+    for q in questions {
+        x = on_from(starts, x, q.place);
+        let (j, y, h) = step(n, starts, images, holders, x, q.place).expect("no interval is broken, as was tested");
+        *q = Question { place: q.place, interval: x as u32, to_place: j, to_interval: y as u32, count: (y - h) as u32 };
+    }
+    Ok(x as u32)
 }

@@ -1,8 +1,8 @@
-//! The second program: document 01 from its text alone, in the plainest way, to be compared with the library. Nothing of
-//! the library is used or copied; lists are walked from the front and every pair is looked at.
+//! The second program: documents 01 and 02 from their text alone, in the plainest way, to be compared with the library.
+//! Nothing of the library is used or copied; lists are walked from the front and every pair is looked at.
 
 /// What a call comes to: its result, or the number and the place.
-pub type Outcome<T> = Result<T, (u32, u32)>;
+pub type Outcome<T, P = u32> = Result<T, (u32, P)>;
 
 /// A run or an interval, in numbers that cannot overflow.
 #[derive(Clone, Copy)]
@@ -283,6 +283,35 @@ pub fn weight(n: u32, t: &Tables, x: u32) -> Outcome<u32> {
         size += 1;
     }
     Ok(size as u32)
+}
+
+fn widened<T>(outcome: Outcome<T>) -> Outcome<T, u64> {
+    outcome.map_err(|(number, place)| (number, u64::from(place)))
+}
+
+/// A question's record as it is filled in: place, interval found, place reached, interval reached, starts passed.
+pub type Record = [u32; 5];
+
+/// "Each record must agree with find and move done alone": they are done alone here, first find for all records and then
+/// move. Answers the starts passed in finding, "equal to the last record's interval, or 0 for an empty list", and the
+/// records.
+pub fn questions(n: u32, t: &Tables, places: &[u32]) -> Outcome<(u32, Vec<Record>), u64> {
+    widened(fits(n, t))?;
+    for x in 1..places.len() {
+        if places[x] < places[x - 1] {
+            return Err((16, x as u64));
+        }
+    }
+    let mut found = Vec::new();
+    for &place in places {
+        found.push(widened(find(n, t, place))?);
+    }
+    let mut records = Vec::new();
+    for (&place, &x) in places.iter().zip(&found) {
+        let (to_place, to_interval, count) = widened(step(n, t, x, place))?;
+        records.push([place, x, to_place, to_interval, count]);
+    }
+    Ok((found.last().copied().unwrap_or(0), records))
 }
 
 /// The tables of a file's list and its degree, or the refusal. The listing program "takes at most 1,024 runs and gives 2

@@ -4,25 +4,48 @@
 
 use crate::definition::{self as second, Outcome, Tables};
 use crate::random::{damage, damaged, legal, list_of, List, Random};
-use std::collections::BTreeSet;
-use zibewoka::exports::{self, BalanceAnswer, IntervalAnswer, ListAnswer, MoveAnswer, MovesAnswer, WeightAnswer};
-use zibewoka::Refusal;
+use std::collections::BTreeMap;
+use zibewoka::exports::{
+    self, BalanceAnswer, IntervalAnswer, ListAnswer, MoveAnswer, MovesAnswer, QuestionsAnswer, WeightAnswer,
+};
+use zibewoka::{Question, Refusal, Step};
+
+/// How often each number was given.
+#[derive(Debug, Default)]
+struct Numbers(BTreeMap<u32, u32>);
+
+impl Numbers {
+    fn add(&mut self, number: u32) {
+        *self.0.entry(number).or_default() += 1;
+    }
+
+    fn add_all(&mut self, other: Numbers) {
+        for (number, times) in other.0 {
+            *self.0.entry(number).or_default() += times;
+        }
+    }
+}
 
 /// The numbers that each export gave.
 #[derive(Default)]
 struct Given {
-    check: BTreeSet<u32>,
-    balance: BTreeSet<u32>,
-    inverse_list: BTreeSet<u32>,
-    find: BTreeSet<u32>,
-    step: BTreeSet<u32>,
-    steps: BTreeSet<u32>,
-    inverse: BTreeSet<u32>,
-    weight: BTreeSet<u32>,
+    check: Numbers,
+    balance: Numbers,
+    inverse_list: Numbers,
+    find: Numbers,
+    step: Numbers,
+    steps: Numbers,
+    inverse: Numbers,
+    weight: Numbers,
+    questions: Numbers,
 }
 
-fn refusal<T>(outcome: Outcome<T>) -> Result<T, Refusal> {
-    outcome.map_err(|(number, place)| Refusal { number, place })
+fn refusal<T, P: Into<u64>>(outcome: Outcome<T, P>) -> Result<T, Refusal> {
+    outcome.map_err(|(number, place)| Refusal { number, place: place.into() })
+}
+
+fn question([place, interval, to_place, to_interval, count]: second::Record) -> Question {
+    Question { place, interval, to_place, to_interval, count }
 }
 
 impl Given {
@@ -33,7 +56,7 @@ impl Given {
         let (number, place) = wanted.err().unwrap_or((0, 0));
         assert_eq!(answer, ListAnswer { number, place });
         assert_eq!(zibewoka::check(*n, starts, images), refusal(wanted));
-        self.check.insert(number);
+        self.check.add(number);
     }
 
     /// Balances into tables of these counts, with any numbers in them.
@@ -60,7 +83,7 @@ impl Given {
         let safe = zibewoka::balance(*n, starts, images, d, &mut s, &mut i, &mut h, &mut w);
         assert_eq!(safe, refusal(wanted.as_ref().map(|_| intervals).map_err(|&e| e)));
         assert!(s == after_s && i == after_i && h == after_h && w == after_w, "the same through the wrapper");
-        self.balance.insert(number);
+        self.balance.add(number);
         wanted.ok()
     }
 
@@ -82,7 +105,7 @@ impl Given {
         let safe = zibewoka::inverse_list(*n, starts, images, &mut s, &mut i);
         assert_eq!(safe, refusal(wanted.map(|_| ())));
         assert!(s == after_s && i == after_i, "the same through the wrapper");
-        self.inverse_list.insert(number);
+        self.inverse_list.add(number);
     }
 
     fn find(&mut self, n: u32, t: &Tables, i: u32) {
@@ -94,7 +117,7 @@ impl Given {
         };
         assert_eq!(answer, IntervalAnswer { number, place, interval });
         assert_eq!(zibewoka::find(n, &t.starts, &t.images, &t.holders, i), refusal(wanted));
-        self.find.insert(number);
+        self.find.add(number);
     }
 
     fn step(&mut self, n: u32, t: &Tables, x: u32, i: u32) {
@@ -107,7 +130,7 @@ impl Given {
         assert_eq!(answer, MoveAnswer { number, place, interval, count });
         let safe = zibewoka::move_once(n, &t.starts, &t.images, &t.holders, x, i);
         assert_eq!(safe.map(|s| (s.place, s.interval, s.count as u32)), refusal(wanted));
-        self.step.insert(number);
+        self.step.add(number);
     }
 
     fn steps(&mut self, n: u32, t: &Tables, x: u32, i: u32, m: u32) {
@@ -120,7 +143,7 @@ impl Given {
         assert_eq!(answer, MovesAnswer { number, place, interval, count });
         let safe = zibewoka::moves(n, &t.starts, &t.images, &t.holders, x, i, m);
         assert_eq!(safe.map(|s| (s.place, s.interval, s.count)), refusal(wanted));
-        self.steps.insert(number);
+        self.steps.add(number);
     }
 
     fn inverse(&mut self, n: u32, t: &Tables, j: u32) {
@@ -133,7 +156,7 @@ impl Given {
         assert_eq!(answer, IntervalAnswer { number, place, interval });
         let safe = zibewoka::inverse(n, &t.starts, &t.images, &t.holders, j);
         assert_eq!(safe.map(|s| (s.place, s.interval)), refusal(wanted));
-        self.inverse.insert(number);
+        self.inverse.add(number);
     }
 
     fn weight(&mut self, n: u32, t: &Tables, x: u32) {
@@ -145,7 +168,37 @@ impl Given {
         };
         assert_eq!(answer, WeightAnswer { number, place, weight });
         assert_eq!(zibewoka::weight(n, &t.starts, &t.images, &t.holders, x), refusal(wanted));
-        self.weight.insert(number);
+        self.weight.add(number);
+    }
+
+    /// Questions at these places, with any numbers in the other fields. They are lent out of a longer slice, whose records
+    /// before and after them stay.
+    fn questions(&mut self, r: &mut Random, n: u32, t: &Tables, places: &[u32]) {
+        let wanted = second::questions(n, t, places);
+        let all = [&r.words(1)[..], places, &r.words(1)].concat();
+        let before: Vec<Question> =
+            all.into_iter().map(|place| question([place, r.word(), r.word(), r.word(), r.word()])).collect();
+        let lent = 1..1 + places.len();
+        let mut after = before.clone();
+        let (number, count, place) = match &wanted {
+            Ok((count, records)) => {
+                after.splice(lent.clone(), records.iter().copied().map(question));
+                (0, *count, 0)
+            }
+            Err((number, place)) => (*number, 0, *place),
+        };
+        let mut records = before.clone();
+        let answer = exports::questions(n, &t.starts, &t.images, &t.holders, &mut records[lent.clone()]);
+        assert_eq!(answer, QuestionsAnswer { number, count, place });
+        assert!(records == after, "the records after the questions");
+        let mut records = before;
+        let safe = zibewoka::questions(n, &t.starts, &t.images, &t.holders, &mut records[lent.clone()]);
+        assert_eq!(safe, refusal(wanted.map(|(count, _)| count)));
+        assert!(records == after, "the same through the wrapper");
+        if number == 0 {
+            records[lent].iter().for_each(|record| agrees_alone(n, t, record));
+        }
+        self.questions.add(number);
     }
 
     /// Every export on a list. Lent tables are long enough, or one of them is not.
@@ -166,7 +219,7 @@ impl Given {
         tables
     }
 
-    /// Every export on tables, at one interval and place.
+    /// Every export on tables but questions, at one interval and place.
     fn on_tables(&mut self, n: u32, t: &Tables, x: u32, i: u32, m: u32) {
         self.find(n, t, i);
         self.step(n, t, x, i);
@@ -179,10 +232,7 @@ impl Given {
     fn on_tables_somewhere(&mut self, r: &mut Random, n: u32, t: &Tables, count: usize) {
         let before = t.clone();
         for _ in 0..count {
-            let mut x = r.below(t.starts.len() as u64 + 1) as u32;
-            let start = t.starts.get(x as usize).copied().unwrap_or(0);
-            let end = t.starts.get(x as usize + 1).copied().unwrap_or(n);
-            let mut i = start.wrapping_add(r.below(u64::from(end.wrapping_sub(start)) + 1) as u32);
+            let (mut x, mut i) = somewhere(r, n, t);
             if r.one_in(10) {
                 i = damaged(r, i, n);
             }
@@ -192,33 +242,76 @@ impl Given {
             let m = r.below(40) as u32;
             self.on_tables(n, t, x, i, m);
         }
+        let places = places(r, n, t, 2 * count);
+        self.questions(r, n, t, &places);
         assert!(*t == before, "the tables stay");
     }
 
-    fn with(mut self, mut other: Given) -> Given {
-        self.check.append(&mut other.check);
-        self.balance.append(&mut other.balance);
-        self.inverse_list.append(&mut other.inverse_list);
-        self.find.append(&mut other.find);
-        self.step.append(&mut other.step);
-        self.steps.append(&mut other.steps);
-        self.inverse.append(&mut other.inverse);
-        self.weight.append(&mut other.weight);
+    fn with(mut self, other: Given) -> Given {
+        self.check.add_all(other.check);
+        self.balance.add_all(other.balance);
+        self.inverse_list.add_all(other.inverse_list);
+        self.find.add_all(other.find);
+        self.step.add_all(other.step);
+        self.steps.add_all(other.steps);
+        self.inverse.add_all(other.inverse);
+        self.weight.add_all(other.weight);
+        self.questions.add_all(other.questions);
         self
     }
 
-    fn all(&self) -> [(&'static str, &BTreeSet<u32>, &'static [u32]); 8] {
+    /// Each export with the numbers that it can give, and how often each of them is given at least. A list of too many
+    /// runs is long, and comes once.
+    fn all(&self) -> [(&'static str, &Numbers, &'static [u32], u32); 9] {
         [
-            ("check", &self.check, &[0, 1, 2, 3, 4, 5, 6]),
-            ("balance", &self.balance, &[0, 1, 2, 3, 4, 5, 6, 7, 8]),
-            ("inverse_list", &self.inverse_list, &[0, 1, 2, 3, 4, 5, 6, 8]),
-            ("find", &self.find, &[0, 9, 11]),
-            ("move", &self.step, &[0, 9, 10, 11, 12]),
-            ("moves", &self.steps, &[0, 9, 10, 11, 12]),
-            ("inverse", &self.inverse, &[0, 9, 11, 14]),
-            ("weight", &self.weight, &[0, 9, 10, 12]),
+            ("check", &self.check, &[0, 1, 2, 3, 4, 5, 6], 1),
+            ("balance", &self.balance, &[0, 1, 2, 3, 4, 5, 6, 7, 8], 1),
+            ("inverse_list", &self.inverse_list, &[0, 1, 2, 3, 4, 5, 6, 8], 1),
+            ("find", &self.find, &[0, 9, 11], 10_000),
+            ("move", &self.step, &[0, 9, 10, 11, 12], 10_000),
+            ("moves", &self.steps, &[0, 9, 10, 11, 12], 10_000),
+            ("inverse", &self.inverse, &[0, 9, 11, 14], 10_000),
+            ("weight", &self.weight, &[0, 9, 10, 12], 10_000),
+            ("questions", &self.questions, &[0, 9, 11, 12, 16], 10_000),
         ]
     }
+}
+
+/// Find and a move, done alone, give what the record was filled with.
+fn agrees_alone(n: u32, t: &Tables, record: &Question) {
+    let Question { place, interval, to_place, to_interval, count } = *record;
+    assert_eq!(zibewoka::find(n, &t.starts, &t.images, &t.holders, place), Ok(interval));
+    let step = Step { place: to_place, interval: to_interval, count: u64::from(count) };
+    assert_eq!(zibewoka::move_once(n, &t.starts, &t.images, &t.holders, interval, place), Ok(step));
+}
+
+/// An interval, or the index after the last, and a place from its start to its end.
+fn somewhere(r: &mut Random, n: u32, t: &Tables) -> (u32, u32) {
+    let x = r.below(t.starts.len() as u64 + 1) as u32;
+    let start = t.starts.get(x as usize).copied().unwrap_or(0);
+    let end = t.starts.get(x as usize + 1).copied().unwrap_or(n);
+    (x, start.wrapping_add(r.below(u64::from(end.wrapping_sub(start)) + 1) as u32))
+}
+
+/// Places for questions, up to so many and some of them twice: mostly all within the tables, mostly in rising order.
+fn places(r: &mut Random, n: u32, t: &Tables, most: usize) -> Vec<u32> {
+    let count = r.below(most as u64 + 1);
+    let mut places: Vec<u32> = (0..count).map(|_| somewhere(r, n, t).1).collect();
+    let first = t.starts.first().copied().unwrap_or(0);
+    if first < n && !r.one_in(4) {
+        places.retain(|place| (first..n).contains(place));
+    }
+    let twice = r.below(places.len() as u64 + 1) as usize;
+    places.extend_from_within(..twice);
+    places.sort();
+    if r.one_in(8) {
+        r.shuffle(&mut places);
+    }
+    let at = r.below(places.len() as u64 + 1) as usize;
+    if let Some(place) = places.get_mut(at).filter(|_| r.one_in(8)) {
+        *place = damaged(r, *place, n);
+    }
+    places
 }
 
 /// A table entry, a count or n becomes something else.
@@ -316,10 +409,9 @@ fn side_by_side(parts: [fn(&mut Given, &mut Random); 4]) -> Given {
 #[test]
 fn random_lists_and_tables() {
     let given = side_by_side([short_lists, longer_lists, senseless_tables, longest_lists]);
-    for (export, numbers, possible) in given.all() {
-        let missed: Vec<u32> = possible.iter().copied().filter(|number| !numbers.contains(number)).collect();
-        assert!(missed.is_empty(), "{export} never gave {missed:?}");
-        assert_eq!(numbers.len(), possible.len(), "{export} gave {numbers:?}");
+    for (export, numbers, possible, often) in given.all() {
+        assert!(numbers.0.keys().eq(possible), "{export} gave {numbers:?}");
+        assert!(numbers.0.values().all(|&times| times >= often), "{export} gave {numbers:?}");
     }
 }
 
@@ -334,6 +426,7 @@ fn longest_lists(given: &mut Given, r: &mut Random) {
         let entries: Vec<u32> = (0..k).collect();
         let tables = Tables { starts: entries.clone(), images: entries.clone(), holders: entries };
         given.on_tables(k, &tables, k - 1, k - 1, 3);
+        given.questions(r, k, &tables, &tables.starts);
     }
 }
 
@@ -355,7 +448,7 @@ fn known_keys() {
         (0..6).map(|x| zibewoka::weight(16, &s, &i, &h, x).expect("whole")).collect::<Vec<_>>(),
         [0, 1, 0, 1, 2, 2]
     );
-    let step = |place, interval, count| Ok(zibewoka::Step { place, interval, count });
+    let step = |place, interval, count| Ok(Step { place, interval, count });
     assert_eq!(zibewoka::move_once(16, &s, &i, &h, 4, 11), step(3, 1, 1));
     assert_eq!(zibewoka::moves(16, &s, &i, &h, 0, 0, 4), step(0, 0, 1));
     assert_eq!(zibewoka::inverse(16, &s, &i, &h, 9), Ok(zibewoka::Position { place: 7, interval: 3 }));
@@ -379,6 +472,43 @@ fn known_keys() {
     let [s, i, h] = tables_at(&psi, 2).expect("legal");
     assert_eq!(s, psi.starts);
     assert_eq!(zibewoka::move_once(45, &s, &i, &h, 4, 15), step(35, 10, 1));
+}
+
+/// What questions at these places, on tables with n 16, come to. A refusal leaves the records as they were.
+fn answered(t: &Tables, places: &[u32]) -> Result<(u32, Vec<Question>), Refusal> {
+    let before: Vec<Question> = places.iter().map(|&place| question([place, 9, 9, 9, 9])).collect();
+    let mut records = before.clone();
+    match zibewoka::questions(16, &t.starts, &t.images, &t.holders, &mut records) {
+        Ok(count) => Ok((count, records)),
+        Err(refusal) => {
+            assert_eq!(records, before);
+            Err(refusal)
+        }
+    }
+}
+
+#[test]
+fn known_questions() {
+    let refused = |number, place| Err(Refusal { number, place });
+    let done = |count, records: &[second::Record]| Ok((count, records.iter().copied().map(question).collect()));
+    let listing = second::tables(16, &[0, 2, 4, 6, 8, 12], &[14, 12, 10, 8, 0, 4]);
+    assert_eq!(listing.holders, [5, 5, 4, 4, 0, 2]);
+    let records = [[0, 0, 14, 5, 0], [3, 1, 13, 5, 0], [3, 1, 13, 5, 0], [11, 4, 3, 1, 1], [15, 5, 7, 3, 1]];
+    assert_eq!(answered(&listing, &[0, 3, 3, 11, 15]), done(5, &records));
+    assert_eq!(answered(&listing, &[]), done(0, &[]));
+    assert_eq!(answered(&listing, &[3, 2, 99]), refused(16, 1));
+    assert_eq!(answered(&listing, &[3, 16, 20]), refused(11, 16));
+
+    let mut torn = listing;
+    torn.holders[1] = 9;
+    assert_eq!(answered(&torn, &[2, 3, 99]), refused(11, 99));
+    assert_eq!(answered(&torn, &[0, 3, 4]), refused(12, 1));
+    assert_eq!(answered(&torn, &[0, 1, 4]), done(2, &[[0, 0, 14, 5, 0], [1, 0, 15, 5, 0], [4, 2, 10, 4, 0]]));
+
+    let starts = vec![0, 9, 4, 12];
+    let disordered = Tables { images: starts.clone(), starts, holders: vec![0, 1, 0, 3] };
+    let records = [[0, 0, 0, 0, 0], [5, 0, 5, 0, 0], [9, 2, 9, 2, 2], [13, 3, 13, 3, 0]];
+    assert_eq!(answered(&disordered, &[0, 5, 9, 13]), done(3, &records));
 }
 
 #[test]
@@ -439,14 +569,15 @@ fn all_permutations_of_up_to_six_places() {
             let tables = given.balance(r, &list, d, [b, b + 1, b, b]).expect("a permutation's list is legal");
             let literally = second::balanced_literally(n, &list.starts, &list.images, d as usize);
             assert_eq!((&tables.starts, &tables.images), (&literally.0, &literally.1));
-            every_place(&mut given, &permutation, &tables, d);
+            every_place(&mut given, r, &permutation, &tables, d);
         }
     }
 }
 
 /// Every export at every place and interval of a permutation's balanced tables, and the permutation itself.
-fn every_place(given: &mut Given, permutation: &[u32], t: &Tables, d: u32) {
+fn every_place(given: &mut Given, r: &mut Random, permutation: &[u32], t: &Tables, d: u32) {
     let n = permutation.len() as u32;
+    given.questions(r, n, t, &Vec::from_iter(0..n));
     for p in 0..=n {
         for x in 0..=t.starts.len() as u32 {
             given.on_tables(n, t, x, p, p);

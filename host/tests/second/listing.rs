@@ -51,7 +51,8 @@ fn damage_file(r: &mut Random, file: &mut Vec<u8>) {
 fn listings_of_random_files() {
     let root = Path::new(env!("CARGO_MANIFEST_DIR")).parent().expect("host/ stands in the repository");
     let built = Command::new("rt").args(["check", "listing"]).current_dir(root).output().expect("rt is on the path");
-    assert!(built.status.success(), "{}", String::from_utf8_lossy(&built.stderr));
+    let [told, warned] = [&built.stdout, &built.stderr].map(|said| String::from_utf8_lossy(said));
+    assert!(built.status.success(), "rt check listing: {told}{warned}");
     let program = root.join("target/bin/listing");
     let r = &mut Random::new(5);
     let mut begun = BTreeSet::new();

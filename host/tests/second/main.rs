@@ -1,4 +1,4 @@
-//! The exports and the listing program against a second program, made from the text of document 01 alone.
+//! The exports and the listing program against a second program, made from the papers' text alone.
 
 mod definition;
 mod exports;
