@@ -2,7 +2,7 @@
 -- through those of its balanced list are one theorem (Through), since both lists are legal and have one function. What holds
 -- of questions on any tables is theirs (questions/proofs/Agreeing, Passing).
 use Prim.Native.Nat.{ℕ, _≤_}
-use mathlib.Core.Path.{refl}
+use mathlib.Core.Path.{refl, sym, _∙_}
 use native.Mathlib.Omega.{arith}
 use Rattle.runs.specs.Runs.{Runs, countOf}
 use Rattle.runs.specs.Legal.{Legal}
@@ -12,7 +12,8 @@ use Rattle.runs.proofs.Sequences.{accepted-sequence, sequence-accepted}
 use Rattle.runs.proofs.Intervals.{accepted-intervals, intervals-accepted}
 use Rattle.tables.specs.Tables.{maxIntervals}
 use Rattle.files.proofs.Accepted.{file-accepted}
-use Rattle.questions.proofs.Agreeing.{records-agree}
+use Rattle.questions.specs.Questions.{placesOf}
+use Rattle.questions.proofs.Agreeing.{records-agree, unfound, unmoved}
 use Rattle.questions.proofs.Passing.{passes-once}
 use Rattle.cuts.specs.Balance.{balanced}
 use Rattle.cuts.proofs.Balancing.{balanced-legal, balanced-map, balanced-cuts}
@@ -35,5 +36,7 @@ demand2 = record {
   own-tables = λ n r a. let l = accepted-legal n r a in through n r r (l .0) (l .0) (omega (arith, l .1)) (λ p h. refl);
   balanced-tables = λ n r d a many few. let l = accepted-legal n r a in through-balanced n r (l .0) (l .1) d many;
   questions-agree = records-agree;
+  questions-unfound = λ n t qs a left w p e. unfound n t (placesOf qs) p (sym (w .says) ∙ e);
+  questions-unmoved = λ n t qs a left w x e. unmoved n t (placesOf qs) x (sym (w .says) ∙ e);
   questions-pass = λ n t qs a left w c e. passes-once t n qs a left w c e;
 }

@@ -21,7 +21,7 @@ use Rattle.walks.specs.declared.Moved.{Moved}
 use Rattle.bookmarks.specs.Bookmark.{bookmarkTests, bookmarkOf, fresh, Advances, marking, markedSays, markingOf, markingsOf}
 use Rattle.bookmarks.specs.declared.Bookmark.{Bookmark}
 use Rattle.bookmarks.specs.declared.Marked.{Marked}
-use Rattle.questions.specs.Questions.{answeredSays, placesOf, questionTests, foundLast, answersOf, filledIn, recordsAfter, Answers}
+use Rattle.questions.specs.Questions.{answeredSays, placesOf, placeAt, questionTests, foundLast, answersOf, filledIn, recordsAfter, Answers}
 use Rattle.questions.specs.Agree.{Agrees, OnePass}
 use Rattle.questions.specs.Plain.{plainAnswers, plainQuestion}
 use Rattle.questions.specs.declared.Question.{Question}
@@ -124,10 +124,19 @@ pub record Demand2 : Type 0 where
   pub accepted-file : (bytes : List ℕ) (h : Header) → (fileOf maxRuns bytes ≡ done h) ↔ ((h ≡ headerOf bytes) × RightFile bytes)
   pub own-tables : (n : ℕ) (r : Runs) → checkOf n r ≡ done tt → Through n r r
   pub balanced-tables : (n : ℕ) (r : Runs) (d : ℕ) → checkOf n r ≡ done tt → 2 ≤ d → d ≤ 64 → Through n r (balanced d n r)
-  -- questions that are answered together, on any tables: each record agrees with find and move done alone; and one pass over
-  -- the places finds each record's interval and counts the answer, which is the last one's
+  -- questions that are answered together, on any tables: each record agrees with find and move done alone
   pub questions-agree : (n : ℕ) (t : Tables) (qs : List Question) (a : Answered) (left : List Question) → Answers n t qs a left
       → (c : ℕ) → answeredSays a ≡ done c → All (Agrees n t) left
+  -- where they are refused with 11 or 12, so is find alone for the place given, which is a record's; or a move alone from a
+  -- record's place and the interval given, which find gives for it
+  pub questions-unfound : (n : ℕ) (t : Tables) (qs : List Question) (a : Answered) (left : List Question) → Answers n t qs a left
+      → (p : ℕ) → answeredSays a ≡ refused 11 p
+      → (j : ℕ) × (j < length (placesOf qs)) × (placeAt (placesOf qs) j ≡ p) × (findOf n t p ≡ refused 11 p)
+  pub questions-unmoved : (n : ℕ) (t : Tables) (qs : List Question) (a : Answered) (left : List Question) → Answers n t qs a left
+      → (x : ℕ) → answeredSays a ≡ refused 12 x
+      → (j : ℕ) × (j < length (placesOf qs)) × (findOf n t (placeAt (placesOf qs) j) ≡ done x)
+      × (moveOf n t x (placeAt (placesOf qs) j) ≡ refused 12 x)
+  -- where they are answered, one pass over the places finds each record's interval and counts the answer, the last one's
   pub questions-pass : (n : ℕ) (t : Tables) (qs : List Question) (a : Answered) (left : List Question) → Answers n t qs a left
       → (c : ℕ) → answeredSays a ≡ done c → OnePass t (placesOf qs) left c
 

@@ -90,7 +90,7 @@ psi =
     runs (0 ∷ 1 ∷ 5 ∷ 6 ∷ 12 ∷ 17 ∷ 19 ∷ 22 ∷ 25 ∷ 32 ∷ 34 ∷ 42 ∷ 43 ∷ [])
     (11 ∷ 28 ∷ 2 ∷ 22 ∷ 32 ∷ 38 ∷ 42 ∷ 12 ∷ 15 ∷ 0 ∷ 3 ∷ 37 ∷ 40 ∷ [])
 
--- the example's tables with two holders that are none, and tables whose starts do not rise
+-- the example's tables with two holders that are no interval's index, and tables whose starts do not rise
 abbrev pub lostHolder : Tables
 lostHolder = record { list = exampleTables .list; holders = 5 ∷ 9 ∷ 4 ∷ 9 ∷ 0 ∷ 2 ∷ [] }
 
@@ -155,8 +155,8 @@ keys =
     (leftRow 16 exampleTables (3 ∷ 2 ∷ []) is 3 ∷ 9 ∷ 9 ∷ 9 ∷ 9 ∷ 2 ∷ 9 ∷ 9 ∷ 9 ∷ 9 ∷ []) ∷
     (answeredRow 16 exampleTables (3 ∷ 16 ∷ 20 ∷ []) is 11 ∷ 16 ∷ []) ∷
     (answeredRow 16 (tables (2 ∷ 4 ∷ []) (10 ∷ 8 ∷ []) (0 ∷ 0 ∷ [])) (1 ∷ 3 ∷ []) is 11 ∷ 1 ∷ []) ∷
-    -- intervals 1 and 3 cannot be left: 16 and 11 of a later record come first; 12 with the lower one; and no record lies
-    -- there. A move that would reach n
+    -- intervals 1 and 3 cannot be left: 16 and 11 of a later record come first; 12 with the lower one; and records that
+    -- lie elsewhere are answered. A move that would reach n
     (answeredRow 16 lostHolder (3 ∷ 2 ∷ []) is 16 ∷ 1 ∷ []) ∷
     (answeredRow 16 lostHolder (2 ∷ 3 ∷ 99 ∷ []) is 11 ∷ 99 ∷ []) ∷
     (answeredRow 16 lostHolder (0 ∷ 3 ∷ 7 ∷ []) is 12 ∷ 1 ∷ []) ∷

@@ -39,6 +39,26 @@ judge-first t ts a b e = go (t .applies) e
     go true e = absurd (done-refused b (t .number) (t .place) e)
     go false e = (refl, e)
 
+-- A refusal: a test of another number did not apply; and the first test did, where the others do not refuse so.
+pub judge-past : {A : Type 0} (t : Test) (ts : List Test) (a : A) (k p : ℕ) → (t .number ≡ k → ⊥)
+    → judge (t ∷ ts) a ≡ refused k p → (t .applies ≡ false) × (judge ts a ≡ refused k p)
+unfolding judge
+judge-past t ts a k p h e = go (t .applies) e
+  where
+    go : (s : Bool) → (s then refused (t .number) (t .place) else judge ts a) ≡ refused k p
+        → (s ≡ false) × (judge ts a ≡ refused k p)
+    go true e = absurd (h cc)
+    go false e = (refl, e)
+
+pub judge-met : {A : Type 0} (t : Test) (ts : List Test) (a : A) (k p : ℕ) → (judge ts a ≡ refused k p → ⊥)
+    → judge (t ∷ ts) a ≡ refused k p → (t .applies ≡ true) × (t .place ≡ p)
+unfolding judge
+judge-met t ts a k p h e = go (t .applies) e
+  where
+    go : (s : Bool) → (s then refused (t .number) (t .place) else judge ts a) ≡ refused k p → (s ≡ true) × (t .place ≡ p)
+    go true e = (refl, cc)
+    go false e = absurd (h e)
+
 -- what tests that pass give is the result, and that tests further on follow
 pub judge-done : {A : Type 0} (ts : List Test) (a b : A) → judge ts a ≡ done b → a ≡ b
 unfolding judge

@@ -13,9 +13,8 @@ pub(crate) fn find_from(starts: &[u32], x: u32, i: u32) -> u32
     (order::stretch_end(starts, x as usize + 1, i) - 1) as u32
 }
 
-// The same by four starts at a time, for judging: how far one place lies from the next can't be foreseen. Where many places
-// share an interval the plain pass is the faster one, so filling in makes that: with one of each, questions take less time than
-// with two of either on some lists and about as much on others.
+// The same with a look at the next four starts at once, for judging: how far one place lies from the next can't be foreseen.
+// Where many places share an interval the plain pass is the faster one, so filling in makes that: docs/DECISIONS.md has the times.
 pub(crate) fn find_near(starts: &[u32], x: u32, i: u32) -> u32
     requires { ⌜ (x < length (now starts)) × (length (now starts) ≤ maxIntervals) ⌝ }
     ensures { λ r. ⌜ r ≡ x + passed (now (starts .entry)) x i ⌝ }

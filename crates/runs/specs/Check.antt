@@ -31,7 +31,7 @@ overlap n r x y = not (eqb x y) && (ltb (imageOf r x) (imageEnd n r y) && ltb (i
 unfoldable pub overlaps : ℕ → Runs → ℕ → Bool
 overlaps n r x = anyBelow (overlap n r x) (countOf r)
 
--- a test of each run, with the lowest run that it applies to
+-- a test of each run, or of each of k others, with the lowest that it applies to
 abbrev pub lowest : ℕ → (ℕ → Bool) → ℕ → Test
 lowest number p k = test number (anyBelow p k) (firstBelow p k)
 
