@@ -102,8 +102,8 @@ fn line(r: &mut Random, shape: &str, k: usize, d: u32) -> String {
         },
         || {
             (0..m).fold((first, interval), |(place, interval), _| {
-                let (place, interval, _) = peer::move_once(n, s, i, h, interval, place).expect("a move");
-                (place, interval)
+                let step = peer::move_once(n, s, i, h, interval, place).expect("a move");
+                (step.place, step.interval)
             })
         },
     );

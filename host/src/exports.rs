@@ -60,6 +60,8 @@ pub struct MoveAnswer {
     pub place: u32,
     /// The interval that has it.
     pub interval: u32,
+    /// How far the place lies from the interval's start.
+    pub distance: u32,
     /// How many starts the walk passed.
     pub count: u32,
 }
@@ -74,6 +76,8 @@ pub struct MovesAnswer {
     pub place: u32,
     /// The interval that has it.
     pub interval: u32,
+    /// How far the place lies from the interval's start.
+    pub distance: u32,
     /// How many starts all moves together passed.
     pub count: u64,
 }
@@ -92,6 +96,8 @@ pub struct Question {
     pub to_interval: u32,
     /// How many starts the move's walk passed.
     pub count: u32,
+    /// How far the place reached lies from the start of the interval reached.
+    pub distance: u32,
 }
 
 /// The answer of [`questions`].

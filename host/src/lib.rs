@@ -78,6 +78,8 @@ pub struct Step {
     pub place: u32,
     /// The interval that has it.
     pub interval: u32,
+    /// How far the place lies from the interval's start; that start is `place - distance`.
+    pub distance: u32,
     /// How many interval starts were passed on the way.
     pub count: u64,
 }
@@ -165,7 +167,8 @@ pub fn move_once(
 ) -> Result<Step, Refusal> {
     let answer = exports::move_once(n, starts, images, holders, interval, place);
     done(answer.number, answer.place)?;
-    Ok(Step { place: answer.place, interval: answer.interval, count: u64::from(answer.count) })
+    let exports::MoveAnswer { place, interval, distance, count, .. } = answer;
+    Ok(Step { place, interval, distance, count: u64::from(count) })
 }
 
 /// `m` moves from `place`, which `interval` has.
@@ -184,7 +187,8 @@ pub fn moves(
 ) -> Result<Step, Refusal> {
     let answer = exports::moves(n, starts, images, holders, interval, place, m);
     done(answer.number, answer.place)?;
-    Ok(Step { place: answer.place, interval: answer.interval, count: answer.count })
+    let exports::MovesAnswer { place, interval, distance, count, .. } = answer;
+    Ok(Step { place, interval, distance, count })
 }
 
 /// The place that `place` is reached from, and its interval.
@@ -210,8 +214,8 @@ pub fn weight(n: u32, starts: &[u32], images: &[u32], holders: &[u32], interval:
 }
 
 /// Answers questions that stand in rising order of place, equal ones too: each record gets the interval that has its
-/// place, as [`find`] gives it, and the place reached, the interval reached and the count of a move from there, as
-/// [`move_once`] gives them. What these fields held before is not read.
+/// place, as [`find`] gives it, and the place reached, the interval reached, the count and the distance of a move from
+/// there, as [`move_once`] gives them. What these fields held before is not read.
 ///
 /// One pass over the starts finds all intervals; the answer is how many it passed, which is the last record's interval,
 /// or 0 where there are no records.
@@ -222,7 +226,7 @@ pub fn weight(n: u32, starts: &[u32], images: &[u32], holders: &[u32], interval:
 /// let (starts, images, holders) = ([0, 2, 4, 6, 8, 12], [14, 12, 10, 8, 0, 4], [5, 5, 4, 4, 0, 2]);
 /// let mut records = [3, 11].map(|place| Question { place, ..Question::default() });
 /// assert_eq!(zibewoka::questions(16, &starts, &images, &holders, &mut records), Ok(4));
-/// assert_eq!(records[1], Question { place: 11, interval: 4, to_place: 3, to_interval: 1, count: 1 });
+/// assert_eq!(records[1], Question { place: 11, interval: 4, to_place: 3, to_interval: 1, count: 1, distance: 1 });
 /// ```
 ///
 /// # Errors

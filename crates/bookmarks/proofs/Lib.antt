@@ -1,3 +1,4 @@
 -- The laws that callers cite.
 pub mod Marks
 pub mod Markings
+pub mod Distances

@@ -8,7 +8,7 @@ use lib.Dec.{leb, ltb}
 use borrow.Author.Tests.{lt-ltb, le-ltb, le-leb, lt-leb, leb-false}
 use Rattle.order.proofs.Laws.{lt-or-le, or-false}
 use Rattle.outcomes.specs.Outcome.{Outcome, done, refused, judge, andThen}
-use Rattle.outcomes.proofs.Judging.{judge-append, judge-done}
+use Rattle.outcomes.proofs.Judging.{done-refused, judge-append, judge-done}
 use Rattle.tables.specs.Tables.{Tables}
 use Rattle.walks.specs.Move.{movedSays, stepOf, moveOf, moveTests}
 use Rattle.bookmarks.specs.Bookmark.{overflows, bookmarkOf, markAfter, Advances}
@@ -65,7 +65,7 @@ pub bookmark-kept : (n : ℕ) (t : Tables) (b : Bookmark) (m : Moved) (left : Bo
 bookmark-kept n t b m left a k p e = a .mark ∙ sym (after-refused b (bookmarkOf n t b) k p (sym e ∙ a .says))
 
 pub after-done : (b : Bookmark) (o : Outcome Step) (s : Step) → done s ≡ o
-    → record { place = s .place; interval = s .interval; moves = b .moves + 1; passed = b .passed + s .count }
+    → record { place = s .place; interval = s .interval; distance = s .distance; moves = b .moves + 1; passed = b .passed + s .count }
     ≡ markAfter b o
 unfolding markAfter
 after-done b o s e = rw (← e)
@@ -86,6 +86,18 @@ module _ (n : ℕ) (t : Tables) (b : Bookmark) where
   bookmark-on s e =
       let z = judge-done (moveTests n t (b .interval) (b .place)) (stepOf t (b .interval) (b .place)) s (sym e) in
       rw (bookmark-is, ← e) (ap (markOf b) (sym z))
+
+  -- what it answers is the move's own step
+  pub bookmark-moved : (s : Step) → bookmarkOf n t b ≡ done s → moveOf n t (b .interval) (b .place) ≡ done s
+  unfolding moveOf markOf andThen
+  bookmark-moved s e = go (moveOf n t (b .interval) (b .place)) refl (sym bookmark-is ∙ e)
+    where
+      go : (o : Outcome Step) → moveOf n t (b .interval) (b .place) ≡ o
+          → andThen o (λ _. markOf b (stepOf t (b .interval) (b .place))) ≡ done s → moveOf n t (b .interval) (b .place) ≡ done s
+      go (done a) f g =
+          let z = judge-done (moveTests n t (b .interval) (b .place)) (stepOf t (b .interval) (b .place)) a f in
+          f ∙ ap done (sym z ∙ judge-done _ (stepOf t (b .interval) (b .place)) s g)
+      go (refused k p) f g = absurd (done-refused s k p (sym g))
 
   -- where the move is made, the counters decide
   pub bookmark-overflow : (s : Step) → moveOf n t (b .interval) (b .place) ≡ done s → 4294967295 ≤ b .moves

@@ -1,4 +1,4 @@
--- A bookmark's move (document 01, "Walking").
+-- A bookmark's move (document 01, "Walking"), with the distance of document 02, A.2.
 use Prim.Native.Nat.{ℕ, zero, suc, _+_, _^_}
 use mathlib.Core.Path.{_≡_}
 use mathlib.Core.Bool.{Bool, _||_}
@@ -12,9 +12,14 @@ use Rattle.bookmarks.specs.declared.Bookmark.{Bookmark}
 use Rattle.walks.specs.declared.Moved.{Moved}
 use Rattle.bookmarks.specs.declared.Marked.{Marked}
 
--- a bookmark that has made no move yet
-abbrev pub fresh : ℕ → ℕ → Bookmark
-fresh p x = record { place = p; interval = x; moves = 0; passed = 0 }
+-- a bookmark that has made no move yet; its distance g is any number, since no move reads it
+abbrev pub fresh : ℕ → ℕ → ℕ → Bookmark
+fresh p x g = record { place = p; interval = x; distance = g; moves = 0; passed = 0 }
+
+-- a bookmark with another distance
+abbrev pub withDistance : ℕ → Bookmark → Bookmark
+withDistance g b =
+    record { place = b .place; interval = b .interval; distance = g; moves = b .moves; passed = b .passed }
 
 -- 13: after the step the moves would not fit in 32 bits, or the starts passed not in 64
 unfoldable pub overflows : Bookmark → Step → Bool
@@ -31,7 +36,7 @@ bookmarkOf n t b = judge (bookmarkTests n t b) (stepOf t (b .interval) (b .place
 -- the bookmark after an answer: further by the step, or as it was
 unfoldable pub markAfter : Bookmark → Outcome Step → Bookmark
 markAfter b (done s) =
-    record { place = s .place; interval = s .interval; moves = b .moves + 1; passed = b .passed + s .count }
+    record { place = s .place; interval = s .interval; distance = s .distance; moves = b .moves + 1; passed = b .passed + s .count }
 markAfter b (refused k p) = b
 
 -- what a bookmark's move promises: the answer, and the bookmark that it leaves of b

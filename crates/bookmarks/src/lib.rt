@@ -7,12 +7,14 @@ mod marking;
 use walks::Moved;
 ghost use mathlib.Core.Path.{_≡_};
 ghost use Rattle.tables.specs.Tables.{tables};
-ghost use Rattle.bookmarks.specs.Bookmark.{fresh, Advances, markedSays, markingsOf};
+ghost use Rattle.bookmarks.specs.Bookmark.{Advances, markedSays, markingsOf};
 
-// A walk that its owner keeps: where it stands, the moves made and the starts passed.
+// A walk that its owner keeps: where it stands, the moves made and the starts passed. A move writes the place's distance
+// from the interval's start and never reads it, so that a bookmark may begin with any number there.
 pub struct Bookmark {
     pub place: u32,
     pub interval: u32,
+    pub distance: u32,
     pub moves: u32,
     pub passed: u64,
 }
@@ -45,27 +47,21 @@ pub fn advance(n: u32, starts: &[u32], images: &[u32], holders: &[u32], b: &mut 
     m.moved
 }
 
-// m moves of a bookmark that is fresh at place i of interval x: the last answer, and the bookmark then. A refused move
-// leaves the bookmark, so all later ones would be refused alike: the first refusal is the last answer.
+// m moves of a bookmark: the last answer, and the bookmark then. A refused move leaves the bookmark, so all later ones would
+// be refused alike: the first refusal is the last answer.
 pub fn bookmark_moves(
     n: u32,
     starts: &[u32],
     images: &[u32],
     holders: &[u32],
-    x: u32,
-    i: u32,
+    b: Bookmark,
     m: u32,
 ) -> Marked
-    ensures { λ r. ⌜ markedSays r ≡ markingsOf n (tables (now (starts .entry)) (now (images .entry)) (now (holders .entry))) m (fresh i x) ⌝ }
+    ensures { λ r. ⌜ markedSays r ≡ markingsOf n (tables (now (starts .entry)) (now (images .entry)) (now (holders .entry))) m b ⌝ }
 {
     let mut marked = Marked {
-        bookmark: Bookmark {
-            place: i,
-            interval: x,
-            moves: 0,
-            passed: 0,
-        },
-        moved: walks::repeated_moves(n, starts, images, holders, x, i, 0),
+        bookmark: b,
+        moved: walks::repeated_moves(n, starts, images, holders, b.interval, b.place, 0),
     };
     let mut made: u32 = 0;
     while made < m {

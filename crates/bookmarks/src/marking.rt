@@ -34,6 +34,7 @@ pub(crate) fn mark(b: Bookmark, s: Step) -> Marked
         bookmark: Bookmark {
             place: s.place,
             interval: s.interval,
+            distance: s.distance,
             moves: b.moves + 1,
             passed: b.passed + s.count,
         },

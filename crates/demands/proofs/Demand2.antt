@@ -1,6 +1,6 @@
 -- Demand 2: acceptance is `check`'s own theorem (runs/proofs/Sequences, Intervals), and the walks through a list's own tables and
 -- through those of its balanced list are one theorem (Through), since both lists are legal and have one function. What holds
--- of questions on any tables is theirs (questions/proofs/Agreeing, Passing).
+-- of distances and of questions on any tables is theirs (proofs/Distances of walks and bookmarks; questions/proofs/Agreeing, Passing).
 use Prim.Native.Nat.{ℕ, _≤_}
 use mathlib.Core.Path.{refl, sym, _∙_}
 use native.Mathlib.Omega.{arith}
@@ -11,9 +11,11 @@ use Rattle.runs.proofs.Accepted.{accepted-legal}
 use Rattle.runs.proofs.Sequences.{accepted-sequence, sequence-accepted}
 use Rattle.runs.proofs.Intervals.{accepted-intervals, intervals-accepted}
 use Rattle.tables.specs.Tables.{maxIntervals}
+use Rattle.walks.proofs.Distances.{move-lies, moves-lie}
+use Rattle.bookmarks.proofs.Distances.{answer-unread, distance-unread, marked-lies}
 use Rattle.files.proofs.Accepted.{file-accepted}
 use Rattle.questions.specs.Questions.{placesOf}
-use Rattle.questions.proofs.Agreeing.{records-agree, unfound, unmoved}
+use Rattle.questions.proofs.Agreeing.{records-agree, records-lie, unfound, unmoved}
 use Rattle.questions.proofs.Passing.{passes-once}
 use Rattle.cuts.specs.Balance.{balanced}
 use Rattle.cuts.proofs.Balancing.{balanced-legal, balanced-map, balanced-cuts}
@@ -35,6 +37,12 @@ demand2 = record {
   accepted-file = file-accepted;
   own-tables = λ n r a. let l = accepted-legal n r a in through n r r (l .0) (l .0) (omega (arith, l .1)) (λ p h. refl);
   balanced-tables = λ n r d a many few. let l = accepted-legal n r a in through-balanced n r (l .0) (l .1) d many;
+  move-distance = λ n t x i s e. move-lies n t x i s e;
+  moves-distance = moves-lie;
+  bookmark-distance = marked-lies;
+  questions-distance = records-lie;
+  distance-unread = answer-unread;
+  distance-forgotten = distance-unread;
   questions-agree = records-agree;
   questions-unfound = λ n t qs a left w p e. unfound n t (placesOf qs) p (sym (w .says) ∙ e);
   questions-unmoved = λ n t qs a left w x e. unmoved n t (placesOf qs) x (sym (w .says) ∙ e);

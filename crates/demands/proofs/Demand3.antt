@@ -34,7 +34,7 @@ use Rattle.demands.specs.Demands.{Through, Serves, Demand3}
 use Rattle.demands.proofs.Demand2.{balanced-few, through-balanced}
 use Rattle.demands.proofs.Serving.{same-replies}
 use Rattle.demands.proofs.Counting.{counts-length, counts-sum, counts-most, bounded-total, records-total, all-most}
-use Rattle.demands.proofs.Marking.{fresh-stands, same-trail, trail-length, trail-bounds, end-bounds, advance-bounds, advancing-served, trail-last}
+use Rattle.demands.proofs.Marking.{fresh-stands, fresh-trail, trail-length, trail-bounds, end-bounds, advance-bounds, advancing-served, trail-last}
 
 module _ (n : ℕ) (r : Runs) (d : ℕ) (c : Legal n r) (k : countOf r ≤ maxRuns) (many : 2 ≤ d) (few : d ≤ 64) where
   abbrev t : Runs
@@ -52,24 +52,23 @@ module _ (n : ℕ) (r : Runs) (d : ℕ) (c : Legal n r) (k : countOf r ≤ maxRu
   small : maxCount d ≤ maxIntervals
   small = omega arith
 
-  fresh-trail : (m p : ℕ) → p < n → servedTrail n (tablesOf n t) m (fresh p (runAt n t p)) ≡ plainTrail n r t m p 0 0
-  fresh-trail m p h =
-      same-trail n (maxCount d) r t (tablesOf n t) (walks .move) (walks .inside) most small m p 0 0 h (omega arith) (omega arith)
+  same-fresh : (m p g : ℕ) → p < n → servedTrail n (tablesOf n t) m (fresh p (runAt n t p) g) ≡ plainTrail n r t m p 0 0
+  same-fresh = fresh-trail n (maxCount d) r t (tablesOf n t) (walks .move) (walks .inside) most small
 
-  fresh-end : (m p : ℕ) → p < n → plainTrail n r t (suc m) p 0 0
-      ≡ plainTrail n r t m p 0 0 ++ (markingsOf n (tablesOf n t) (suc m) (fresh p (runAt n t p)) ∷ [])
-  fresh-end m p h =
-      let b = fresh p (runAt n t p) in
-      sym (fresh-trail (suc m) p h)
+  fresh-end : (m p g : ℕ) → p < n → plainTrail n r t (suc m) p 0 0
+      ≡ plainTrail n r t m p 0 0 ++ (markingsOf n (tablesOf n t) (suc m) (fresh p (runAt n t p) g) ∷ [])
+  fresh-end m p g h =
+      let b = fresh p (runAt n t p) g in
+      sym (same-fresh (suc m) p g h)
       ∙ trail-last n (tablesOf n t) m b
-      ∙ ap (λ (l : List Marking). l ++ (markingsOf n (tablesOf n t) (suc m) b ∷ [])) (fresh-trail m p h)
+      ∙ ap (λ (l : List Marking). l ++ (markingsOf n (tablesOf n t) (suc m) b ∷ [])) (same-fresh m p g h)
 
-  bounds-at : (m p : ℕ) → p < n → Bounded (maxCount d) (markingsOf n (tablesOf n t) m (fresh p (runAt n t p)))
+  bounds-at : (m p g : ℕ) → p < n → Bounded (maxCount d) (markingsOf n (tablesOf n t) m (fresh p (runAt n t p) g))
   unfolding markingsOf plainMoves
-  bounds-at zero p h = record { move = rw (walks .moves 0 p h .0) (omega arith); sum = omega arith }
-  bounds-at (suc m) p h =
-      end-bounds n (maxCount d) r t (tablesOf n t) (walks .move) (walks .inside) most small m (fresh p (runAt n t p))
-      (fresh-stands n (maxCount d) r t p h)
+  bounds-at zero p g h = record { move = rw (walks .moves 0 p h .0) (omega arith); sum = omega arith }
+  bounds-at (suc m) p g h =
+      end-bounds n (maxCount d) r t (tablesOf n t) (walks .move) (walks .inside) most small m (fresh p (runAt n t p) g)
+      (fresh-stands n (maxCount d) r t p g h)
 
   -- questions together: what the contract says, by the plain walk
   told : (qs : List Question) (a : Answered) (left : List Question) → Answers n (tablesOf n t) qs a left
@@ -95,8 +94,8 @@ module _ (n : ℕ) (r : Runs) (d : ℕ) (c : Legal n r) (k : countOf r ≤ maxRu
       let replied : (p : ℕ) → p < n → (cs : List Call)
       → map countIn (served n (tablesOf n t) p (runAt n t p) cs) ≡ map total (walkCounts n r t p cs) =
       λ p h cs. ap (map countIn) (replies cs p h) ∙ counts-sum n r t cs p in
-      let trails : (p : ℕ) → p < n → (m : ℕ) → All (Bounded b) (servedTrail n (tablesOf n t) m (fresh p (runAt n t p))) =
-      λ p h m. trail-bounds n b r t (tablesOf n t) (walks .move) (walks .inside) most small m _ (fresh-stands n b r t p h) in
+      let trails : (p g : ℕ) → p < n → (m : ℕ) → All (Bounded b) (servedTrail n (tablesOf n t) m (fresh p (runAt n t p) g)) =
+      λ p g h m. trail-bounds n b r t (tablesOf n t) (walks .move) (walks .inside) most small m _ (fresh-stands n b r t p g h) in
       record {
         filled = refl;
         same-permutation = balanced-map d n many r c;
@@ -106,20 +105,20 @@ module _ (n : ℕ) (r : Runs) (d : ℕ) (c : Legal n r) (k : countOf r ≤ maxRu
         each-move = each;
         all-moves = λ p h cs.
             rw (replied p h cs, ← counts-length n r t cs p) (all-most b (walkCounts n r t p cs) (each p h cs));
-        same-trail = λ p h m. fresh-trail m p h;
+        same-trail = λ p g h m. same-fresh m p g h;
         trail-bounds = trails;
-        trail-total = λ p h m.
-            let w = fresh p (runAt n t p) in
+        trail-total = λ p g h m.
+            let w = fresh p (runAt n t p) g in
             omega (
               arith,
-              bounded-total b (servedTrail n (tablesOf n t) m w) (trails p h m),
+              bounded-total b (servedTrail n (tablesOf n t) m w) (trails p g h m),
               ap (λ (k : ℕ). k * b) (trail-length n (tablesOf n t) m w),
             );
-        same-advances = λ p h ms a. advancing-served n (tablesOf n t) ms _ a ∙ fresh-trail (length ms) p h;
-        advance-bounds = λ p h ms a.
-            advance-bounds n b r t (tablesOf n t) (walks .move) (walks .inside) most small ms _ (fresh-stands n b r t p h) a;
-        same-end = λ p h m. fresh-end m p h;
-        end-bounds = λ p h m. bounds-at m p h;
+        same-advances = λ p g h ms a. advancing-served n (tablesOf n t) ms _ a ∙ same-fresh (length ms) p g h;
+        advance-bounds = λ p g h ms a.
+            advance-bounds n b r t (tablesOf n t) (walks .move) (walks .inside) most small ms _ (fresh-stands n b r t p g h) a;
+        same-end = λ p g h m. fresh-end m p g h;
+        end-bounds = λ p g h m. bounds-at m p g h;
         same-questions = told;
         question-bounds = told-most;
         question-total = λ qs a left w c e. records-total b left (told-most qs a left w c e);

@@ -1,4 +1,4 @@
--- The moves of one bookmark are served as the plain walk answers them, and leave its four numbers. The counter of starts
+-- The moves of one bookmark are served as the plain walk answers them, and leave its five numbers. The counter of starts
 -- passed never gets near its width: at most b starts for each of fewer than 2^32 moves, and b is no more than a table has.
 use Prim.Native.Nat.{ℕ, zero, suc, _+_, _*_, _^_, _≤_, _<_}
 use mathlib.Core.Path.{_≡_, refl, sym, ap, _∙_}
@@ -14,13 +14,13 @@ use Rattle.outcomes.specs.Outcome.{done, refused}
 use Rattle.runs.specs.Runs.{Runs, runAt, mapOf}
 use Rattle.tables.specs.Tables.{Tables, maxIntervals}
 use Rattle.walks.specs.Move.{moveOf}
-use Rattle.bookmarks.specs.Bookmark.{fresh, markAfter, Marking, marking, markedSays, markingOf, markingsOf}
+use Rattle.bookmarks.specs.Bookmark.{fresh, withDistance, markAfter, Marking, marking, markedSays, markingOf, markingsOf}
 use Rattle.bookmarks.specs.declared.Bookmark.{Bookmark}
 use Rattle.bookmarks.specs.declared.Marked.{Marked}
 use Rattle.bookmarks.proofs.Marks.{bookmark-overflow, bookmark-goes}
 use Rattle.bookmarks.proofs.Markings.{advances-marking}
 use Rattle.demands.specs.Calls.{Bounded}
-use Rattle.walks.specs.Plain.{plainMove}
+use Rattle.walks.specs.Plain.{plainDistance, plainMove}
 use Rattle.demands.specs.PlainWalk.{plainTrail, standing}
 use Rattle.demands.specs.Served.{servedTrail, Advancing}
 
@@ -36,33 +36,34 @@ module _ (n : ℕ) (r t : Runs) (k p m c : ℕ) where
   unfolding plainTrail plainMove
   plain-goes h = rw (lt-leb 4294967295 m h, plainTrail)
 
--- a bookmark that the plain walk may stand at, its counters within the bound
+-- a bookmark that the plain walk may stand at, with any distance, its counters within the bound
 pub record Stands (n b : ℕ) (r t : Runs) (w : Bookmark) : Type 0 where
   pub place : ℕ
+  pub distance : ℕ
   pub moves : ℕ
   pub passed : ℕ
-  pub is : w ≡ standing n r t place moves passed
+  pub is : w ≡ withDistance distance (standing n r t place moves passed)
   pub inside : place < n
   pub few : moves ≤ 4294967295
   pub bounded : passed ≤ moves * b
 
-pub fresh-stands : (n b : ℕ) (r t : Runs) (p : ℕ) → p < n → Stands n b r t (fresh p (runAt n t p))
-fresh-stands n b r t p h =
-    record { place = p; moves = 0; passed = 0; is = refl; inside = h; few = omega arith; bounded = omega arith }
+pub fresh-stands : (n b : ℕ) (r t : Runs) (p g : ℕ) → p < n → Stands n b r t (fresh p (runAt n t p) g)
+fresh-stands n b r t p g h =
+    record { place = p; distance = g; moves = 0; passed = 0; is = refl; inside = h; few = omega arith; bounded = omega arith }
 
 -- one move of a bookmark that stands so
 module _ (n : ℕ) (r t : Runs) (τ : Tables)
     (move-to : (p : ℕ) → p < n → moveOf n τ (runAt n t p) p ≡ done (plainMove n r t p)) where
-  pub mark-goes : (p m c : ℕ) → p < n → m + 1 < 2 ^ 32 → c + plainMove n r t p .count < 2 ^ 64
-      → markingOf n τ (standing n r t p m c)
+  pub mark-goes : (p g m c : ℕ) → p < n → m + 1 < 2 ^ 32 → c + plainMove n r t p .count < 2 ^ 64
+      → markingOf n τ (withDistance g (standing n r t p m c))
       ≡ marking (done (plainMove n r t p)) (standing n r t (mapOf n r p) (m + 1) (c + plainMove n r t p .count))
   unfolding markingOf markAfter plainMove
-  mark-goes p m c h l w = rw (bookmark-goes n τ (standing n r t p m c) (plainMove n r t p) (move-to p h) l w)
+  mark-goes p g m c h l w = rw (bookmark-goes n τ (withDistance g (standing n r t p m c)) (plainMove n r t p) (move-to p h) l w)
 
-  mark-stays : (p m c : ℕ) → p < n → 4294967295 ≤ m
-      → markingOf n τ (standing n r t p m c) ≡ marking (refused 13 0) (standing n r t p m c)
+  mark-stays : (p g m c : ℕ) → p < n → 4294967295 ≤ m
+      → markingOf n τ (withDistance g (standing n r t p m c)) ≡ marking (refused 13 0) (withDistance g (standing n r t p m c))
   unfolding markingOf markAfter
-  mark-stays p m c h l = rw (bookmark-overflow n τ (standing n r t p m c) (plainMove n r t p) (move-to p h) l)
+  mark-stays p g m c h l = rw (bookmark-overflow n τ (withDistance g (standing n r t p m c)) (plainMove n r t p) (move-to p h) l)
 
 module _ (n b : ℕ) (r t : Runs) (τ : Tables)
     (move-to : (p : ℕ) → p < n → moveOf n τ (runAt n t p) p ≡ done (plainMove n r t p))
@@ -74,7 +75,7 @@ module _ (n b : ℕ) (r t : Runs) (τ : Tables)
       → (c + plainMove n r t p .count < 2 ^ 64) × (c + plainMove n r t p .count ≤ (m + 1) * b)
   sum-next p m c h l w = let f = mul-le-mul-left m small in (omega (arith, most p h), omega (arith, most p h))
 
-  pub same-trail : (k p m c : ℕ) → p < n → m ≤ 4294967295 → c ≤ m * b
+  same-trail : (k p m c : ℕ) → p < n → m ≤ 4294967295 → c ≤ m * b
       → servedTrail n τ k (standing n r t p m c) ≡ plainTrail n r t k p m c
   unfolding servedTrail plainTrail
   same-trail zero p m c h l w = refl
@@ -85,32 +86,46 @@ module _ (n b : ℕ) (r t : Runs) (τ : Tables)
           → servedTrail n τ (suc k) (standing n r t p m c) ≡ plainTrail n r t (suc k) p m c
       go (inl e) rest =
           let f = sum-next p m c h e w in
-          rw (mark-goes n r t τ move-to p m c h (omega arith) (f .0))
+          rw (mark-goes n r t τ move-to p (plainDistance n t p) m c h (omega arith) (f .0))
           (ap (λ (l : List Marking). marking (done (plainMove n r t p)) (standing n r t (mapOf n r p) (m + 1) (c + plainMove n r t p .count)) ∷ l)
           (rest (mapOf n r p) (m + 1) (c + plainMove n r t p .count) (below p h) (omega arith) (f .1))
           ∙ sym (plain-goes n r t k p m c e))
       go (inr e) rest =
-          rw (mark-stays n r t τ move-to p m c h e)
+          rw (mark-stays n r t τ move-to p (plainDistance n t p) m c h e)
           (ap (λ (l : List Marking). marking (refused 13 0) (standing n r t p m c) ∷ l) (rest p m c h l w)
           ∙ sym (plain-overflow n r t k p m c e))
+
+  -- a fresh bookmark may have any distance: its first move is made
+  pub fresh-trail : (k p g : ℕ) → p < n → servedTrail n τ k (fresh p (runAt n t p) g) ≡ plainTrail n r t k p 0 0
+  unfolding servedTrail plainTrail
+  fresh-trail zero p g h = refl
+  fresh-trail (suc k) p g h =
+      let f = sum-next p 0 0 h (omega arith) (omega arith) in
+      let to : (u : ℕ) → markingOf n τ (fresh p (runAt n t p) u)
+      ≡ marking (done (plainMove n r t p)) (standing n r t (mapOf n r p) (0 + 1) (0 + plainMove n r t p .count)) =
+      λ u. mark-goes n r t τ move-to p u 0 0 h (omega arith) (f .0) in
+      ap (λ (w : Marking). w ∷ servedTrail n τ k (w .bookmark)) (to g ∙ sym (to (plainDistance n t p)))
+      ∙ same-trail (suc k) p 0 0 h (omega arith) (omega arith)
 
   -- a move's count and the bookmark after it keep to the bound
   turn : (w : Bookmark) → Stands n b r t w → Bounded b (markingOf n τ w) × Stands n b r t (markingOf n τ w .bookmark)
   turn w s =
-      rw (s .is) (go (s .place) (s .moves) (s .passed) (s .inside) (s .few) (s .bounded) (lt-or-le (s .moves) 4294967295))
+      rw (s .is)
+      (go (s .place) (s .distance) (s .moves) (s .passed) (s .inside) (s .few) (s .bounded) (lt-or-le (s .moves) 4294967295))
     where
-      go : (p m c : ℕ) → p < n → m ≤ 4294967295 → c ≤ m * b → (m < 4294967295) ⊎ (4294967295 ≤ m)
-          → Bounded b (markingOf n τ (standing n r t p m c)) × Stands n b r t (markingOf n τ (standing n r t p m c) .bookmark)
-      go p m c h l w (inl e) =
+      go : (p g m c : ℕ) → p < n → m ≤ 4294967295 → c ≤ m * b → (m < 4294967295) ⊎ (4294967295 ≤ m)
+          → Bounded b (markingOf n τ (withDistance g (standing n r t p m c)))
+          × Stands n b r t (markingOf n τ (withDistance g (standing n r t p m c)) .bookmark)
+      go p g m c h l w (inl e) =
           let f = sum-next p m c h e w in
-          rw (mark-goes n r t τ move-to p m c h (omega arith) (f .0)) (
+          rw (mark-goes n r t τ move-to p g m c h (omega arith) (f .0)) (
             record { move = most p h; sum = f .1 },
-            record { place = mapOf n r p; moves = m + 1; passed = c + plainMove n r t p .count; is = refl; inside = below p h; few = omega arith; bounded = f .1 },
+            record { place = mapOf n r p; distance = plainDistance n t (mapOf n r p); moves = m + 1; passed = c + plainMove n r t p .count; is = refl; inside = below p h; few = omega arith; bounded = f .1 },
           )
-      go p m c h l w (inr e) =
-          rw (mark-stays n r t τ move-to p m c h e) (
+      go p g m c h l w (inr e) =
+          rw (mark-stays n r t τ move-to p g m c h e) (
             record { move = omega arith; sum = w },
-            record { place = p; moves = m; passed = c; is = refl; inside = h; few = l; bounded = w },
+            record { place = p; distance = g; moves = m; passed = c; is = refl; inside = h; few = l; bounded = w },
           )
 
   pub trail-bounds : (k : ℕ) (w : Bookmark) → Stands n b r t w → All (Bounded b) (servedTrail n τ k w)

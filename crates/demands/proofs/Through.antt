@@ -16,8 +16,8 @@ use Rattle.walks.proofs.LegalTables.{legal-find, legal-move, legal-moves}
 use Rattle.preimages.proofs.LegalPreimages.{legal-inverse}
 use Rattle.questions.proofs.LegalQuestions.{legal-answers, legal-records}
 use Rattle.bookmarks.specs.declared.Bookmark.{Bookmark}
-use Rattle.bookmarks.specs.Bookmark.{fresh, Marking, marking, markingOf, markingsOf}
-use Rattle.walks.specs.Plain.{plainMove, plainMoves}
+use Rattle.bookmarks.specs.Bookmark.{fresh, withDistance, Marking, marking, markingOf, markingsOf}
+use Rattle.walks.specs.Plain.{plainDistance, plainMove, plainMoves}
 use Rattle.walks.proofs.PlainMoves.{move-same, count-few, moves-place, moves-below}
 use Rattle.demands.specs.PlainWalk.{standing}
 use Rattle.demands.specs.Demands.{Through}
@@ -50,33 +50,39 @@ module _ (n : ℕ) (r t : Runs) (few : countOf t ≤ maxIntervals)
   unfolding plainMoves
   counts-next m p h = ap (λ (q : ℕ). plainMoves n r t m p .count + plainMove n r t q .count) (sym (moves-place n r t m p))
 
-  next : (m p : ℕ) → p < n → suc m < 2 ^ 32
-      → markingOf n (tablesOf n t) (standing n r t (powerOf n r m p) m (plainMoves n r t m p .count))
+  next : (m p g : ℕ) → p < n → suc m < 2 ^ 32
+      → markingOf n (tablesOf n t) (withDistance g (standing n r t (powerOf n r m p) m (plainMoves n r t m p .count)))
       ≡ marking (done (plainMove n r t (powerOf n r m p)))
       (standing n r t (powerOf n r (suc m) p) (suc m) (plainMoves n r t (suc m) p .count))
   unfolding powerOf
-  next m p h l =
+  next m p g h l =
       let q = powerOf n r m p in
       let c = plainMoves n r t m p .count in
-      mark-goes n r t (tablesOf n t) move-to q m c (power-below m p h) (omega arith)
+      mark-goes n r t (tablesOf n t) move-to q g m c (power-below m p h) (omega arith)
       (omega (arith, counts-few m p, count-small q))
       ∙ rw (add-one, ← counts-next m p h)
 
-  marks-lead : (m p : ℕ) → p < n → m < 2 ^ 32
-      → markingsOf n (tablesOf n t) m (fresh p (runAt n t p)) .bookmark
-      ≡ standing n r t (powerOf n r m p) m (plainMoves n r t m p .count)
+  -- only before the first move is the distance another than the plain walk's
+  marks-lead : (m p g : ℕ) → p < n → m < 2 ^ 32
+      → (u : ℕ)
+      × (markingsOf n (tablesOf n t) m (fresh p (runAt n t p) g) .bookmark
+      ≡ withDistance u (standing n r t (powerOf n r m p) m (plainMoves n r t m p .count)))
   unfolding markingsOf powerOf plainMoves
-  marks-lead zero p h l = refl
-  marks-lead (suc m) p h l =
-      ap (λ (b : Bookmark). markingOf n (tablesOf n t) b .bookmark) (marks-lead m p h (omega arith))
-      ∙ ap (λ (w : Marking). w .bookmark) (next m p h l)
+  marks-lead zero p g h l = (g, refl)
+  marks-lead (suc m) p g h l =
+      let w = marks-lead m p g h (omega arith) in (
+        plainDistance n t (powerOf n r (suc m) p),
+        ap (λ (b : Bookmark). markingOf n (tablesOf n t) b .bookmark) (w .1) ∙ ap (λ (k : Marking). k .bookmark) (next m p (w .0) h l),
+      )
 
-  pub marks-are : (m p : ℕ) → p < n → suc m < 2 ^ 32
-      → markingsOf n (tablesOf n t) (suc m) (fresh p (runAt n t p))
+  pub marks-are : (m p g : ℕ) → p < n → suc m < 2 ^ 32
+      → markingsOf n (tablesOf n t) (suc m) (fresh p (runAt n t p) g)
       ≡ marking (done (plainMove n r t (powerOf n r m p)))
       (standing n r t (powerOf n r (suc m) p) (suc m) (plainMoves n r t (suc m) p .count))
   unfolding markingsOf
-  marks-are m p h l = ap (markingOf n (tablesOf n t)) (marks-lead m p h (omega arith)) ∙ next m p h l
+  marks-are m p g h l =
+      let w = marks-lead m p g h (omega arith) in
+      ap (markingOf n (tablesOf n t)) (w .1) ∙ next m p (w .0) h l
 
 pub through : (n : ℕ) (r t : Runs) → Legal n r → Legal n t → countOf t ≤ maxIntervals → ((p : ℕ) → p < n → mapOf n t p ≡ mapOf n r p)
     → Through n r t

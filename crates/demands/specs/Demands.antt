@@ -14,11 +14,12 @@ use Rattle.runs.specs.Check.{maxRuns, checkTests, checkOf, writeTests}
 use Rattle.lists.specs.Inverse.{inverseRuns, inverseListOf, InverseListed}
 use Rattle.outcomes.specs.declared.Checked.{Checked}
 use Rattle.tables.specs.Tables.{Tables, tablesOf}
-use Rattle.walks.specs.Move.{movedSays, findTests, locateTests, moveTests, foundAt, stepOf, stayAt, findOf, moveOf, movesOf, Stopped}
+use Rattle.walks.specs.Move.{movedSays, findTests, locateTests, moveTests, foundAt, stepOf, stayAt, findOf, moveOf, movesOf, Stopped, LiesIn}
 use Rattle.preimages.specs.Inverse.{sourceOf, inverseTests, inverseOf}
 use Rattle.weights.specs.Under.{underTests, underCount, weightOf, startsUnderOf}
+use Rattle.walks.specs.declared.Step.{Step}
 use Rattle.walks.specs.declared.Moved.{Moved}
-use Rattle.bookmarks.specs.Bookmark.{bookmarkTests, bookmarkOf, fresh, Advances, marking, markedSays, markingOf, markingsOf}
+use Rattle.bookmarks.specs.Bookmark.{bookmarkTests, bookmarkOf, fresh, withDistance, Advances, marking, markedSays, markingOf, markingsOf}
 use Rattle.bookmarks.specs.declared.Bookmark.{Bookmark}
 use Rattle.bookmarks.specs.declared.Marked.{Marked}
 use Rattle.questions.specs.Questions.{answeredSays, placesOf, placeAt, questionTests, foundLast, answersOf, filledIn, recordsAfter, Answers}
@@ -55,7 +56,7 @@ pub record Demand1 : Type 0 where
   -- a repeated move of no moves; any other is refused exactly where that one is, or where it cannot leave an interval on
   -- the way
   pub no-move : (n : ℕ) (t : Tables) (x i : ℕ)
-      → Judged (9 ∷ 10 ∷ 11 ∷ []) (locateTests n t x i) (stayAt x i) (movesOf n t 0 x i)
+      → Judged (9 ∷ 10 ∷ 11 ∷ []) (locateTests n t x i) (stayAt (t .list .starts) x i) (movesOf n t 0 x i)
   pub moves : (n : ℕ) (t : Tables) (m x i k p : ℕ)
       → (movesOf n t m x i ≡ refused k p) ↔ ((movesOf n t 0 x i ≡ refused k p) ⊎ Stopped n t m x i k p)
   pub inverse : (n : ℕ) (t : Tables) (j : ℕ)
@@ -94,13 +95,13 @@ pub record Through (n : ℕ) (r t : Runs) : Type 0 where
   pub move : (p : ℕ) → p < n → moveOf n (tablesOf n t) (runAt n t p) p ≡ done (plainMove n r t p)
   pub moves : (m p : ℕ) → p < n
       → (movesOf n (tablesOf n t) m (runAt n t p) p ≡ done (plainMoves n r t m p)) × (plainMoves n r t m p .place ≡ powerOf n r m p)
-  -- a bookmark at p whose counters have room: its answer, and the bookmark that is left
-  pub bookmark : (p m c : ℕ) → p < n → m + 1 < 2 ^ 32 → c + plainMove n r t p .count < 2 ^ 64
-      → markingOf n (tablesOf n t) (standing n r t p m c)
+  -- a bookmark at p whose counters have room, with any distance g: its answer, and the bookmark that is left
+  pub bookmark : (p g m c : ℕ) → p < n → m + 1 < 2 ^ 32 → c + plainMove n r t p .count < 2 ^ 64
+      → markingOf n (tablesOf n t) (withDistance g (standing n r t p m c))
       ≡ marking (done (plainMove n r t p)) (standing n r t (mapOf n r p) (m + 1) (c + plainMove n r t p .count))
   -- the last of m + 1 moves of one that is fresh at p, as long as its counter of moves has room: the other then has
-  pub bookmark-moves : (m p : ℕ) → p < n → suc m < 2 ^ 32
-      → markingsOf n (tablesOf n t) (suc m) (fresh p (runAt n t p))
+  pub bookmark-moves : (m p g : ℕ) → p < n → suc m < 2 ^ 32
+      → markingsOf n (tablesOf n t) (suc m) (fresh p (runAt n t p) g)
       ≡ marking (done (plainMove n r t (powerOf n r m p)))
       (standing n r t (powerOf n r (suc m) p) (suc m) (plainMoves n r t (suc m) p .count))
   pub inverse : (p : ℕ) → p < n
@@ -124,6 +125,22 @@ pub record Demand2 : Type 0 where
   pub accepted-file : (bytes : List ℕ) (h : Header) → (fileOf maxRuns bytes ≡ done h) ↔ ((h ≡ headerOf bytes) × RightFile bytes)
   pub own-tables : (n : ℕ) (r : Runs) → checkOf n r ≡ done tt → Through n r r
   pub balanced-tables : (n : ℕ) (r : Runs) (d : ℕ) → checkOf n r ≡ done tt → 2 ≤ d → d ≤ 64 → Through n r (balanced d n r)
+  -- The distance that a call answers, on any tables: the start of the interval reached is not above the place reached, the
+  -- difference is exact, and it is below the interval's length. A bookmark that has moved holds the same.
+  pub move-distance : (n : ℕ) (t : Tables) (x i : ℕ) (s : Step) → moveOf n t x i ≡ done s
+      → LiesIn n t (s .interval) (s .place) (s .distance)
+  pub moves-distance : (n : ℕ) (t : Tables) (m x i : ℕ) (s : Step) → movesOf n t m x i ≡ done s
+      → LiesIn n t (s .interval) (s .place) (s .distance)
+  pub bookmark-distance : (n : ℕ) (t : Tables) (b : Bookmark) (m : Moved) (left : Bookmark) → Advances n t b m left
+      → (s : Step) → movedSays m ≡ done s
+      → LiesIn n t (s .interval) (s .place) (s .distance) × LiesIn n t (left .interval) (left .place) (left .distance)
+  pub questions-distance : (n : ℕ) (t : Tables) (qs : List Question) (a : Answered) (left : List Question) → Answers n t qs a left
+      → (c : ℕ) → answeredSays a ≡ done c → All (λ q. LiesIn n t (q .«to_interval») (q .«to_place») (q .distance)) left
+  -- the one that a bookmark held before is not read, on any tables: with any other the answer is the same, and so is the
+  -- bookmark that is left where the move is made
+  pub distance-unread : (n : ℕ) (t : Tables) (b : Bookmark) (g : ℕ) → bookmarkOf n t (withDistance g b) ≡ bookmarkOf n t b
+  pub distance-forgotten : (n : ℕ) (t : Tables) (b : Bookmark) (g : ℕ) (s : Step) → bookmarkOf n t b ≡ done s
+      → markingOf n t (withDistance g b) ≡ markingOf n t b
   -- questions that are answered together, on any tables: each record agrees with find and move done alone
   pub questions-agree : (n : ℕ) (t : Tables) (qs : List Question) (a : Answered) (left : List Question) → Answers n t qs a left
       → (c : ℕ) → answeredSays a ≡ done c → All (Agrees n t) left
@@ -159,20 +176,21 @@ pub record Serves (n : ℕ) (r t : Runs) (d : ℕ) (τ : Tables) : Type 0 where
       → map countIn (served n τ p (runAt n t p) cs) ≡ map total (walkCounts n r t p cs)
   pub each-move : (p : ℕ) → p < n → (cs : List Call) → All (All (λ c. c ≤ maxCount d)) (walkCounts n r t p cs)
   pub all-moves : (p : ℕ) → p < n → (cs : List Call) → allCounts (served n τ p (runAt n t p) cs) ≤ allMoves cs * maxCount d
-  -- m moves of a bookmark that is fresh at p: each answer, the bookmark after it, and the bounds of both
-  pub same-trail : (p : ℕ) → p < n → (m : ℕ) → servedTrail n τ m (fresh p (runAt n t p)) ≡ plainTrail n r t m p 0 0
-  pub trail-bounds : (p : ℕ) → p < n → (m : ℕ) → All (Bounded (maxCount d)) (servedTrail n τ m (fresh p (runAt n t p)))
-  pub trail-total : (p : ℕ) → p < n → (m : ℕ)
-      → total (map (λ w. countOfMove (w .answer)) (servedTrail n τ m (fresh p (runAt n t p)))) ≤ m * maxCount d
+  -- m moves of a bookmark that is fresh at p, with any distance g: each answer, the bookmark after it, whose five numbers are the
+  -- plain walk's, and the bounds of both
+  pub same-trail : (p g : ℕ) → p < n → (m : ℕ) → servedTrail n τ m (fresh p (runAt n t p) g) ≡ plainTrail n r t m p 0 0
+  pub trail-bounds : (p g : ℕ) → p < n → (m : ℕ) → All (Bounded (maxCount d)) (servedTrail n τ m (fresh p (runAt n t p) g))
+  pub trail-total : (p g : ℕ) → p < n → (m : ℕ)
+      → total (map (λ w. countOfMove (w .answer)) (servedTrail n τ m (fresh p (runAt n t p) g))) ≤ m * maxCount d
   -- the same over the contract of `advance`: any number of calls on that one bookmark
-  pub same-advances : (p : ℕ) → p < n → (ms : List Marked) → Advancing n τ (fresh p (runAt n t p)) ms
+  pub same-advances : (p g : ℕ) → p < n → (ms : List Marked) → Advancing n τ (fresh p (runAt n t p) g) ms
       → map markedSays ms ≡ plainTrail n r t (length ms) p 0 0
-  pub advance-bounds : (p : ℕ) → p < n → (ms : List Marked) → Advancing n τ (fresh p (runAt n t p)) ms
+  pub advance-bounds : (p g : ℕ) → p < n → (ms : List Marked) → Advancing n τ (fresh p (runAt n t p) g) ms
       → All (λ m. Bounded (maxCount d) (markedSays m)) ms
   -- and over that of `bookmark_moves`: what m + 1 moves say, and leave, is the last of that trail
-  pub same-end : (p : ℕ) → p < n → (m : ℕ)
-      → plainTrail n r t (suc m) p 0 0 ≡ plainTrail n r t m p 0 0 ++ (markingsOf n τ (suc m) (fresh p (runAt n t p)) ∷ [])
-  pub end-bounds : (p : ℕ) → p < n → (m : ℕ) → Bounded (maxCount d) (markingsOf n τ m (fresh p (runAt n t p)))
+  pub same-end : (p g : ℕ) → p < n → (m : ℕ)
+      → plainTrail n r t (suc m) p 0 0 ≡ plainTrail n r t m p 0 0 ++ (markingsOf n τ (suc m) (fresh p (runAt n t p) g) ∷ [])
+  pub end-bounds : (p g : ℕ) → p < n → (m : ℕ) → Bounded (maxCount d) (markingsOf n τ m (fresh p (runAt n t p) g))
   -- Questions together, over the contract of `answer` and for any records: the answer, and each record as the plain walk's find
   -- and move would fill it in. Where they are answered, the count of each record, and all of them together.
   pub same-questions : (qs : List Question) (a : Answered) (left : List Question) → Answers n τ qs a left

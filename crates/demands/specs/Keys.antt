@@ -1,6 +1,6 @@
 -- The keys that are proved about the definitions: one table, one statement. Its rows are written from document 01: the keys
 -- that it marks to be proved, the example's listing, ψ, and both ends of a shift; and from document 02, what its text comes
--- to for questions together (A.1). On the left stands what is asked of a definition, on the right the numbers that the
+-- to for questions together (A.1) and for the distance (A.2). On the left stands what is asked of a definition, on the right the numbers that the
 -- document gives, or that were worked out from it by hand.
 use Prim.Native.Nat.{ℕ, suc}
 use mathlib.Core.Path.{_≡_, refl}
@@ -15,6 +15,8 @@ use Rattle.preimages.specs.Inverse.{sends, sourceOf, inverseOf}
 use Rattle.runs.specs.Weight.{weight}
 use Rattle.walks.specs.declared.Step.{Step}
 use Rattle.preimages.specs.declared.Source.{Source}
+use Rattle.bookmarks.specs.Bookmark.{fresh, overflows, bookmarkOf, markAfter, Marking, markingOf, markingsOf}
+use Rattle.bookmarks.specs.declared.Bookmark.{Bookmark}
 use Rattle.questions.specs.Questions.{fallsAt, unfindableAt, brokenAt, answersOf, filledIn, recordsAfter}
 use Rattle.questions.specs.declared.Question.{Question}
 use Rattle.cuts.specs.Balance.{cutting, balanced}
@@ -28,19 +30,29 @@ abbrev pub checkedRow : Outcome (Unit {0}) → List ℕ
 checkedRow o = rowFrom (λ u. []) o
 
 abbrev pub movedRow : Outcome Step → List ℕ
-movedRow o = rowFrom (λ s. s .place ∷ s .interval ∷ s .count ∷ []) o
+movedRow o = rowFrom (λ s. s .place ∷ s .interval ∷ s .distance ∷ s .count ∷ []) o
 
 abbrev pub invertedRow : Outcome Source → List ℕ
 invertedRow o = rowFrom (λ s. s .place ∷ s .interval ∷ []) o
 
--- records, one after the other: place, interval, place and interval reached, count
+-- records, one after the other: place, interval, place and interval reached, count, distance
 abbrev pub recordsRow : List Question → List ℕ
 recordsRow [] = []
-recordsRow (q ∷ qs) = q .place ∷ q .interval ∷ q .«to_place» ∷ q .«to_interval» ∷ q .count ∷ recordsRow qs
+recordsRow (q ∷ qs) = q .place ∷ q .interval ∷ q .«to_place» ∷ q .«to_interval» ∷ q .count ∷ q .distance ∷ recordsRow qs
+
+-- an answer and a bookmark: its place, interval, distance, moves and starts passed
+abbrev pub markingRow : Marking → List ℕ
+markingRow m =
+    let b = m .bookmark in
+    movedRow (m .answer) ++ (b .place ∷ b .interval ∷ b .distance ∷ b .moves ∷ b .passed ∷ [])
+
+-- a bookmark whose counter of moves is full
+abbrev pub full : ℕ → ℕ → ℕ → Bookmark
+full p x g = record { place = p; interval = x; distance = g; moves = 4294967295; passed = 0 }
 
 -- records that ask about these places, with another number in the fields to be filled in; the answer, and what it leaves
 abbrev pub asked : ℕ → Question
-asked p = record { place = p; interval = 9; «to_place» = 9; «to_interval» = 9; count = 9 }
+asked p = record { place = p; interval = 9; «to_place» = 9; «to_interval» = 9; count = 9; distance = 9 }
 
 abbrev pub answeredRow : ℕ → Tables → List ℕ → List ℕ
 answeredRow n t ps = rowFrom (λ c. c ∷ []) (answersOf n t ps)
@@ -118,17 +130,18 @@ keys =
     (listedRow 16 exampleTables 3 is 3 ∷ 6 ∷ 8 ∷ 0 ∷ 2 ∷ 4 ∷ 1 ∷ []) ∷
     (listedRow 16 exampleTables 4 is 4 ∷ 8 ∷ 0 ∷ 1 ∷ 8 ∷ 0 ∷ 2 ∷ []) ∷
     (listedRow 16 exampleTables 5 is 5 ∷ 12 ∷ 4 ∷ 1 ∷ 8 ∷ 2 ∷ 2 ∷ []) ∷
-    -- place 11, interval 4; then four moves from place 0, by 14, 6, 8
-    (movedRow (moveOf 16 exampleTables 4 11) is 0 ∷ 3 ∷ 1 ∷ 1 ∷ []) ∷
-    (movedRow (movesOf 16 exampleTables 1 0 0) is 0 ∷ 14 ∷ 5 ∷ 0 ∷ []) ∷
-    (movedRow (movesOf 16 exampleTables 2 0 0) is 0 ∷ 6 ∷ 3 ∷ 1 ∷ []) ∷
-    (movedRow (movesOf 16 exampleTables 3 0 0) is 0 ∷ 8 ∷ 4 ∷ 1 ∷ []) ∷
-    (movedRow (movesOf 16 exampleTables 4 0 0) is 0 ∷ 0 ∷ 0 ∷ 1 ∷ []) ∷
+    -- place 11, interval 4, one move and none; then four moves from place 0, by 14, 6, 8
+    (movedRow (moveOf 16 exampleTables 4 11) is 0 ∷ 3 ∷ 1 ∷ 1 ∷ 1 ∷ []) ∷
+    (movedRow (movesOf 16 exampleTables 0 4 11) is 0 ∷ 11 ∷ 4 ∷ 3 ∷ 0 ∷ []) ∷
+    (movedRow (movesOf 16 exampleTables 1 0 0) is 0 ∷ 14 ∷ 5 ∷ 2 ∷ 0 ∷ []) ∷
+    (movedRow (movesOf 16 exampleTables 2 0 0) is 0 ∷ 6 ∷ 3 ∷ 0 ∷ 1 ∷ []) ∷
+    (movedRow (movesOf 16 exampleTables 3 0 0) is 0 ∷ 8 ∷ 4 ∷ 0 ∷ 1 ∷ []) ∷
+    (movedRow (movesOf 16 exampleTables 4 0 0) is 0 ∷ 0 ∷ 0 ∷ 0 ∷ 1 ∷ []) ∷
     (invertedRow (inverseOf 16 exampleTables 9) is 0 ∷ 7 ∷ 3 ∷ []) ∷
     -- weight 3, no cut; the most starts that a move may pass
     (weight 12 uncut 3 ∷ countOf (balanced 2 12 uncut) ∷ [] is 3 ∷ 4 ∷ []) ∷
     (countOf (balanced 2 15 fullest) ∷ [] is 5 ∷ []) ∷
-    (movedRow (moveOf 15 (tablesOf 15 (balanced 2 15 fullest)) 4 14) is 0 ∷ 7 ∷ 3 ∷ 3 ∷ []) ∷
+    (movedRow (moveOf 15 (tablesOf 15 (balanced 2 15 fullest)) 4 14) is 0 ∷ 7 ∷ 3 ∷ 0 ∷ 3 ∷ []) ∷
     -- accepted and refused lists
     (checkedRow (checkOf 1 single) ++ (countOf (balanced 2 1 single) ∷ []) is 0 ∷ 1 ∷ []) ∷
     (checkedRow (checkOf 4 (halves (2 ∷ 0 ∷ []))) is 0 ∷ []) ∷
@@ -139,11 +152,17 @@ keys =
     (checkedRow (checkOf 4294967295 furthestUp) ++ signedRow (shiftOf furthestUp 0) is 0 ∷ 0 ∷ 4294967294 ∷ []) ∷
     -- ψ: no cut at d 2; place 15, interval 4
     (countOf (balanced 2 45 psi) ∷ [] is 13 ∷ []) ∷
-    (movedRow (moveOf 45 (tablesOf 45 (balanced 2 45 psi)) 4 15) is 0 ∷ 35 ∷ 10 ∷ 1 ∷ []) ∷
+    (movedRow (moveOf 45 (tablesOf 45 (balanced 2 45 psi)) 4 15) is 0 ∷ 35 ∷ 10 ∷ 1 ∷ 1 ∷ []) ∷
+    -- a bookmark whose distance is wrong: a move writes it, 13 keeps it; four moves, and none, which answer the right one
+    (markingRow (markingOf 16 exampleTables (fresh 11 4 999)) is 0 ∷ 3 ∷ 1 ∷ 1 ∷ 1 ∷ 3 ∷ 1 ∷ 1 ∷ 1 ∷ 1 ∷ []) ∷
+    (markingRow (markingOf 16 exampleTables (full 11 4 999)) is 13 ∷ 0 ∷ 11 ∷ 4 ∷ 999 ∷ 4294967295 ∷ 0 ∷ []) ∷
+    (markingRow (markingsOf 16 exampleTables 4 (fresh 0 0 999)) is 0 ∷ 0 ∷ 0 ∷ 0 ∷ 0 ∷ 0 ∷ 0 ∷ 0 ∷ 4 ∷ 1 ∷ []) ∷
+    (markingRow (markingsOf 16 exampleTables 0 (fresh 11 4 999)) is 0 ∷ 11 ∷ 4 ∷ 3 ∷ 0 ∷ 11 ∷ 4 ∷ 999 ∷ 0 ∷ 0 ∷ []) ∷
     -- questions together: the listing's tables, two places equal; no records
     (answeredRow 16 exampleTables (0 ∷ 3 ∷ 3 ∷ 11 ∷ 15 ∷ []) is 0 ∷ 5 ∷ []) ∷
     (leftRow 16 exampleTables (0 ∷ 3 ∷ 3 ∷ 11 ∷ 15 ∷ []) is
-    0 ∷ 0 ∷ 14 ∷ 5 ∷ 0 ∷ 3 ∷ 1 ∷ 13 ∷ 5 ∷ 0 ∷ 3 ∷ 1 ∷ 13 ∷ 5 ∷ 0 ∷ 11 ∷ 4 ∷ 3 ∷ 1 ∷ 1 ∷ 15 ∷ 5 ∷ 7 ∷ 3 ∷ 1 ∷ []) ∷
+    0 ∷ 0 ∷ 14 ∷ 5 ∷ 0 ∷ 2 ∷ 3 ∷ 1 ∷ 13 ∷ 5 ∷ 0 ∷ 1 ∷ 3 ∷ 1 ∷ 13 ∷ 5 ∷ 0 ∷ 1 ∷
+    11 ∷ 4 ∷ 3 ∷ 1 ∷ 1 ∷ 1 ∷ 15 ∷ 5 ∷ 7 ∷ 3 ∷ 1 ∷ 1 ∷ []) ∷
     (answeredRow 16 exampleTables [] is 0 ∷ 0 ∷ []) ∷
     -- the tables' own test comes first, for no records too; then places that fall, after one that is not below n and before
     -- one, and twice, and nothing is filled in; then two places not below n, and one below the first start
@@ -152,7 +171,7 @@ keys =
     (answeredRow 16 exampleTables (99 ∷ 2 ∷ []) is 16 ∷ 1 ∷ []) ∷
     (answeredRow 16 exampleTables (3 ∷ 2 ∷ 99 ∷ []) is 16 ∷ 1 ∷ []) ∷
     (answeredRow 16 exampleTables (5 ∷ 3 ∷ 1 ∷ []) is 16 ∷ 1 ∷ []) ∷
-    (leftRow 16 exampleTables (3 ∷ 2 ∷ []) is 3 ∷ 9 ∷ 9 ∷ 9 ∷ 9 ∷ 2 ∷ 9 ∷ 9 ∷ 9 ∷ 9 ∷ []) ∷
+    (leftRow 16 exampleTables (3 ∷ 2 ∷ []) is 3 ∷ 9 ∷ 9 ∷ 9 ∷ 9 ∷ 9 ∷ 2 ∷ 9 ∷ 9 ∷ 9 ∷ 9 ∷ 9 ∷ []) ∷
     (answeredRow 16 exampleTables (3 ∷ 16 ∷ 20 ∷ []) is 11 ∷ 16 ∷ []) ∷
     (answeredRow 16 (tables (2 ∷ 4 ∷ []) (10 ∷ 8 ∷ []) (0 ∷ 0 ∷ [])) (1 ∷ 3 ∷ []) is 11 ∷ 1 ∷ []) ∷
     -- intervals 1 and 3 cannot be left: 16 and 11 of a later record come first; 12 with the lower one; and records that
@@ -165,9 +184,10 @@ keys =
     -- starts in any order: found 0, 0, 2 and 3
     (answeredRow 16 mixedStarts (0 ∷ 5 ∷ 9 ∷ 13 ∷ []) is 0 ∷ 3 ∷ []) ∷
     (leftRow 16 mixedStarts (0 ∷ 5 ∷ 9 ∷ 13 ∷ []) is
-    0 ∷ 0 ∷ 0 ∷ 0 ∷ 0 ∷ 5 ∷ 0 ∷ 5 ∷ 0 ∷ 0 ∷ 9 ∷ 2 ∷ 9 ∷ 2 ∷ 2 ∷ 13 ∷ 3 ∷ 13 ∷ 3 ∷ 0 ∷ []) ∷
+    0 ∷ 0 ∷ 0 ∷ 0 ∷ 0 ∷ 0 ∷ 5 ∷ 0 ∷ 5 ∷ 0 ∷ 0 ∷ 5 ∷
+    9 ∷ 2 ∷ 9 ∷ 2 ∷ 2 ∷ 5 ∷ 13 ∷ 3 ∷ 13 ∷ 3 ∷ 0 ∷ 1 ∷ []) ∷
     []
 
 pub keys-hold : map computed keys ≡ map given keys
-unfolding judge mapDone andThen unmatched unordered outOfRange overlap overlaps listTests testsUpTo misshapen outside unheld broken passed foundAt unfindable walkCount stepTo stepOf moveOf onwards movesOf sends sourceOf inverseOf fallsAt unfindableAt brokenAt answersOf filledIn recordsAfter cutting balanced
+unfolding judge mapDone andThen unmatched unordered outOfRange overlap overlaps listTests testsUpTo misshapen outside unheld broken passed foundAt unfindable walkCount stepTo stepOf moveOf onwards movesOf sends sourceOf inverseOf overflows bookmarkOf markAfter markingOf markingsOf fallsAt unfindableAt brokenAt answersOf filledIn recordsAfter cutting balanced
 keys-hold = refl

@@ -7,7 +7,7 @@ use lib.Dec.{ltb, leb}
 use Rattle.outcomes.specs.Outcome.{Outcome, done, refused, test, judge, _then_else_}
 use Rattle.runs.specs.Runs.{Runs, runAt}
 use Rattle.bookmarks.specs.Bookmark.{Marking, marking}
-use Rattle.walks.specs.Plain.{plainMove, plainMoves}
+use Rattle.walks.specs.Plain.{plainDistance, plainMove, plainMoves}
 use Rattle.bookmarks.specs.declared.Bookmark.{Bookmark}
 use Rattle.demands.specs.Calls.{Call, find, move, moves, Reply, found, moved}
 
@@ -40,7 +40,7 @@ module _ (n : ℕ) (r t : Runs) where
 
   -- where the walk stands, as a bookmark: with the moves made and the sum of their counts
   abbrev pub standing : ℕ → ℕ → ℕ → Bookmark
-  standing p m c = record { place = p; interval = runAt n t p; moves = m; passed = c }
+  standing p m c = record { place = p; interval = runAt n t p; distance = plainDistance n t p; moves = m; passed = c }
 
   -- k moves of a bookmark. Its counter of moves holds 4,294,967,295: from there on each is 13 with place 0, and it stays.
   unfoldable pub plainTrail : ℕ → ℕ → ℕ → ℕ → List Marking

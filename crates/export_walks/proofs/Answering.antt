@@ -12,7 +12,7 @@ use Rattle.export_walks.specs.declared.MoveAnswer.{MoveAnswer}
 use Rattle.export_walks.specs.declared.MovesAnswer.{MovesAnswer}
 
 abbrev narrow : MovesAnswer → MoveAnswer
-narrow w = record { number = w .number; place = w .place; interval = w .interval; count = w .count }
+narrow w = record { number = w .number; place = w .place; interval = w .interval; distance = w .distance; count = w .count }
 
 pub move-answer-narrow : (w : MovesAnswer) (a o : Outcome Step)
     → w ≡ movesAnswer a → a ≡ o → narrow w ≡ moveAnswer o

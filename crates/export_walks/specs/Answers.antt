@@ -25,9 +25,9 @@ weightAnswer (done w) = record { number = 0; place = 0; weight = w }
 weightAnswer (refused k p) = record { number = k; place = p; weight = 0 }
 
 abbrev pub moveAnswer : Outcome Step → MoveAnswer
-moveAnswer (done s) = record { number = 0; place = s .place; interval = s .interval; count = s .count }
-moveAnswer (refused k p) = record { number = k; place = p; interval = 0; count = 0 }
+moveAnswer (done s) = record { number = 0; place = s .place; interval = s .interval; distance = s .distance; count = s .count }
+moveAnswer (refused k p) = record { number = k; place = p; interval = 0; distance = 0; count = 0 }
 
 abbrev pub movesAnswer : Outcome Step → MovesAnswer
-movesAnswer (done s) = record { number = 0; place = s .place; interval = s .interval; count = s .count }
-movesAnswer (refused k p) = record { number = k; place = p; interval = 0; count = 0 }
+movesAnswer (done s) = record { number = 0; place = s .place; interval = s .interval; distance = s .distance; count = s .count }
+movesAnswer (refused k p) = record { number = k; place = p; interval = 0; distance = 0; count = 0 }

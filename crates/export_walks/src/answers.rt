@@ -38,12 +38,14 @@ pub(crate) fn of_moves(moved: Moved) -> MovesAnswer
             number: 0,
             place: step.place,
             interval: step.interval,
+            distance: step.distance,
             count: step.count,
         },
         Moved::Refused(refusal) => MovesAnswer {
             number: refusal.number(),
             place: refusal.place(),
             interval: 0,
+            distance: 0,
             count: 0,
         },
     }

@@ -34,6 +34,7 @@ pub struct MoveAnswer {
     pub number: u32,
     pub place: u32,
     pub interval: u32,
+    pub distance: u32,
     pub count: u32,
 }
 
@@ -43,6 +44,7 @@ pub struct MovesAnswer {
     pub number: u32,
     pub place: u32,
     pub interval: u32,
+    pub distance: u32,
     pub count: u64,
 }
 
@@ -77,6 +79,7 @@ pub extern "C" fn zibewoka_move(
         number: wide.number,
         place: wide.place,
         interval: wide.interval,
+        distance: wide.distance,
         count: wide.count as u32,
     }
 }

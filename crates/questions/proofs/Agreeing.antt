@@ -14,9 +14,10 @@ use borrow.Author.Tests.{ltb-true}
 use Rattle.tables.specs.Tables.{Tables, shapeTest}
 use Rattle.tables.specs.Parts.{Shaped}
 use Rattle.tables.proofs.Passing.{shaped}
-use Rattle.walks.specs.Move.{foundAt, findOf, stepOf, moveOf}
+use Rattle.walks.specs.Move.{foundAt, findOf, stepOf, moveOf, LiesIn}
 use Rattle.walks.proofs.Steps.{find-out, find-at}
 use Rattle.walks.proofs.Finding.{move-broken, move-on}
+use Rattle.walks.proofs.Distances.{move-lies}
 use Rattle.questions.specs.declared.Question.{Question}
 use Rattle.questions.specs.declared.Answered.{Answered}
 use Rattle.questions.specs.Questions.{answeredSays, placesOf, placeAt, unfindableAt, brokenAt, orderTest, findTest, moveTest, foundLast, answersOf, filledIn, recordsAfter, Answers}
@@ -108,3 +109,12 @@ module _ (n : ℕ) (t : Tables) where
       let f : done c ≡ answersOf n t ps = sym e ∙ w .says in
       let d = each-place DoneAlone qs (λ j h. (finds n t ps c f j h, moves n t ps c f j h)) in
       rw (w .records, ← f) (each-made (λ q. DoneAlone (q .place)) (Agrees n t) (filledIn t) filled-agrees qs d)
+
+  -- so a record's distance is as exact as the move's own
+  each-lies : (qs : List Question) → All (Agrees n t) qs → All (λ q. LiesIn n t (q .«to_interval») (q .«to_place») (q .distance)) qs
+  each-lies [] a = tt
+  each-lies (q ∷ qs) a = (move-lies n t (q .interval) (q .place) _ (a .0 .moved), each-lies qs (a .1))
+
+  pub records-lie : (qs : List Question) (a : Answered) (left : List Question) → Answers n t qs a left
+      → (c : ℕ) → answeredSays a ≡ done c → All (λ q. LiesIn n t (q .«to_interval») (q .«to_place») (q .distance)) left
+  records-lie qs a left w c e = each-lies left (records-agree qs a left w c e)

@@ -26,7 +26,7 @@ use Rattle.questions.specs.Turns.{Onward, Findable, Going, Ready, begunO
 
 -- a record for an index that there is none at
 abbrev pub blank : Question
-blank = record { place = 0; interval = 0; «to_place» = 0; «to_interval» = 0; count = 0 }
+blank = record { place = 0; interval = 0; «to_place» = 0; «to_interval» = 0; count = 0; distance = 0 }
 
 pub place-at : (qs : List Question) (i : ℕ) → getD qs i blank .place ≡ placeAt (placesOf qs) i
 place-at [] i = refl

@@ -12,7 +12,7 @@ use Rattle.questions.specs.declared.Question.{Question}
 pub record Agrees (n : ℕ) (t : Tables) (q : Question) : Type 0 where
   pub found : findOf n t (q .place) ≡ done (q .interval)
   pub moved : moveOf n t (q .interval) (q .place)
-      ≡ done (record { place = q .«to_place»; interval = q .«to_interval»; count = q .count })
+      ≡ done (record { place = q .«to_place»; interval = q .«to_interval»; distance = q .distance; count = q .count })
 
 -- One pass stands at interval x, goes on for each place from where it came to for the one before, and never goes back: where
 -- it comes to for each place, and how many starts it passes for all of them.

@@ -1,4 +1,4 @@
--- Questions together, on any tables and any records (document 02, A.1).
+-- Questions together, on any tables and any records (document 02, A.1, with the distance of A.2).
 use Prim.Native.Nat.{ℕ, zero, suc, _-_}
 use mathlib.Core.Path.{_≡_}
 use mathlib.Core.Bool.{Bool}
@@ -74,7 +74,7 @@ answersOf n t ps = judge (questionTests n t ps) (foundLast t ps (length ps))
 -- a record by its numbers: a place, the interval that has it, and a step
 abbrev pub question : ℕ → ℕ → Step → Question
 question p x s =
-    record { place = p; interval = x; «to_place» = s .place; «to_interval» = s .interval; count = s .count }
+    record { place = p; interval = x; «to_place» = s .place; «to_interval» = s .interval; count = s .count; distance = s .distance }
 
 -- A record filled in: its place, the interval that find gives, and the step of the move from there.
 unfoldable pub filledIn : Tables → Question → Question

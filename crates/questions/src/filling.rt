@@ -43,5 +43,6 @@ fn ask(starts: &[u32], images: &[u32], holders: &[u32], place: u32, x: u32) -> Q
         to_place: step.place,
         to_interval: step.interval,
         count: step.count as u32,
+        distance: step.distance,
     }
 }

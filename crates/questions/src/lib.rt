@@ -14,7 +14,8 @@ ghost use Rattle.tables.specs.Tables.{tables};
 ghost use Rattle.questions.specs.Questions.{Answers};
 
 // A question: its place is handed in, all else is filled in. The interval that has the place, and where a move from there
-// leads: the place and the interval reached, and the starts passed on that walk.
+// leads: the place and the interval reached, the starts passed on that walk, and the distance of the place reached from the
+// start of that interval.
 #[repr(C)]
 pub struct Question {
     pub place: u32,
@@ -22,6 +23,7 @@ pub struct Question {
     pub to_place: u32,
     pub to_interval: u32,
     pub count: u32,
+    pub distance: u32,
 }
 
 // How many starts were passed in finding all intervals, or why no question is answered. The index of a record whose place

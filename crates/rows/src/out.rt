@@ -84,3 +84,11 @@ pub fn three(a: u64, b: u64, c: u64) {
     number(a);
     pair(b, c);
 }
+
+// The same with four values.
+pub fn four(a: u64, b: u64, c: u64, d: u64) {
+    number(0);
+    number(a);
+    number(b);
+    pair(c, d);
+}

@@ -47,9 +47,13 @@ has n r p x = leb (startOf r x) p && ltb p (endOf n r x)
 abbrev pub runAt : ℕ → Runs → ℕ → ℕ
 runAt n r p = firstBelow (has n r p) (countOf r)
 
+-- how far place p lies from the start of run x, by the starts alone
+abbrev pub distanceIn : List ℕ → ℕ → ℕ → ℕ
+distanceIn starts x p = p - getD starts x 0
+
 -- where run x takes place p, and the list's function, which takes each place by the run that has it
 abbrev pub carry : Runs → ℕ → ℕ → ℕ
-carry r x p = imageOf r x + (p - startOf r x)
+carry r x p = imageOf r x + distanceIn (r .starts) x p
 
 abbrev pub mapOf : ℕ → Runs → ℕ → ℕ
 mapOf n r p = carry r (runAt n r p) p

@@ -17,7 +17,12 @@ pub(crate) fn found(a: Found) {
 pub(crate) fn moved(a: Moved) {
     match a {
         Moved::Refused(r) => out::refusal(r),
-        Moved::To(t) => out::three(t.place as u64, t.interval as u64, t.count),
+        Moved::To(t) => out::four(
+            t.place as u64,
+            t.interval as u64,
+            t.distance as u64,
+            t.count,
+        ),
     }
 }
 
@@ -35,11 +40,12 @@ pub(crate) fn weighed(a: Weighed) {
     }
 }
 
-// What a lent bookmark holds: place, interval, moves, and starts passed.
+// What a lent bookmark holds: place, interval, distance, moves, and starts passed.
 fn mark(b: Bookmark) {
     out::text(b"now");
     out::number(b.place as u64);
     out::number(b.interval as u64);
+    out::number(b.distance as u64);
     out::number(b.moves as u64);
     out::number(b.passed);
     out::end();

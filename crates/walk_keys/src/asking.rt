@@ -13,6 +13,7 @@ fn ask(places: &[u32], i: usize) -> Question {
         to_place: 7,
         to_interval: 7,
         count: 7,
+        distance: 7,
     }
 }
 
@@ -49,7 +50,8 @@ fn answer(a: Answered) {
     }
 }
 
-// What a record that was lent holds: its place, the interval found, the place and the interval reached, and the count.
+// What a record that was lent holds: its place, the interval found, the place and the interval reached, the count, and the
+// distance.
 fn now(q: Question) {
     out::text(b"now");
     out::number(q.place as u64);
@@ -57,6 +59,7 @@ fn now(q: Question) {
     out::number(q.to_place as u64);
     out::number(q.to_interval as u64);
     out::number(q.count as u64);
+    out::number(q.distance as u64);
     out::end();
 }
 

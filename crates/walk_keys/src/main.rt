@@ -7,8 +7,8 @@
 //     inverse n j : starts : images : holders
 //     weight n x : starts : images : holders
 //     under n x : starts : images : holders
-//     bookmark n, place, interval, moves, and starts passed as a high and a low number : starts : images : holders
-//     bookmark-moves n x i m : starts : images : holders
+//     bookmark n, place, interval, distance, moves, and starts passed as a high and a low number : starts : images : holders
+//     bookmark-moves n, place, interval and distance of a fresh one, m : starts : images : holders
 //     questions n : starts : images : holders : places, at most eight
 //
 // `under` is answered by how many starts there are, and which. A bookmark and the records of questions are lent, so they
@@ -21,18 +21,30 @@ use rows::out;
 ghost use Prim.Native.Nat.{_≤_};
 ghost use lib.ListN.{length};
 
-// Moves a bookmark, whose numbers stand behind n: place, interval, moves, and starts passed as two of 32 bits, the high
-// one first.
-fn advance(numbers: &[u32], starts: &[u32], images: &[u32], holders: &[u32]) {
-    let high = rows::number(numbers, 4) as u64;
-    let low = rows::number(numbers, 5) as u64;
-    let before = Bookmark {
+// A bookmark whose place, interval and distance stand behind n.
+fn bookmark_at(numbers: &[u32], moves: u32, passed: u64) -> Bookmark {
+    Bookmark {
         place: rows::number(numbers, 1),
         interval: rows::number(numbers, 2),
-        moves: rows::number(numbers, 3),
-        passed: high * 4294967296 + low,
-    };
-    answers::marked(bookmarks::advanced(rows::number(numbers, 0), starts, images, holders, before));
+        distance: rows::number(numbers, 3),
+        moves,
+        passed,
+    }
+}
+
+// Moves a bookmark, whose moves stand behind its distance, and then starts passed as two of 32 bits, the high one first.
+fn advance(n: u32, numbers: &[u32], starts: &[u32], images: &[u32], holders: &[u32]) {
+    let high = rows::number(numbers, 5) as u64;
+    let low = rows::number(numbers, 6) as u64;
+    let before = bookmark_at(numbers, rows::number(numbers, 4), high * 4294967296 + low);
+    answers::marked(bookmarks::advanced(n, starts, images, holders, before));
+}
+
+// Moves a bookmark that has made no move, as often as the number behind its distance says.
+fn advance_often(n: u32, numbers: &[u32], starts: &[u32], images: &[u32], holders: &[u32]) {
+    let fresh = bookmark_at(numbers, 0, 0);
+    let m = rows::number(numbers, 4);
+    answers::marked(bookmarks::bookmark_moves(n, starts, images, holders, fresh, m));
 }
 
 // Runs what is called: a, b and c are starts, images and holders, and d the places of questions. A number or a slice that
@@ -49,8 +61,8 @@ fn call(code: usize, numbers: &[u32], a: &[u32], b: &[u32], c: &[u32], d: &[u32]
         323 => answers::inverted(preimages::inverse(n, a, b, c, p)),
         423 => answers::weighed(weights::weight(n, a, b, c, p)),
         523 => out::stretch(weights::starts_under(n, a, b, c, p)),
-        663 => advance(numbers, a, b, c),
-        743 => answers::marked(bookmarks::bookmark_moves(n, a, b, c, p, q, r)),
+        673 => advance(n, numbers, a, b, c),
+        753 => advance_often(n, numbers, a, b, c),
         814 => asking::questions(n, a, b, c, d),
         900..=999 => {}
         _ => out::no_call(),

@@ -17,7 +17,7 @@ use Rattle.tables.specs.Tables.{Tables, sizeOf, broken}
 use Rattle.tables.specs.Parts.{Shaped, Located}
 use Rattle.walks.specs.Move.{passed, foundAt, unfindable, stepOf, moveOf}
 use Rattle.walks.proofs.Steps.{findable-is, move-located, advance-broken, advance-on}
-use Rattle.walks.proofs.Moves.{reached-index, reached-low, reached-high}
+use Rattle.walks.proofs.Reached.{reached-index, reached-low, reached-high}
 
 -- the leading elements at most i, and those at most j after them, are the leading elements at most j
 leading-on : (l : List ℕ) (i j : ℕ) → i ≤ j
@@ -33,11 +33,6 @@ leading-on (s ∷ ss) i j h = go (leb s i) refl (leading-on ss i j h)
         let k : leading (λ s. leb s j) (s ∷ ss) ≡ suc (leading (λ s. leb s j) ss) = leading-more (λ s. leb s j) (s ∷ ss) 0 (omega arith) (le-leb s j (omega (arith, leb-true s i e))) in
         omega (arith, k)
     go false e r = omega arith
-
--- the interval that a walk from h for place j reaches, by the index e where the starts end that it passes
-pub passed-end : (l : List ℕ) (h j e : ℕ) → e ≡ h + 1 + leading (λ s. leb s j) (drop (h + 1) l) → e - 1 ≡ h + passed l h j
-unfolding passed
-passed-end l h j e q = let r = rw (add-one h) at q in omega arith
 
 passed-on : (l : List ℕ) (i j : ℕ) → i ≤ j → passed l 0 i + passed l (passed l 0 i) j ≡ passed l 0 j
 unfolding passed

@@ -6,7 +6,7 @@ use mathlib.Core.Path.{_≡_, sym, ap, _∙_}
 use mathlib.Core.Bool.{false}
 use native.Mathlib.Omega.{arith}
 use Rattle.outcomes.specs.Outcome.{done, refused, mapDone, andThen}
-use Rattle.runs.specs.Runs.{Runs, countOf, imageOf, endOf, runAt, mapOf}
+use Rattle.runs.specs.Runs.{Runs, countOf, imageOf, endOf, distanceIn, runAt, mapOf}
 use Rattle.runs.specs.Legal.{Legal}
 use Rattle.runs.proofs.Legality.{homes, run-at, own}
 use Rattle.runs.proofs.Bijection.{map-below}
@@ -37,7 +37,7 @@ module _ (n : ℕ) (r : Runs) (c : Legal n r) (few : countOf r ≤ maxIntervals)
   pub legal-find-beyond : (i : ℕ) → n ≤ i → findOf n (tablesOf n r) i ≡ refused 11 i
   legal-find-beyond i h = sym (find-out n (tablesOf n r) i (shape n r c few) (far n (r .starts) i h))
 
-  -- a move gives the function's value, the run that has it, and the starts above the image and not above it
+  -- a move gives the function's value, the run that has it, the distance there, and the starts above the image and not above it
   module _ (p : ℕ) (h : p < n) where
     legal-count : walkCount (r .starts) (runAt n r (imageOf r (runAt n r p))) (mapOf n r p) ≡ plainCount n r p (mapOf n r p)
     unfolding walkCount passed
@@ -59,7 +59,12 @@ module _ (n : ℕ) (r : Runs) (c : Legal n r) (few : countOf r ≤ maxIntervals)
     unfolding stepOf stepTo plainMove
     legal-step =
         rw (holder-is n r c few (runAt n r p) (own n r c p h .0))
-        (λ i. record { place = mapOf n r p; interval = legal-interval i; count = legal-count i })
+        (λ i. record {
+          place = mapOf n r p;
+          interval = legal-interval i;
+          distance = distanceIn (r .starts) (legal-interval i) (mapOf n r p);
+          count = legal-count i;
+        })
 
     pub legal-whole : broken n (tablesOf n r) (runAt n r p) p ≡ false
     legal-whole =

@@ -1,6 +1,8 @@
 -- The laws of the walks.
+pub mod Reached
 pub mod Steps
 pub mod Moves
+pub mod Distances
 pub mod Finding
 pub mod PlainMoves
 pub mod LegalTables

@@ -4,54 +4,21 @@ use Prim.Native.Nat.{ℕ, zero, suc, _+_, _*_, _≤_, _<_}
 use mathlib.Core.Path.{_≡_, refl, sym, ap, _∙_}
 use mathlib.Core.Bool.{Bool, true, false}
 use mathlib.Core.Logic.{_↔_, _⊎_, inl, inr}
-use mathlib.Core.List.{List, []}
+use mathlib.Core.List.{[]}
 use native.Mathlib.Numerals.{add-one}
 use native.Mathlib.Omega.{arith}
-use lib.ListN.{length, getD, drop, length-drop, List·getD-eq-default}
-use lib.Seq.{getD-drop}
-use lib.Dec.{leb}
-use borrow.Author.Tests.{leb-true, leb-false}
-use Rattle.order.proofs.Laws.{lt-or-le, getD-default}
+use Rattle.order.proofs.Laws.{lt-or-le}
 use Rattle.outcomes.specs.Outcome.{Outcome, done, refused, judge, mapDone, andThen, _then_else_}
-use Rattle.order.specs.Lists.{leading}
 use Rattle.runs.specs.Runs.{carry}
 use Rattle.tables.specs.Tables.{Tables, sizeOf, holderOf, maxIntervals, unheld, broken, brokenTest}
-use Rattle.walks.specs.Move.{passed, walkCount, stepTo, stayAt, stepOf, moveOf, movesOf, countedAfter, onwards, Stopped}
+use Rattle.walks.specs.Move.{walkCount, stepTo, stayAt, stepOf, moveOf, movesOf, countedAfter, onwards, Stopped}
 use Rattle.tables.specs.Parts.{Shaped, Located}
 use Rattle.walks.specs.Parts.{advanceOf}
 use Rattle.walks.specs.declared.Step.{Step}
 use Rattle.outcomes.proofs.Judging.{done-refused, judge-first}
-use Rattle.order.proofs.Leading.{leading-within, leading-last, leading-next}
 use Rattle.tables.proofs.Passing.{whole-is, held-is}
+use Rattle.walks.proofs.Reached.{reached-index, reached-low, reached-high}
 use Rattle.walks.proofs.Steps.{locate-in, located, move-is, move-located, advance-broken}
-
--- where the walk from interval h to place j ends
-module _ (l : List ℕ) (h j : ℕ) (i : h < length l) where
-  pub reached-index : h + passed l h j < length l
-  unfolding passed
-  reached-index = omega (arith, leading-within (λ s. leb s j) l (suc h) i)
-
-  pub reached-low : getD l h 0 ≤ j → getD l (h + passed l h j) 0 ≤ j
-  unfolding passed
-  reached-low b = go (leading (λ s. leb s j) (drop (suc h) l)) refl
-    where
-      go : (c : ℕ) → leading (λ s. leb s j) (drop (suc h) l) ≡ c → getD l (h + c) 0 ≤ j
-      go zero e = let z : h + 0 ≡ h = omega arith in rw z b
-      go (suc c) e =
-          let z : h + suc c ≡ suc h + c = omega arith in
-          rw (z, ← getD-drop) (leb-true _ j (leading-last (λ s. leb s j) (drop (suc h) l) c e))
-
-  pub reached-high : (n : ℕ) → j < n → j < getD l (suc (h + passed l h j)) n
-  unfolding passed
-  reached-high n b = go (lt-or-le (suc (h + passed l h j)) (length l))
-    where
-      go : (suc (h + passed l h j) < length l) ⊎ (length l ≤ suc (h + passed l h j)) → j < getD l (suc (h + passed l h j)) n
-      go (inl k) =
-          let c = leading (λ s. leb s j) (drop (suc h) l) in
-          let z : suc (h + c) ≡ suc h + c = omega arith in
-          let f = leading-next (λ s. leb s j) (drop (suc h) l) (omega (arith, length-drop (suc h) l)) in
-          rw (getD-default l (suc (h + c)) n 0 k, z, ← getD-drop) (leb-false _ j f)
-      go (inr k) = rw (List·getD-eq-default l n k) b
 
 -- a step from an interval that has its holder counts no more starts than there are
 pub held-count : (t : Tables) (x i : ℕ) → unheld t x ≡ false → sizeOf t ≤ maxIntervals → stepOf t x i .count ≤ maxIntervals
@@ -63,7 +30,7 @@ held-count t x i u f =
 
 -- a step that was made
 module _ (n : ℕ) (t : Tables) (x i : ℕ) (s : Step) (e : done s ≡ advanceOf n t x i) where
-  step-is : (unheld t x ≡ false) × (carry (t .list) x i < n) × (s ≡ stepOf t x i)
+  pub step-is : (unheld t x ≡ false) × (carry (t .list) x i < n) × (s ≡ stepOf t x i)
   unfolding advanceOf judge
   step-is =
       let f = judge-first (brokenTest n t x i) [] (stepOf t x i) s e in
@@ -87,15 +54,20 @@ module _ (n : ℕ) (t : Tables) (x i : ℕ) (s : Step) (e : done s ≡ advanceOf
   pub step-count : Shaped n t → s .count ≤ maxIntervals
   step-count f = let w = step-is in rw (w .2) (held-count t x i (w .0) (f .few))
 
--- so is a move's count small
-pub move-count : (n : ℕ) (t : Tables) (x i : ℕ) (s : Step) → done s ≡ moveOf n t x i → s .count ≤ maxIntervals
+-- a move that was made began at a place of its interval
+pub move-made : (n : ℕ) (t : Tables) (x i : ℕ) (s : Step) → done s ≡ moveOf n t x i
+    → Located n t x i × (done s ≡ advanceOf n t x i)
 unfolding andThen
-move-count n t x i s e = go (movesOf n t 0 x i) refl (e ∙ move-is n t x i)
+move-made n t x i s e = go (movesOf n t 0 x i) refl (e ∙ move-is n t x i)
   where
     go : (o : Outcome Step) → o ≡ movesOf n t 0 x i → done s ≡ andThen o (λ _. advanceOf n t x i)
-        → s .count ≤ maxIntervals
-    go (done a) f g = step-count n t x i s g (located n t x i a f .at .shape)
+        → Located n t x i × (done s ≡ advanceOf n t x i)
+    go (done a) f g = (located n t x i a f, g)
     go (refused k p) f g = absurd (done-refused s k p g)
+
+-- so is a move's count small
+pub move-count : (n : ℕ) (t : Tables) (x i : ℕ) (s : Step) → done s ≡ moveOf n t x i → s .count ≤ maxIntervals
+move-count n t x i s e = let m = move-made n t x i s e in step-count n t x i s (m .1) (m .0 .at .shape)
 
 -- one move more
 moves-more : (n : ℕ) (t : Tables) (k x i : ℕ) (a : Outcome Step)
@@ -122,7 +94,8 @@ pub record Walking (n : ℕ) (t : Tables) (x i m : ℕ) (a : Step) (made : ℕ) 
   pub said : done a ≡ movesOf n t made x i
   pub small : a .count ≤ made * maxIntervals
 
-pub walking-start : (n : ℕ) (t : Tables) (x i m : ℕ) → Located n t x i → (a : Step) → a ≡ stayAt x i → Walking n t x i m a 0
+pub walking-start : (n : ℕ) (t : Tables) (x i m : ℕ) → Located n t x i
+    → (a : Step) → a ≡ stayAt (t .list .starts) x i → Walking n t x i m a 0
 walking-start n t x i m l a e =
     rw e (record { within = omega arith; here = l; said = locate-in n t x i l; small = omega arith })
 
@@ -164,7 +137,7 @@ module _ (n : ℕ) (t : Tables) (x i : ℕ) (l : Located n t x i) where
   pub moves-located : (m : ℕ) (s : Step) → movesOf n t m x i ≡ done s → Located n t (s .interval) (s .place)
   unfolding movesOf andThen onwards mapDone
   moves-located zero s e =
-      let z : stayAt x i ≡ s = cc (locate-in n t x i l) in
+      let z : stayAt (t .list .starts) x i ≡ s = cc (locate-in n t x i l) in
       rw (← z) l
   moves-located (suc m) s e = go (movesOf n t m x i) refl e (moves-located m)
     where

@@ -11,7 +11,7 @@ use lib.Dec.{leb, ltb}
 use borrow.Author.Tests.{le-ltb, le-leb, lt-leb, leb-false, ltb-false}
 use Rattle.outcomes.specs.Outcome.{done, refused, judge, andThen}
 use Rattle.order.specs.Lists.{leading}
-use Rattle.runs.specs.Runs.{carry}
+use Rattle.runs.specs.Runs.{distanceIn, carry}
 use Rattle.tables.specs.Tables.{Tables, sizeOf, holderOf, misshapen, outside, broken, shapeTest, indexTest, placeTest, brokenTest}
 use Rattle.order.proofs.Laws.{or-false}
 use Rattle.walks.specs.Move.{passed, walkCount, stepTo, stayAt, foundAt, unfindable, findOf, stepOf, moveOf, movesOf, locateTests}
@@ -67,7 +67,7 @@ module _ (n : ℕ) (t : Tables) (x i : ℕ) where
   unfolding movesOf judge
   locate-place s h o = simp (s .fits, lt-leb _ _ h, o)
 
-  pub locate-in : Located n t x i → done (stayAt x i) ≡ movesOf n t 0 x i
+  pub locate-in : Located n t x i → done (stayAt (t .list .starts) x i) ≡ movesOf n t 0 x i
   unfolding movesOf judge
   locate-in l = simp (l .at .shape .fits, lt-leb _ _ (l .at .index), inside n t x i (l .place) (l .low) (l .high))
 
@@ -118,7 +118,7 @@ module _ (n : ℕ) (t : Tables) (x i : ℕ) where
 -- the step by its numbers: the holder, the place reached, and the index after the last start passed
 pub step-by : (t : Tables) (x i h j e : ℕ) → h ≡ holderOf t x → j ≡ carry (t .list) x i
     → e ≡ h + 1 + leading (λ s. leb s j) (drop (h + 1) (t .list .starts))
-    → record { place = j; interval = e - 1; count = e - (h + 1) } ≡ stepOf t x i
+    → record { place = j; interval = e - 1; distance = distanceIn (t .list .starts) (e - 1) j; count = e - (h + 1) } ≡ stepOf t x i
 unfolding stepOf stepTo walkCount passed
 step-by t x i h j e p q r =
     let c = leading (λ s. leb s j) (drop (h + 1) (t .list .starts)) in

@@ -1,4 +1,4 @@
--- Find, move and repeated move (document 01, "Walking"), on any tables.
+-- Find, move and repeated move (document 01, "Walking"), on any tables, with the distance of document 02, A.2.
 use Prim.Native.Nat.{ℕ, zero, suc, _+_, _<_}
 use mathlib.Core.Path.{_≡_}
 use mathlib.Core.Bool.{Bool, _||_}
@@ -8,7 +8,7 @@ use lib.Dec.{ltb, leb}
 use Rattle.outcomes.specs.Outcome.{Outcome, done, refused, Test, test, judge, mapDone, andThen}
 use Rattle.outcomes.specs.Refusal.{refusalSays}
 use Rattle.order.specs.Lists.{leading}
-use Rattle.runs.specs.Runs.{carry}
+use Rattle.runs.specs.Runs.{startOf, lengthOf, distanceIn, carry}
 use Rattle.tables.specs.Tables.{Tables, holderOf, shapeTest, indexTest, placeTest, brokenTest}
 use Rattle.walks.specs.declared.Step.{Step}
 use Rattle.walks.specs.declared.Found.{Found}
@@ -48,18 +48,19 @@ unfoldable pub walkCount : List ℕ → ℕ → ℕ → ℕ
 walkCount starts h j = passed starts h j
 
 -- The step of a walk from interval h to place j: the place, the interval reached, which lies as far from h as starts were
--- passed, and the count.
-unfoldable pub stepTo : Tables → ℕ → ℕ → Step
-stepTo t h j =
-    record { place = j; interval = h + passed (t .list .starts) h j; count = walkCount (t .list .starts) h j }
+-- passed, the distance, which is the place reached minus the start of the interval reached, and the count.
+unfoldable pub stepTo : List ℕ → ℕ → ℕ → Step
+stepTo starts h j =
+    let x = h + passed starts h j in
+    record { place = j; interval = x; distance = distanceIn starts x j; count = walkCount starts h j }
 
 -- Move: the step from the holder to the place reached.
 unfoldable pub stepOf : Tables → ℕ → ℕ → Step
-stepOf t x i = stepTo t (holderOf t x) (carry (t .list) x i)
+stepOf t x i = stepTo (t .list .starts) (holderOf t x) (carry (t .list) x i)
 
--- no move, at place i of interval x
-abbrev pub stayAt : ℕ → ℕ → Step
-stayAt x i = record { place = i; interval = x; count = 0 }
+-- no move, at place i of interval x, with the distance from its start
+abbrev pub stayAt : List ℕ → ℕ → ℕ → Step
+stayAt starts x i = record { place = i; interval = x; distance = distanceIn starts x i; count = 0 }
 
 abbrev pub locateTests : ℕ → Tables → ℕ → ℕ → List Test
 locateTests n t x i = shapeTest n t ∷ indexTest t x ∷ placeTest n t x i ∷ []
@@ -72,7 +73,7 @@ moveOf n t x i = judge (moveTests n t x i) (stepOf t x i)
 
 -- a step with what was counted before it
 abbrev pub countedAfter : ℕ → Step → Step
-countedAfter c s = record { place = s .place; interval = s .interval; count = c + s .count }
+countedAfter c s = record { place = s .place; interval = s .interval; distance = s .distance; count = c + s .count }
 
 -- one move more after a step
 unfoldable pub onwards : ℕ → Tables → Step → Outcome Step
@@ -81,7 +82,7 @@ onwards n t s = mapDone (countedAfter (s .count)) (moveOf n t (s .interval) (s .
 -- Repeated move: m moves, each from where the one before led, and the sum of their counts. With no moves it stays, after
 -- tests 9, 10 and 11.
 unfoldable pub movesOf : ℕ → Tables → ℕ → ℕ → ℕ → Outcome Step
-movesOf n t zero x i = judge (locateTests n t x i) (stayAt x i)
+movesOf n t zero x i = judge (locateTests n t x i) (stayAt (t .list .starts) x i)
 movesOf n t (suc m) x i = andThen (movesOf n t m x i) (onwards n t)
 
 -- Where a repeated move stopped on the way: after fewer moves than it was asked for, it stood in an interval that it
@@ -94,3 +95,9 @@ pub record Stopped (n : ℕ) (t : Tables) (m x i number place : ℕ) : Type 0 wh
   pub stuck : moveOf n t (step .interval) (step .place) ≡ refused 12 (step .interval)
   pub twelve : number ≡ 12
   pub there : place ≡ step .interval
+
+-- What a distance promises on any tables: place i lies exactly g places beyond the start of interval x, which is then not
+-- above it, and g is below the interval's length.
+pub record LiesIn (n : ℕ) (t : Tables) (x i g : ℕ) : Type 0 where
+  pub exact : startOf (t .list) x + g ≡ i
+  pub short : g < lengthOf n (t .list) x

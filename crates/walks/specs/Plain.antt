@@ -5,7 +5,7 @@ use mathlib.Core.Bool.{_&&_}
 use lib.ListN.{length}
 use lib.Dec.{ltb, leb}
 use Rattle.outcomes.specs.Search.{keep}
-use Rattle.runs.specs.Runs.{Runs, imageOf, runAt, mapOf}
+use Rattle.runs.specs.Runs.{Runs, imageOf, distanceIn, runAt, mapOf}
 use Rattle.walks.specs.Move.{countedAfter}
 use Rattle.walks.specs.declared.Step.{Step}
 
@@ -17,9 +17,13 @@ plainCount n t p q = length (keep (λ s. ltb (imageOf t (runAt n t p)) s && leb 
 abbrev pub maxCount : ℕ → ℕ
 maxCount d = 2 * d - 1
 
+-- how far place q lies from the start of the interval of t that has it
+abbrev pub plainDistance : ℕ → Runs → ℕ → ℕ
+plainDistance n t q = distanceIn (t .starts) (runAt n t q) q
+
 -- at place q, in the interval of t that has it
 abbrev pub plainStep : ℕ → Runs → ℕ → ℕ → Step
-plainStep n t q c = record { place = q; interval = runAt n t q; count = c }
+plainStep n t q c = record { place = q; interval = runAt n t q; distance = plainDistance n t q; count = c }
 
 -- r is the list whose function is followed, t the list whose intervals are told.
 module _ (n : ℕ) (r t : Runs) where

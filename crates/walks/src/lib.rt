@@ -14,10 +14,12 @@ ghost use Rattle.tables.specs.Tables.{tables};
 ghost use Rattle.walks.specs.Move.{foundSays, movedSays, unfindable, findOf, moveOf, movesOf, stepOf};
 ghost use Rattle.walks.specs.Parts.{Movable};
 
-// Where a move or a repeated move ends, and how many interval starts it passed.
+// Where a move or a repeated move ends: the place, the interval that has it and the place's distance from the interval's
+// start; and how many interval starts it passed.
 pub struct Step {
     pub place: u32,
     pub interval: u32,
+    pub distance: u32,
     pub count: u64,
 }
 
@@ -92,9 +94,11 @@ pub fn step_from(starts: &[u32], images: &[u32], holders: &[u32], x: u32, i: u32
     let j = images[at] + (i - starts[at]);
     let from = holders[at] as usize + 1;
     let end = order::stretch_end(starts, from, j);
+    let reached = end - 1;
     Step {
         place: j,
-        interval: (end - 1) as u32,
+        interval: reached as u32,
+        distance: j - starts[reached],
         count: (end - from) as u64,
     }
 }

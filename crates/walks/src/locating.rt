@@ -3,16 +3,20 @@ use super::Moved;
 use super::Step;
 use outcomes::Refusal;
 ghost use mathlib.Core.Path.{_≡_};
+ghost use Prim.Native.Nat.{_≤_, _<_};
+ghost use lib.ListN.{length, getD};
 ghost use Rattle.tables.specs.Tables.{tables};
 ghost use Rattle.walks.specs.Move.{movedSays, movesOf, stayAt};
 
 // Where no moves lead.
-pub(crate) fn stay(x: u32, i: u32) -> Step
-    ensures { λ r. ⌜ r ≡ stayAt x i ⌝ }
+pub(crate) fn stay(starts: &[u32], x: u32, i: u32) -> Step
+    requires { ⌜ (x < length (now starts)) × (getD (now starts) x 0 ≤ i) ⌝ }
+    ensures { λ r. ⌜ r ≡ stayAt (now (starts .entry)) x i ⌝ }
 {
     Step {
         place: i,
         interval: x,
+        distance: i - starts[x as usize],
         count: 0,
     }
 }
@@ -44,5 +48,5 @@ pub(crate) fn locate(
     if order::entry_or(starts, at + 1, n) <= i {
         return Moved::Refused(Refusal::PlaceRange(i)); // not below x's end
     }
-    Moved::To(stay(x, i))
+    Moved::To(stay(starts, x, i))
 }

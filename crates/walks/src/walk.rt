@@ -36,6 +36,7 @@ fn counted(before: u64, s: Step) -> Step
     Step {
         place: s.place,
         interval: s.interval,
+        distance: s.distance,
         count: before + s.count,
     }
 }
@@ -54,7 +55,7 @@ pub(crate) fn moves_from(
     requires { ⌜ Located n (tables (now starts) (now images) (now holders)) x i ⌝ }
     ensures { λ r. ⌜ movedSays r ≡ movesOf n (tables (now (starts .entry)) (now (images .entry)) (now (holders .entry))) m x i ⌝ }
 {
-    let mut step = locating::stay(x, i);
+    let mut step = locating::stay(starts, x, i);
     let mut made: u32 = 0;
     while made < m {
         match advance(n, starts, images, holders, step.interval, step.place) {

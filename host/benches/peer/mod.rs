@@ -202,6 +202,14 @@ fn on_from(starts: &[u32], from: usize, j: u32) -> usize {
     reached
 }
 
+/// Where a move or a repeated move ends: the place, the interval, the distance from its start, and the count.
+pub struct Step<C> {
+    pub place: u32,
+    pub interval: u32,
+    pub distance: u32,
+    pub count: C,
+}
+
 /// A move from a place that its interval has: the place and the interval reached, and the holder; or nothing where the
 /// interval is broken.
 #[inline(always)]
@@ -211,24 +219,16 @@ fn step(n: u32, starts: &[u32], images: &[u32], holders: &[u32], x: usize, i: u3
 }
 
 #[inline(never)]
-pub fn move_once(n: u32, starts: &[u32], images: &[u32], holders: &[u32], x: u32, i: u32) -> Outcome<(u32, u32, u32)> {
+pub fn move_once(n: u32, starts: &[u32], images: &[u32], holders: &[u32], x: u32, i: u32) -> Outcome<Step<u32>> {
     located(n, starts, images, holders, x, i)?;
     match step(n, starts, images, holders, x as usize, i) {
         None => Err((12, x)),
-        Some((j, y, h)) => Ok((j, y as u32, (y - h) as u32)),
+        Some((j, y, h)) => Ok(Step { place: j, interval: y as u32, distance: j - starts[y], count: (y - h) as u32 }),
     }
 }
 
 #[inline(never)]
-pub fn moves(
-    n: u32,
-    starts: &[u32],
-    images: &[u32],
-    holders: &[u32],
-    x: u32,
-    i: u32,
-    m: u32,
-) -> Outcome<(u32, u32, u64)> {
+pub fn moves(n: u32, starts: &[u32], images: &[u32], holders: &[u32], x: u32, i: u32, m: u32) -> Outcome<Step<u64>> {
     located(n, starts, images, holders, x, i)?;
     // Of one length, as was tested: the indexes into two of them need no test of their own.
     let (images, holders) = (&images[..starts.len()], &holders[..starts.len()]);
@@ -239,7 +239,7 @@ pub fn moves(
         };
         (place, interval, count) = (j, y, count + (y - h) as u64);
     }
-    Ok((place, interval as u32, count))
+    Ok(Step { place, interval: interval as u32, distance: place - starts[interval], count })
 }
 
 /// Tests 16 and 11 of questions.
@@ -278,7 +278,14 @@ pub fn questions(
     for q in questions {
         x = on_from(starts, x, q.place);
         let (j, y, h) = step(n, starts, images, holders, x, q.place).expect("no interval is broken, as was tested");
-        *q = Question { place: q.place, interval: x as u32, to_place: j, to_interval: y as u32, count: (y - h) as u32 };
+        *q = Question {
+            place: q.place,
+            interval: x as u32,
+            to_place: j,
+            to_interval: y as u32,
+            count: (y - h) as u32,
+            distance: j - starts[y],
+        };
     }
     Ok(x as u32)
 }

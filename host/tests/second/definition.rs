@@ -214,8 +214,18 @@ fn stands(n: u32, t: &Tables, x: u32, i: u32) -> Outcome<()> {
     Ok(())
 }
 
-/// The place reached, the interval reached and the starts passed.
-pub fn step(n: u32, t: &Tables, x: u32, i: u32) -> Outcome<(u32, u32, u32)> {
+/// Where a walk ends: the place and the interval reached, the distance, "the place reached minus the start of the interval
+/// reached", and the starts passed.
+#[derive(Clone, Copy, Debug, PartialEq, Eq)]
+pub struct Reached {
+    pub place: u32,
+    pub interval: u32,
+    pub distance: u32,
+    pub count: u64,
+}
+
+/// One move.
+pub fn step(n: u32, t: &Tables, x: u32, i: u32) -> Outcome<Reached> {
     stands(n, t, x, i)?;
     let from = x as usize;
     let h = t.holders[from] as usize;
@@ -232,16 +242,17 @@ pub fn step(n: u32, t: &Tables, x: u32, i: u32) -> Outcome<(u32, u32, u32)> {
         reached += 1;
         passed += 1;
     }
-    Ok((j as u32, reached as u32, passed))
+    let distance = j - u64::from(t.starts[reached]);
+    Ok(Reached { place: j as u32, interval: reached as u32, distance: distance as u32, count: passed })
 }
 
 /// m moves, with the sum of the counts.
-pub fn steps(n: u32, t: &Tables, x: u32, i: u32, m: u32) -> Outcome<(u32, u32, u64)> {
+pub fn steps(n: u32, t: &Tables, x: u32, i: u32, m: u32) -> Outcome<Reached> {
     stands(n, t, x, i)?;
-    let mut at = (i, x, 0);
+    let mut at = Reached { place: i, interval: x, distance: i - t.starts[x as usize], count: 0 };
     for _ in 0..m {
-        let (place, interval, count) = step(n, t, at.1, at.0)?;
-        at = (place, interval, at.2 + u64::from(count));
+        let next = step(n, t, at.interval, at.place)?;
+        at = Reached { count: at.count + next.count, ..next };
     }
     Ok(at)
 }
@@ -289,8 +300,8 @@ fn widened<T>(outcome: Outcome<T>) -> Outcome<T, u64> {
     outcome.map_err(|(number, place)| (number, u64::from(place)))
 }
 
-/// A question's record as it is filled in: place, interval found, place reached, interval reached, starts passed.
-pub type Record = [u32; 5];
+/// A question's record as it is filled in: place, interval found, place reached, interval reached, starts passed, distance.
+pub type Record = [u32; 6];
 
 /// "Each record must agree with find and move done alone": they are done alone here, first find for all records and then
 /// move. Answers the starts passed in finding, "equal to the last record's interval, or 0 for an empty list", and the
@@ -308,8 +319,8 @@ pub fn questions(n: u32, t: &Tables, places: &[u32]) -> Outcome<(u32, Vec<Record
     }
     let mut records = Vec::new();
     for (&place, &x) in places.iter().zip(&found) {
-        let (to_place, to_interval, count) = widened(step(n, t, x, place))?;
-        records.push([place, x, to_place, to_interval, count]);
+        let to = widened(step(n, t, x, place))?;
+        records.push([place, x, to.place, to.interval, to.count as u32, to.distance]);
     }
     Ok((found.last().copied().unwrap_or(0), records))
 }

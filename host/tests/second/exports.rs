@@ -2,7 +2,7 @@
 //!
 //! Bookmarks are not exported, so neither they nor their number, 13, come up here; nor does 15, which is a file's.
 
-use crate::definition::{self as second, Outcome, Tables};
+use crate::definition::{self as second, Outcome, Reached, Tables};
 use crate::random::{damage, damaged, legal, list_of, List, Random};
 use std::collections::BTreeMap;
 use zibewoka::exports::{
@@ -44,8 +44,20 @@ fn refusal<T, P: Into<u64>>(outcome: Outcome<T, P>) -> Result<T, Refusal> {
     outcome.map_err(|(number, place)| Refusal { number, place: place.into() })
 }
 
-fn question([place, interval, to_place, to_interval, count]: second::Record) -> Question {
-    Question { place, interval, to_place, to_interval, count }
+fn question([place, interval, to_place, to_interval, count, distance]: second::Record) -> Question {
+    Question { place, interval, to_place, to_interval, count, distance }
+}
+
+fn safe_step(Reached { place, interval, distance, count }: Reached) -> Step {
+    Step { place, interval, distance, count }
+}
+
+/// What a move's answer has in each field: 0 where it is not the refusal's.
+fn fields(wanted: Outcome<Reached>) -> (u32, Reached) {
+    match wanted {
+        Ok(reached) => (0, reached),
+        Err((number, place)) => (number, Reached { place, interval: 0, distance: 0, count: 0 }),
+    }
 }
 
 impl Given {
@@ -123,26 +135,20 @@ impl Given {
     fn step(&mut self, n: u32, t: &Tables, x: u32, i: u32) {
         let wanted = second::step(n, t, x, i);
         let answer = exports::move_once(n, &t.starts, &t.images, &t.holders, x, i);
-        let (number, place, interval, count) = match wanted {
-            Ok((place, interval, count)) => (0, place, interval, count),
-            Err((number, place)) => (number, place, 0, 0),
-        };
-        assert_eq!(answer, MoveAnswer { number, place, interval, count });
+        let (number, Reached { place, interval, distance, count }) = fields(wanted);
+        assert_eq!(answer, MoveAnswer { number, place, interval, distance, count: count as u32 });
         let safe = zibewoka::move_once(n, &t.starts, &t.images, &t.holders, x, i);
-        assert_eq!(safe.map(|s| (s.place, s.interval, s.count as u32)), refusal(wanted));
+        assert_eq!(safe, refusal(wanted.map(safe_step)));
         self.step.add(number);
     }
 
     fn steps(&mut self, n: u32, t: &Tables, x: u32, i: u32, m: u32) {
         let wanted = second::steps(n, t, x, i, m);
         let answer = exports::moves(n, &t.starts, &t.images, &t.holders, x, i, m);
-        let (number, place, interval, count) = match wanted {
-            Ok((place, interval, count)) => (0, place, interval, count),
-            Err((number, place)) => (number, place, 0, 0),
-        };
-        assert_eq!(answer, MovesAnswer { number, place, interval, count });
+        let (number, Reached { place, interval, distance, count }) = fields(wanted);
+        assert_eq!(answer, MovesAnswer { number, place, interval, distance, count });
         let safe = zibewoka::moves(n, &t.starts, &t.images, &t.holders, x, i, m);
-        assert_eq!(safe.map(|s| (s.place, s.interval, s.count)), refusal(wanted));
+        assert_eq!(safe, refusal(wanted.map(safe_step)));
         self.steps.add(number);
     }
 
@@ -177,7 +183,7 @@ impl Given {
         let wanted = second::questions(n, t, places);
         let all = [&r.words(1)[..], places, &r.words(1)].concat();
         let before: Vec<Question> =
-            all.into_iter().map(|place| question([place, r.word(), r.word(), r.word(), r.word()])).collect();
+            all.into_iter().map(|place| question([place, r.word(), r.word(), r.word(), r.word(), r.word()])).collect();
         let lent = 1..1 + places.len();
         let mut after = before.clone();
         let (number, count, place) = match &wanted {
@@ -279,9 +285,9 @@ impl Given {
 
 /// Find and a move, done alone, give what the record was filled with.
 fn agrees_alone(n: u32, t: &Tables, record: &Question) {
-    let Question { place, interval, to_place, to_interval, count } = *record;
+    let Question { place, interval, to_place, to_interval, count, distance } = *record;
     assert_eq!(zibewoka::find(n, &t.starts, &t.images, &t.holders, place), Ok(interval));
-    let step = Step { place: to_place, interval: to_interval, count: u64::from(count) };
+    let step = Step { place: to_place, interval: to_interval, distance, count: u64::from(count) };
     assert_eq!(zibewoka::move_once(n, &t.starts, &t.images, &t.holders, interval, place), Ok(step));
 }
 
@@ -448,9 +454,11 @@ fn known_keys() {
         (0..6).map(|x| zibewoka::weight(16, &s, &i, &h, x).expect("whole")).collect::<Vec<_>>(),
         [0, 1, 0, 1, 2, 2]
     );
-    let step = |place, interval, count| Ok(Step { place, interval, count });
-    assert_eq!(zibewoka::move_once(16, &s, &i, &h, 4, 11), step(3, 1, 1));
-    assert_eq!(zibewoka::moves(16, &s, &i, &h, 0, 0, 4), step(0, 0, 1));
+    let step = |place, interval, distance, count| Ok(Step { place, interval, distance, count });
+    assert_eq!(zibewoka::move_once(16, &s, &i, &h, 4, 11), step(3, 1, 1, 1));
+    assert_eq!(zibewoka::moves(16, &s, &i, &h, 4, 11, 0), step(11, 4, 3, 0));
+    assert_eq!(zibewoka::moves(16, &s, &i, &h, 0, 0, 2), step(6, 3, 0, 1));
+    assert_eq!(zibewoka::moves(16, &s, &i, &h, 0, 0, 4), step(0, 0, 0, 1));
     assert_eq!(zibewoka::inverse(16, &s, &i, &h, 9), Ok(zibewoka::Position { place: 7, interval: 3 }));
     let [mut s, mut i, mut h, mut w] = [0; 4].map(|_| vec![0; 9]);
     let short = zibewoka::balance(16, &listing.starts, &listing.images, 2, &mut s, &mut i, &mut h, &mut w);
@@ -461,7 +469,7 @@ fn known_keys() {
     let most = list(15, &[0, 3, 5, 7, 8], &[8, 11, 13, 0, 1]);
     let [s, i, h] = tables_at(&most, 2).expect("legal");
     assert_eq!(s, most.starts);
-    assert_eq!(zibewoka::move_once(15, &s, &i, &h, 4, 14), step(7, 3, 3));
+    assert_eq!(zibewoka::move_once(15, &s, &i, &h, 4, 14), step(7, 3, 0, 3));
     assert_eq!(tables_at(&list(1, &[0], &[0]), 2).expect("legal")[0].len(), 1);
     assert_eq!(zibewoka::check(4, &[0, 2], &[2, 0]), Ok(()));
     assert_eq!(zibewoka::check(4, &[0, 2], &[0, 1]), Err(Refusal { number: 6, place: 0 }));
@@ -471,12 +479,12 @@ fn known_keys() {
         list(45, &[0, 1, 5, 6, 12, 17, 19, 22, 25, 32, 34, 42, 43], &[11, 28, 2, 22, 32, 38, 42, 12, 15, 0, 3, 37, 40]);
     let [s, i, h] = tables_at(&psi, 2).expect("legal");
     assert_eq!(s, psi.starts);
-    assert_eq!(zibewoka::move_once(45, &s, &i, &h, 4, 15), step(35, 10, 1));
+    assert_eq!(zibewoka::move_once(45, &s, &i, &h, 4, 15), step(35, 10, 1, 1));
 }
 
 /// What questions at these places, on tables with n 16, come to. A refusal leaves the records as they were.
 fn answered(t: &Tables, places: &[u32]) -> Result<(u32, Vec<Question>), Refusal> {
-    let before: Vec<Question> = places.iter().map(|&place| question([place, 9, 9, 9, 9])).collect();
+    let before: Vec<Question> = places.iter().map(|&place| question([place, 9, 9, 9, 9, 9])).collect();
     let mut records = before.clone();
     match zibewoka::questions(16, &t.starts, &t.images, &t.holders, &mut records) {
         Ok(count) => Ok((count, records)),
@@ -493,7 +501,8 @@ fn known_questions() {
     let done = |count, records: &[second::Record]| Ok((count, records.iter().copied().map(question).collect()));
     let listing = second::tables(16, &[0, 2, 4, 6, 8, 12], &[14, 12, 10, 8, 0, 4]);
     assert_eq!(listing.holders, [5, 5, 4, 4, 0, 2]);
-    let records = [[0, 0, 14, 5, 0], [3, 1, 13, 5, 0], [3, 1, 13, 5, 0], [11, 4, 3, 1, 1], [15, 5, 7, 3, 1]];
+    let records =
+        [[0, 0, 14, 5, 0, 2], [3, 1, 13, 5, 0, 1], [3, 1, 13, 5, 0, 1], [11, 4, 3, 1, 1, 1], [15, 5, 7, 3, 1, 1]];
     assert_eq!(answered(&listing, &[0, 3, 3, 11, 15]), done(5, &records));
     assert_eq!(answered(&listing, &[]), done(0, &[]));
     assert_eq!(answered(&listing, &[3, 2, 99]), refused(16, 1));
@@ -503,11 +512,11 @@ fn known_questions() {
     torn.holders[1] = 9;
     assert_eq!(answered(&torn, &[2, 3, 99]), refused(11, 99));
     assert_eq!(answered(&torn, &[0, 3, 4]), refused(12, 1));
-    assert_eq!(answered(&torn, &[0, 1, 4]), done(2, &[[0, 0, 14, 5, 0], [1, 0, 15, 5, 0], [4, 2, 10, 4, 0]]));
+    assert_eq!(answered(&torn, &[0, 1, 4]), done(2, &[[0, 0, 14, 5, 0, 2], [1, 0, 15, 5, 0, 3], [4, 2, 10, 4, 0, 2]]));
 
     let starts = vec![0, 9, 4, 12];
     let disordered = Tables { images: starts.clone(), starts, holders: vec![0, 1, 0, 3] };
-    let records = [[0, 0, 0, 0, 0], [5, 0, 5, 0, 0], [9, 2, 9, 2, 2], [13, 3, 13, 3, 0]];
+    let records = [[0, 0, 0, 0, 0, 0], [5, 0, 5, 0, 0, 5], [9, 2, 9, 2, 2, 5], [13, 3, 13, 3, 0, 1]];
     assert_eq!(answered(&disordered, &[0, 5, 9, 13]), done(3, &records));
 }
 
@@ -587,6 +596,7 @@ fn every_place(given: &mut Given, r: &mut Random, permutation: &[u32], t: &Table
         let x = zibewoka::find(n, &t.starts, &t.images, &t.holders, p).expect("p is a place");
         let step = zibewoka::move_once(n, &t.starts, &t.images, &t.holders, x, p).expect("x has p");
         assert_eq!(step.place, permutation[p as usize]);
+        assert_eq!(step.place - step.distance, t.starts[step.interval as usize]);
         assert!(step.count < u64::from(2 * d));
         let back = zibewoka::inverse(n, &t.starts, &t.images, &t.holders, step.place).expect("each place is an image");
         assert_eq!((back.place, back.interval), (p, x));
@@ -608,16 +618,16 @@ fn a_walk_of_millions_of_moves() {
         let (s, i, h) = (&s[..k], &i[..k], &h[..k]);
         let first = r.below(u64::from(*n)) as u32;
         let first_interval = zibewoka::find(*n, s, i, h, first).expect("a place");
-        let (mut place, mut interval, mut count) = (first, first_interval, 0);
+        let (mut place, mut interval, mut distance, mut count) = (first, first_interval, 0, 0);
         for _ in 0..m {
             let step = zibewoka::move_once(*n, s, i, h, interval, place).expect("the interval has the place");
             let run = starts.partition_point(|&start| start <= place) - 1;
             assert_eq!(step.place, images[run] + (place - starts[run]));
             assert!(step.count < u64::from(2 * d));
-            (place, interval, count) = (step.place, step.interval, count + step.count);
+            (place, interval, distance, count) = (step.place, step.interval, step.distance, count + step.count);
         }
         let whole = zibewoka::moves(*n, s, i, h, first_interval, first, m).expect("the same walk");
-        assert_eq!((whole.place, whole.interval, whole.count), (place, interval, count));
+        assert_eq!(whole, Step { place, interval, distance, count });
         assert!(count <= u64::from(m) * u64::from(2 * d - 1));
     }
 }

@@ -1,6 +1,7 @@
--- `bookmark_moves` meets its contract: the state is what so many moves of the fresh bookmark come to.
+-- `bookmark_moves` meets its contract: the state is what so many moves of the bookmark come to. The state
+-- before the loop, `marked₀`, has the bookmark that was handed in.
 use Rattle.bookmarks.proofs.Markings.{markings-none, markings-more, markings-all, markings-refused}
-use Rattle.bookmarks.specs.Bookmark.{fresh, markedSays, markingsOf}
+use Rattle.bookmarks.specs.Bookmark.{markedSays, markingsOf}
 use Rattle.tables.specs.Tables.{tables}
 use borrow.Author.Needs.{needs}
 use native.Mathlib.Omega.{arith}
@@ -10,11 +11,11 @@ use Rattle.bookmarks.proofs.bookmark_moves.Statement.{statement}
 use Rattle.bookmarks.proofs.bookmark_moves.Tie as tie
 
 abbrev Inv-loop : tie.InvT-loop
-Inv-loop n starts images holders x i m marked₀ made₀ marked made =
-    (made ≤ m) × (markedSays marked ≡ markingsOf n (tables starts images holders) made (fresh i x))
+Inv-loop n starts images holders m marked₀ made₀ marked made =
+    (made ≤ m) × (markedSays marked ≡ markingsOf n (tables starts images holders) made (marked₀ .bookmark))
 
 abbrev μ-loop : tie.MeasureT-loop
-μ-loop n starts images holders x i m marked₀ made₀ marked made = m - made
+μ-loop n starts images holders m marked₀ made₀ marked made = m - made
 
 repeated-moves-requires : tie.Need-repeated-moves-requires Inv-loop μ-loop
 repeated-moves-requires c κs = search needs

@@ -1,6 +1,7 @@
 -- `find` meets its contract.
 use Rattle.walks.proofs.Steps.{find-shape, find-out, find-at}
-use Rattle.walks.proofs.Finding.{passed-end, found-first}
+use Rattle.walks.proofs.Finding.{found-first}
+use Rattle.walks.proofs.Reached.{passed-end}
 use Rattle.tables.proofs.Passing.{shaped}
 use native.Mathlib.Omega.{arith}
 use mathlib.Core.Path.{sym, _∙_}

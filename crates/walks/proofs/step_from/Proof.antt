@@ -1,4 +1,5 @@
 -- `step_from` meets its contract: the holder that test 12 has let pass is where the walk begins.
+use Rattle.walks.proofs.Reached.{end-low}
 use Rattle.walks.proofs.Steps.{step-by}
 use Rattle.tables.proofs.Passing.{held-is}
 use mathlib.Core.Path.{refl}
@@ -46,17 +47,29 @@ stretch-end-requires c κs =
     let h = held-is _ _ (c .before .before .before .before .before .before .pre .held) in
     omega arith
 
-sub-t10 : tie.Need-sub-t10
-sub-t10 c = search needs
+sub-reached : tie.Need-sub-reached
+sub-reached c = search needs
 
-cast-t15 : tie.Need-cast-t15
-cast-t15 c = search needs
+cast-t16 : tie.Need-cast-t16
+cast-t16 c = search needs
+
+mul-t14 : tie.Need-mul-t14
+mul-t14 c = search needs
+
+shared-slice-read-t17 : tie.Need-shared-slice-read-t17
+shared-slice-read-t17 c = search needs
 
 sub-t13 : tie.Need-sub-t13
-sub-t13 c = search needs
+sub-t13 c =
+    let e = c .before in
+    let h = held-is _ _ (e .before .before .before .before .before .before .before .pre .held) in
+    end-low _ _ _ (h .0) _ (e .stretch-end .ensures .0) (omega (arith, h .1))
+
+sub-t11 : tie.Need-sub-t11
+sub-t11 c = search needs
 
 returns : tie.Need-returns
-returns c = step-by _ _ _ _ _ _ refl refl (c .stretch-end .ensures .0)
+returns c = step-by _ _ _ _ _ _ refl refl (c .before .stretch-end .ensures .0)
 
 pub step-from-spec : {M : Type 1} → statement M
 step-from-spec =
@@ -73,7 +86,10 @@ step-from-spec =
     cast-from
     add-from
     stretch-end-requires
-    sub-t10
-    cast-t15
+    sub-reached
+    cast-t16
+    mul-t14
+    shared-slice-read-t17
     sub-t13
+    sub-t11
     returns)
