@@ -1,7 +1,6 @@
 // What becomes of a record once all are judged.
 use super::Answered;
 use super::Question;
-use super::finding;
 ghost use mathlib.Core.Path.{_≡_};
 ghost use Rattle.tables.specs.Tables.{tables};
 ghost use Rattle.walks.specs.Move.{stepOf};
@@ -25,7 +24,7 @@ pub(crate) fn fill(
         Answered::PlaceOrder(_) => q,
         Answered::Refused(_) => q,
         Answered::Passed(_) => {
-            let y = finding::find_from(starts, x, q.place);
+            let y = walks::reach_from(starts, x, q.place);
             ask(starts, images, holders, q.place, y)
         }
     }

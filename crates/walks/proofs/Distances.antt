@@ -1,7 +1,7 @@
 -- The distance that a step carries, on any tables: the place reached lies so far from the start of the interval reached, and
--- before its end. Only the last move counts, so that a repeated move's is that of its last one.
+-- before its end. A repeated move's is that of its last move.
 use Prim.Native.Nat.{ℕ, zero, suc}
-use mathlib.Core.Path.{_≡_, refl, sym, ap, _∙_}
+use mathlib.Core.Path.{_≡_, refl, sym}
 use native.Mathlib.Omega.{arith}
 use Rattle.outcomes.specs.Outcome.{Outcome, done, refused, mapDone, andThen}
 use Rattle.outcomes.proofs.Judging.{done-refused, judge-done}
@@ -15,7 +15,7 @@ use Rattle.walks.proofs.Steps.{located}
 use Rattle.walks.proofs.Moves.{step-is, step-located, move-made}
 
 located-lies : (n : ℕ) (t : Tables) (x i : ℕ) → Located n t x i → LiesIn n t x i (distanceIn (t .list .starts) x i)
-located-lies n t x i l = record { exact = omega (arith, l .low); short = omega (arith, l .low, l .high) }
+located-lies n t x i l = record { index = l .at .index; exact = omega (arith, l .low); short = omega (arith, l .low, l .high) }
 
 module _ (n : ℕ) (t : Tables) (x i : ℕ) where
   step-apart : (s : Step) → done s ≡ advanceOf n t x i → s .distance ≡ distanceIn (t .list .starts) (s .interval) (s .place)

@@ -4,14 +4,12 @@ use Prim.Native.Nat.{ℕ, _+_, _-_, _^_, _≤_, _<_}
 use mathlib.Core.Path.{_≡_, refl, sym, _∙_}
 use mathlib.Core.Bool.{Bool, true, false}
 use mathlib.Core.List.{List, [], _∷_}
-use native.Mathlib.Numerals.{add-one}
 use native.Mathlib.Omega.{arith}
-use lib.ListN.{drop, getD}
+use lib.ListN.{getD}
 use lib.Dec.{leb, ltb}
 use borrow.Author.Tests.{le-ltb, le-leb, lt-leb, leb-false, ltb-false}
 use Rattle.outcomes.specs.Outcome.{done, refused, judge, andThen}
-use Rattle.order.specs.Lists.{leading}
-use Rattle.runs.specs.Runs.{distanceIn, carry}
+use Rattle.runs.specs.Runs.{startOf, distanceIn, carry}
 use Rattle.tables.specs.Tables.{Tables, sizeOf, holderOf, misshapen, outside, broken, shapeTest, indexTest, placeTest, brokenTest}
 use Rattle.order.proofs.Laws.{or-false}
 use Rattle.walks.specs.Move.{passed, walkCount, stepTo, stayAt, foundAt, unfindable, findOf, stepOf, moveOf, movesOf, locateTests}
@@ -19,7 +17,8 @@ use Rattle.tables.specs.Parts.{Shaped, Indexed, Located}
 use Rattle.walks.specs.Parts.{advanceOf, Movable}
 use Rattle.walks.specs.declared.Step.{Step}
 use Rattle.outcomes.proofs.Judging.{judge-append, judge-first}
-use Rattle.tables.proofs.Passing.{shaped, inside, inside-is, whole-is}
+use Rattle.tables.proofs.Passing.{shaped, inside, inside-is, whole-is, held-is}
+use Rattle.walks.proofs.Reached.{reached-index, reached-low}
 
 -- 11 for find
 module _ (n : ℕ) (l : List ℕ) (i : ℕ) where
@@ -115,13 +114,21 @@ module _ (n : ℕ) (t : Tables) (x i : ℕ) where
         fits = omega (arith, w .1);
       }
 
--- the step by its numbers: the holder, the place reached, and the index after the last start passed
-pub step-by : (t : Tables) (x i h j e : ℕ) → h ≡ holderOf t x → j ≡ carry (t .list) x i
-    → e ≡ h + 1 + leading (λ s. leb s j) (drop (h + 1) (t .list .starts))
-    → record { place = j; interval = e - 1; distance = distanceIn (t .list .starts) (e - 1) j; count = e - (h + 1) } ≡ stepOf t x i
-unfolding stepOf stepTo walkCount passed
-step-by t x i h j e p q r =
-    let c = leading (λ s. leb s j) (drop (h + 1) (t .list .starts)) in
-    let y : e - 1 ≡ h + c = omega arith in
-    let z : e - (h + 1) ≡ c = omega arith in
-    rw (y, z) (simp (add-one, p, q))
+-- such a move reaches an interval y that does not start above the place reached
+module _ (t : Tables) (x i y : ℕ) (m : Movable t x i)
+    (e : y ≡ holderOf t x + passed (t .list .starts) (holderOf t x) (carry (t .list) x i)) where
+  pub step-index : y < sizeOf t
+  step-index = rw e (reached-index (t .list .starts) (holderOf t x) (carry (t .list) x i) (held-is t x (m .held) .0))
+
+  pub step-low : startOf (t .list) y ≤ carry (t .list) x i
+  step-low =
+      let h = held-is t x (m .held) in
+      rw e (reached-low (t .list .starts) (holderOf t x) (carry (t .list) x i) (h .0) (omega (arith, h .1)))
+
+-- the step by its numbers: the holder, the place reached, and the interval reached
+pub step-by : (t : Tables) (x i h j y : ℕ) → h ≡ holderOf t x → j ≡ carry (t .list) x i → y ≡ h + passed (t .list .starts) h j
+    → record { place = j; interval = y; distance = distanceIn (t .list .starts) y j; count = y - h } ≡ stepOf t x i
+unfolding stepOf stepTo walkCount
+step-by t x i h j y p q r =
+    let z : y - h ≡ passed (t .list .starts) h j = omega arith in
+    rw z (simp (r, p, q))

@@ -9,7 +9,7 @@ use Rattle.outcomes.specs.Outcome.{Outcome, done, refused, Test, test, judge, m
 use Rattle.outcomes.specs.Refusal.{refusalSays}
 use Rattle.order.specs.Lists.{leading}
 use Rattle.runs.specs.Runs.{startOf, lengthOf, distanceIn, carry}
-use Rattle.tables.specs.Tables.{Tables, holderOf, shapeTest, indexTest, placeTest, brokenTest}
+use Rattle.tables.specs.Tables.{Tables, sizeOf, holderOf, shapeTest, indexTest, placeTest, brokenTest}
 use Rattle.walks.specs.declared.Step.{Step}
 use Rattle.walks.specs.declared.Found.{Found}
 use Rattle.walks.specs.declared.Found.the-variants.{At, Refused as NotFound}
@@ -96,8 +96,9 @@ pub record Stopped (n : ℕ) (t : Tables) (m x i number place : ℕ) : Type 0 wh
   pub twelve : number ≡ 12
   pub there : place ≡ step .interval
 
--- What a distance promises on any tables: place i lies exactly g places beyond the start of interval x, which is then not
--- above it, and g is below the interval's length.
+-- What a distance promises on any tables: there is an interval x, place i lies exactly g places beyond its start, which is then
+-- not above i, and g is below the interval's length.
 pub record LiesIn (n : ℕ) (t : Tables) (x i g : ℕ) : Type 0 where
+  pub index : x < sizeOf t
   pub exact : startOf (t .list) x + g ≡ i
   pub short : g < lengthOf n (t .list) x

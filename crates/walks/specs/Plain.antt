@@ -21,7 +21,7 @@ maxCount d = 2 * d - 1
 abbrev pub plainDistance : ℕ → Runs → ℕ → ℕ
 plainDistance n t q = distanceIn (t .starts) (runAt n t q) q
 
--- at place q, in the interval of t that has it
+-- at place q, in the interval of t that has it, with the distance there and a count
 abbrev pub plainStep : ℕ → Runs → ℕ → ℕ → Step
 plainStep n t q c = record { place = q; interval = runAt n t q; distance = plainDistance n t q; count = c }
 

@@ -8,10 +8,10 @@ mod walk;
 
 use outcomes::Refusal;
 ghost use mathlib.Core.Path.{_≡_};
-ghost use Prim.Native.Nat.{_<_};
+ghost use Prim.Native.Nat.{_+_, _≤_, _<_};
 ghost use lib.ListN.{length};
-ghost use Rattle.tables.specs.Tables.{tables};
-ghost use Rattle.walks.specs.Move.{foundSays, movedSays, unfindable, findOf, moveOf, movesOf, stepOf};
+ghost use Rattle.tables.specs.Tables.{tables, maxIntervals};
+ghost use Rattle.walks.specs.Move.{foundSays, movedSays, passed, unfindable, findOf, moveOf, movesOf, stepOf};
 ghost use Rattle.walks.specs.Parts.{Movable};
 
 // Where a move or a repeated move ends: the place, the interval that has it and the place's distance from the interval's
@@ -43,7 +43,7 @@ pub fn find(n: u32, starts: &[u32], images: &[u32], holders: &[u32], i: u32) -> 
     if is_unfindable(n, starts, i) {
         return Found::Refused(Refusal::PlaceRange(i));
     }
-    Found::At((order::stretch_end(starts, 1, i) - 1) as u32)
+    Found::At(reach_from(starts, 0, i))
 }
 
 // One move from place i of interval x.
@@ -85,6 +85,23 @@ pub fn is_unfindable(n: u32, starts: &[u32], i: u32) -> bool
     i < starts[0]
 }
 
+// The interval that a walk from interval x for place i reaches: it goes on while there is a next one that does not start above
+// i. Most walks of a balanced table pass no start or few, and the next move waits for the interval: where none is passed that is
+// x itself, and else the sum of x and a number that is counted without it.
+pub fn reach_from(starts: &[u32], x: u32, i: u32) -> u32
+    requires { ⌜ (x < length (now starts)) × (length (now starts) ≤ maxIntervals) ⌝ }
+    ensures { λ r. ⌜ r ≡ x + passed (now (starts .entry)) x i ⌝ }
+{
+    let next = x as usize + 1;
+    if starts.len() <= next {
+        return x;
+    }
+    if i < starts[next] {
+        return x;
+    }
+    x + (1 + order::stretch_length(starts, next + 1, i) as u32)
+}
+
 // The step from place i of interval x where no test refuses it, for our own crates.
 pub fn step_from(starts: &[u32], images: &[u32], holders: &[u32], x: u32, i: u32) -> Step
     requires { ⌜ Movable (tables (now starts) (now images) (now holders)) x i ⌝ }
@@ -92,13 +109,12 @@ pub fn step_from(starts: &[u32], images: &[u32], holders: &[u32], x: u32, i: u32
 {
     let at = x as usize;
     let j = images[at] + (i - starts[at]);
-    let from = holders[at] as usize + 1;
-    let end = order::stretch_end(starts, from, j);
-    let reached = end - 1;
+    let holder = holders[at];
+    let reached = reach_from(starts, holder, j);
     Step {
         place: j,
-        interval: reached as u32,
-        distance: j - starts[reached],
-        count: (end - from) as u64,
+        interval: reached,
+        distance: j - starts[reached as usize],
+        count: (reached - holder) as u64,
     }
 }

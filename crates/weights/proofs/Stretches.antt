@@ -72,13 +72,12 @@ up-to b h = fun-ext (λ s. let z : b ≡ suc (b - 1) = omega arith in sym (leb·
 module _ (n : ℕ) (t : Tables) (x : ℕ) where
   pub stretch-to : unplaced n t x ≡ false
       → (f e o : ℕ) → f ≡ underFirst t x → e ≡ imageEnd n (t .list) x → 0 < e
-      → o ≡ f + leading (λ s. leb s (e - 1)) (drop f (t .list .starts))
-      → done (o - f) ≡ stretchOf n t x
+      → o ≡ leading (λ s. leb s (e - 1)) (drop f (t .list .starts))
+      → done o ≡ stretchOf n t x
   unfolding stretchOf underCount judge
   stretch-to b f e o p q h r =
       let u = ap (λ (g : ℕ → Bool). leading g (drop f (t .list .starts))) (up-to e h) in
-      let w : o - f ≡ leading (λ s. leb s (e - 1)) (drop f (t .list .starts)) = omega arith in
-      let z : o - f ≡ underCount n t x = w ∙ u ∙ simp (q, p) in
+      let z : o ≡ underCount n t x = r ∙ u ∙ simp (q, p) in
       simp (b, z)
 
   -- 9 and 10, and what is left of a weight

@@ -50,7 +50,7 @@ fn size(n: u32, starts: &[u32], images: &[u32], holders: &[u32], x: u32) -> Weig
         return Weighed::Refused(Refusal::BrokenInterval(x));
     }
     let from = first(starts, images, holders, x);
-    Weighed::Weight((order::stretch_end(starts, from, (past - 1) as u32) - from) as u32)
+    Weighed::Weight(order::stretch_length(starts, from, (past - 1) as u32) as u32)
 }
 
 // How many starts lie under x's image.

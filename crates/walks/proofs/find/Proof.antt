@@ -1,7 +1,6 @@
 -- `find` meets its contract.
 use Rattle.walks.proofs.Steps.{find-shape, find-out, find-at}
 use Rattle.walks.proofs.Finding.{found-first}
-use Rattle.walks.proofs.Reached.{passed-end}
 use Rattle.tables.proofs.Passing.{shaped}
 use native.Mathlib.Omega.{arith}
 use mathlib.Core.Path.{sym, _∙_}
@@ -26,27 +25,18 @@ returns-2 c =
     let s = shaped _ _ _ (e .before .before .is-misshapen .ensures) (e .before .if1 .left) in
     find-out _ _ _ s (sym (e .is-unfindable .ensures) ∙ c .if2 .taken)
 
-stretch-end-requires : tie.Need-stretch-end-requires
-stretch-end-requires c κs =
+reach-from-requires : tie.Need-reach-from-requires
+reach-from-requires c κs =
     let e = c .before in
     let s = shaped _ _ _ (e .before .before .is-misshapen .ensures) (e .before .if1 .left) in
-    omega arith
-
-sub-t11 : tie.Need-sub-t11
-sub-t11 c = search needs
-
-cast-t12 : tie.Need-cast-t12
-cast-t12 c =
-    let e = c .before .before in
-    let s = shaped _ _ _ (e .before .before .is-misshapen .ensures) (e .before .if1 .left) in
-    omega arith
+    (s .some, s .few)
 
 returns-3 : tie.Need-returns-3
 returns-3 c =
     let e = c .before .before in
     let s = shaped _ _ _ (e .before .before .is-misshapen .ensures) (e .before .if1 .left) in
     let f = sym (e .is-unfindable .ensures) ∙ c .before .if2 .left in
-    find-at _ _ _ s f _ (passed-end _ 0 _ _ (c .stretch-end .ensures .0) ∙ found-first _ _)
+    find-at _ _ _ s f _ (c .reach-from .ensures ∙ found-first _ _)
 
 pub find-spec : {M : Type 1} → statement M
 find-spec =
@@ -56,7 +46,5 @@ find-spec =
     returns
     is-unfindable-requires
     returns-2
-    stretch-end-requires
-    sub-t11
-    cast-t12
+    reach-from-requires
     returns-3)

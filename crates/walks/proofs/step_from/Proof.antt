@@ -1,6 +1,6 @@
--- `step_from` meets its contract: the holder that test 12 has let pass is where the walk begins.
-use Rattle.walks.proofs.Reached.{end-low}
-use Rattle.walks.proofs.Steps.{step-by}
+-- `step_from` meets its contract: the holder that test 12 has let pass is where the walk begins, and the interval reached does
+-- not start above the place.
+use Rattle.walks.proofs.Steps.{step-index, step-low, step-by}
 use Rattle.tables.proofs.Passing.{held-is}
 use mathlib.Core.Path.{refl}
 use native.Mathlib.Omega.{arith}
@@ -26,50 +26,43 @@ sub-j c = search needs
 add-j : tie.Need-add-j
 add-j c = search needs
 
-mul-from : tie.Need-mul-from
-mul-from c = search needs
+mul-holder : tie.Need-mul-holder
+mul-holder c = search needs
 
-shared-slice-read-from : tie.Need-shared-slice-read-from
-shared-slice-read-from c = search needs
+shared-slice-read-holder : tie.Need-shared-slice-read-holder
+shared-slice-read-holder c = search needs
 
-cast-from : tie.Need-cast-from
-cast-from c =
+reach-from-requires : tie.Need-reach-from-requires
+reach-from-requires c κs =
     let s = c .before .before .before .before .before .before in
-    omega (arith, c .shared-slice-known6 .given (s .args .x))
+    (held-is _ _ (s .pre .held) .0, s .pre .few)
 
-add-from : tie.Need-add-from
-add-from c =
-    let h = held-is _ _ (c .before .before .before .before .before .before .pre .held) in
-    omega arith
+cast-t13 : tie.Need-cast-t13
+cast-t13 c = search needs
 
-stretch-end-requires : tie.Need-stretch-end-requires
-stretch-end-requires c κs =
-    let h = held-is _ _ (c .before .before .before .before .before .before .pre .held) in
-    omega arith
+mul-t10 : tie.Need-mul-t10
+mul-t10 c = search needs
 
-sub-reached : tie.Need-sub-reached
-sub-reached c = search needs
-
-cast-t16 : tie.Need-cast-t16
-cast-t16 c = search needs
-
-mul-t14 : tie.Need-mul-t14
-mul-t14 c = search needs
-
-shared-slice-read-t17 : tie.Need-shared-slice-read-t17
-shared-slice-read-t17 c = search needs
-
-sub-t13 : tie.Need-sub-t13
-sub-t13 c =
+shared-slice-read-t15 : tie.Need-shared-slice-read-t15
+shared-slice-read-t15 c =
     let e = c .before in
-    let h = held-is _ _ (e .before .before .before .before .before .before .before .pre .held) in
-    end-low _ _ _ (h .0) _ (e .stretch-end .ensures .0) (omega (arith, h .1))
+    let m = e .before .before .before .before .before .before .before .pre in
+    omega (arith, held-is _ _ (m .held) .0, step-index _ _ _ _ m (e .reach-from .ensures))
 
-sub-t11 : tie.Need-sub-t11
-sub-t11 c = search needs
+sub-t16 : tie.Need-sub-t16
+sub-t16 c =
+    let e = c .before in
+    let m = e .before .before .before .before .before .before .before .pre in
+    omega (arith, held-is _ _ (m .held) .1, step-low _ _ _ _ m (e .reach-from .ensures))
+
+sub-t12 : tie.Need-sub-t12
+sub-t12 c = omega (arith, c .before .reach-from .ensures)
+
+cast-t19 : tie.Need-cast-t19
+cast-t19 c = search needs
 
 returns : tie.Need-returns
-returns c = step-by _ _ _ _ _ _ refl refl (c .before .stretch-end .ensures .0)
+returns c = step-by _ _ _ _ _ _ refl refl (c .before .reach-from .ensures)
 
 pub step-from-spec : {M : Type 1} → statement M
 step-from-spec =
@@ -81,15 +74,13 @@ step-from-spec =
     shared-slice-read-j-2
     sub-j
     add-j
-    mul-from
-    shared-slice-read-from
-    cast-from
-    add-from
-    stretch-end-requires
-    sub-reached
-    cast-t16
-    mul-t14
-    shared-slice-read-t17
-    sub-t13
-    sub-t11
+    mul-holder
+    shared-slice-read-holder
+    reach-from-requires
+    cast-t13
+    mul-t10
+    shared-slice-read-t15
+    sub-t16
+    sub-t12
+    cast-t19
     returns)

@@ -69,19 +69,16 @@ first-requires c κs =
     let h = held-is _ _ (sym (e .before .is-unheld .ensures) ∙ e .if1 .left) in
     search needs
 
-sub-stretch-end : tie.Need-sub-stretch-end
-sub-stretch-end c = search needs
+sub-stretch-length : tie.Need-sub-stretch-length
+sub-stretch-length c = search needs
 
-cast-stretch-end : tie.Need-cast-stretch-end
-cast-stretch-end c = search needs
+cast-stretch-length : tie.Need-cast-stretch-length
+cast-stretch-length c = search needs
 
-stretch-end-requires : tie.Need-stretch-end-requires
-stretch-end-requires c κs =
+stretch-length-requires : tie.Need-stretch-length-requires
+stretch-length-requires c κs =
     let e = c .before .before .before .before .before .before .before .before .before in
     first-within _ _ _ (c .first .ensures) (sym (e .before .is-unheld .ensures) ∙ e .if1 .left)
-
-sub-t23 : tie.Need-sub-t23
-sub-t23 c = search needs
 
 cast-t15 : tie.Need-cast-t15
 cast-t15 c = search needs
@@ -94,7 +91,7 @@ returns-4 c =
     let end = entry-after (a .starts .now) (a .x) (a .n) in
     stretch-to _ _ _ (placed _ _ _ f (omega (arith, end)) (omega (arith, end))) _ _ _ (c .before .first .ensures)
     (omega (arith, end)) (omega (arith, end))
-    (c .stretch-end .ensures .0)
+    (c .stretch-length .ensures .0)
 
 pub size-spec : {M : Type 1} → statement M
 size-spec =
@@ -116,9 +113,8 @@ size-spec =
     wide-requires-3
     returns-3
     first-requires
-    sub-stretch-end
-    cast-stretch-end
-    stretch-end-requires
-    sub-t23
+    sub-stretch-length
+    cast-stretch-length
+    stretch-length-requires
     cast-t15
     returns-4)

@@ -13,8 +13,8 @@ enum-told-2 c = search needs
 enum-told-3 : tie.Need-enum-told-3
 enum-told-3 c = search needs
 
-find-from-requires : tie.Need-find-from-requires
-find-from-requires c κs =
+reach-from-requires : tie.Need-reach-from-requires
+reach-from-requires c κs =
     let s = c .before .before .before .before .before in
     let f = passed-placed _ _ _ _ _ (c .enum-told3 .given .1) (s .pre) in
     (f .pass .index, f .move .few)
@@ -24,7 +24,7 @@ ask-requires c κs =
     let e = c .before in
     let s = e .before .before .before .before .before in
     let g = e .enum-told3 .given .1 in
-    placed-move _ _ _ (passed-placed _ _ _ _ _ g (s .pre)) _ (c .find-from .ensures)
+    placed-move _ _ _ (passed-placed _ _ _ _ _ g (s .pre)) _ (c .reach-from .ensures)
 
 returns : tie.Need-returns
 returns c = rw (c .enum-told .given .1)
@@ -38,7 +38,7 @@ returns-3 c =
     let e = d .before in
     let s = e .before .before .before .before .before in
     let g = e .enum-told3 .given .1 in
-    fill-asked _ _ _ _ _ g (passed-placed _ _ _ _ _ g (s .pre)) _ (d .find-from .ensures) _ (c .ask .ensures)
+    fill-asked _ _ _ _ _ g (passed-placed _ _ _ _ _ g (s .pre)) _ (d .reach-from .ensures) _ (c .ask .ensures)
 
 pub fill-spec : {M : Type 1} → statement M
 fill-spec =
@@ -47,7 +47,7 @@ fill-spec =
     enum-told
     enum-told-2
     enum-told-3
-    find-from-requires
+    reach-from-requires
     ask-requires
     returns
     returns-2
