@@ -12,7 +12,7 @@ use Rattle.runs.proofs.Sequences.{accepted-sequence, sequence-accepted}
 use Rattle.runs.proofs.Intervals.{accepted-intervals, intervals-accepted}
 use Rattle.tables.specs.Tables.{maxIntervals}
 use Rattle.walks.proofs.Distances.{move-lies, moves-lie}
-use Rattle.bookmarks.proofs.Distances.{answer-unread, distance-unread, marked-lies}
+use Rattle.bookmarks.proofs.Distances.{distance-unread, distance-forgotten, marked-lies, distances-unread, distances-forgotten, markings-lie, markings-left}
 use Rattle.files.proofs.Accepted.{file-accepted}
 use Rattle.questions.specs.Questions.{placesOf}
 use Rattle.questions.proofs.Agreeing.{records-agree, records-lie, unfound, unmoved}
@@ -40,9 +40,13 @@ demand2 = record {
   move-distance = λ n t x i s e. move-lies n t x i s e;
   moves-distance = moves-lie;
   bookmark-distance = marked-lies;
+  bookmark-moves-distance = markings-lie;
+  bookmark-moves-left = markings-left;
   questions-distance = records-lie;
-  distance-unread = answer-unread;
-  distance-forgotten = distance-unread;
+  distance-unread = distance-unread;
+  distances-unread = distances-unread;
+  distance-forgotten = distance-forgotten;
+  distances-forgotten = distances-forgotten;
   questions-agree = records-agree;
   questions-unfound = λ n t qs a left w p e. unfound n t (placesOf qs) p (sym (w .says) ∙ e);
   questions-unmoved = λ n t qs a left w x e. unmoved n t (placesOf qs) x (sym (w .says) ∙ e);

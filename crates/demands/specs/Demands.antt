@@ -99,7 +99,8 @@ pub record Through (n : ℕ) (r t : Runs) : Type 0 where
   pub bookmark : (p g m c : ℕ) → p < n → m + 1 < 2 ^ 32 → c + plainMove n r t p .count < 2 ^ 64
       → markingOf n (tablesOf n t) (withDistance g (standing n r t p m c))
       ≡ marking (done (plainMove n r t p)) (standing n r t (mapOf n r p) (m + 1) (c + plainMove n r t p .count))
-  -- the last of m + 1 moves of one that is fresh at p, as long as its counter of moves has room: the other then has
+  -- the last of m + 1 moves of one that is fresh at p, with any distance g, as long as its counter of moves has room: the counter
+  -- of starts then has room too
   pub bookmark-moves : (m p g : ℕ) → p < n → suc m < 2 ^ 32
       → markingsOf n (tablesOf n t) (suc m) (fresh p (runAt n t p) g)
       ≡ marking (done (plainMove n r t (powerOf n r m p)))
@@ -125,8 +126,8 @@ pub record Demand2 : Type 0 where
   pub accepted-file : (bytes : List ℕ) (h : Header) → (fileOf maxRuns bytes ≡ done h) ↔ ((h ≡ headerOf bytes) × RightFile bytes)
   pub own-tables : (n : ℕ) (r : Runs) → checkOf n r ≡ done tt → Through n r r
   pub balanced-tables : (n : ℕ) (r : Runs) (d : ℕ) → checkOf n r ≡ done tt → 2 ≤ d → d ≤ 64 → Through n r (balanced d n r)
-  -- The distance that a call answers, on any tables: the start of the interval reached is not above the place reached, the
-  -- difference is exact, and it is below the interval's length. A bookmark that has moved holds the same.
+  -- The distance that a call answers, on any tables: the interval reached is one of the table's, its start is not above the place
+  -- reached, the difference is exact, and it is below the interval's length. A bookmark holds the same from its first move on.
   pub move-distance : (n : ℕ) (t : Tables) (x i : ℕ) (s : Step) → moveOf n t x i ≡ done s
       → LiesIn n t (s .interval) (s .place) (s .distance)
   pub moves-distance : (n : ℕ) (t : Tables) (m x i : ℕ) (s : Step) → movesOf n t m x i ≡ done s
@@ -134,13 +135,21 @@ pub record Demand2 : Type 0 where
   pub bookmark-distance : (n : ℕ) (t : Tables) (b : Bookmark) (m : Moved) (left : Bookmark) → Advances n t b m left
       → (s : Step) → movedSays m ≡ done s
       → LiesIn n t (s .interval) (s .place) (s .distance) × LiesIn n t (left .interval) (left .place) (left .distance)
+  pub bookmark-moves-distance : (n : ℕ) (t : Tables) (b : Bookmark) (m : ℕ) (s : Step) → markingsOf n t m b .answer ≡ done s
+      → LiesIn n t (s .interval) (s .place) (s .distance)
+  pub bookmark-moves-left : (n : ℕ) (t : Tables) (b : Bookmark) (m : ℕ)
+      → let c = markingsOf n t m b .bookmark in (c ≡ b) ⊎ LiesIn n t (c .interval) (c .place) (c .distance)
   pub questions-distance : (n : ℕ) (t : Tables) (qs : List Question) (a : Answered) (left : List Question) → Answers n t qs a left
       → (c : ℕ) → answeredSays a ≡ done c → All (λ q. LiesIn n t (q .«to_interval») (q .«to_place») (q .distance)) left
-  -- the one that a bookmark held before is not read, on any tables: with any other the answer is the same, and so is the
-  -- bookmark that is left where the move is made
+  -- the one that a bookmark held before is not read, on any tables: with any other the answer is the same, to one move and to
+  -- many; and where the first move is made, so is the bookmark that one move leaves, and many
   pub distance-unread : (n : ℕ) (t : Tables) (b : Bookmark) (g : ℕ) → bookmarkOf n t (withDistance g b) ≡ bookmarkOf n t b
+  pub distances-unread : (n : ℕ) (t : Tables) (b : Bookmark) (g m : ℕ)
+      → markingsOf n t m (withDistance g b) .answer ≡ markingsOf n t m b .answer
   pub distance-forgotten : (n : ℕ) (t : Tables) (b : Bookmark) (g : ℕ) (s : Step) → bookmarkOf n t b ≡ done s
       → markingOf n t (withDistance g b) ≡ markingOf n t b
+  pub distances-forgotten : (n : ℕ) (t : Tables) (b : Bookmark) (g m : ℕ) (s : Step) → bookmarkOf n t b ≡ done s
+      → markingsOf n t (suc m) (withDistance g b) ≡ markingsOf n t (suc m) b
   -- questions that are answered together, on any tables: each record agrees with find and move done alone
   pub questions-agree : (n : ℕ) (t : Tables) (qs : List Question) (a : Answered) (left : List Question) → Answers n t qs a left
       → (c : ℕ) → answeredSays a ≡ done c → All (Agrees n t) left

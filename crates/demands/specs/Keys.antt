@@ -1,7 +1,7 @@
 -- The keys that are proved about the definitions: one table, one statement. Its rows are written from document 01: the keys
 -- that it marks to be proved, the example's listing, ψ, and both ends of a shift; and from document 02, what its text comes
--- to for questions together (A.1) and for the distance (A.2). On the left stands what is asked of a definition, on the right the numbers that the
--- document gives, or that were worked out from it by hand.
+-- to for questions together (A.1) and for the distance (A.2). On the left stands what is asked of a definition, on the right
+-- the numbers that the document gives, or that were worked out from it by hand.
 use Prim.Native.Nat.{ℕ, suc}
 use mathlib.Core.Path.{_≡_, refl}
 use mathlib.Core.List.{List, [], _∷_, _++_, map}
@@ -77,6 +77,10 @@ example = runs (0 ∷ 2 ∷ 4 ∷ 6 ∷ 8 ∷ []) (14 ∷ 12 ∷ 10 ∷ 8 ∷ 0 
 abbrev pub exampleTables : Tables
 exampleTables = tablesOf 16 (balanced 2 16 example)
 
+-- the same written out, for keys that look at the tables often
+abbrev pub listedTables : Tables
+listedTables = tables (0 ∷ 2 ∷ 4 ∷ 6 ∷ 8 ∷ 12 ∷ []) (14 ∷ 12 ∷ 10 ∷ 8 ∷ 0 ∷ 4 ∷ []) (5 ∷ 5 ∷ 4 ∷ 4 ∷ 0 ∷ 2 ∷ [])
+
 abbrev pub uncut : Runs
 uncut = runs (0 ∷ 2 ∷ 4 ∷ 6 ∷ []) (10 ∷ 8 ∷ 6 ∷ 0 ∷ [])
 
@@ -130,13 +134,14 @@ keys =
     (listedRow 16 exampleTables 3 is 3 ∷ 6 ∷ 8 ∷ 0 ∷ 2 ∷ 4 ∷ 1 ∷ []) ∷
     (listedRow 16 exampleTables 4 is 4 ∷ 8 ∷ 0 ∷ 1 ∷ 8 ∷ 0 ∷ 2 ∷ []) ∷
     (listedRow 16 exampleTables 5 is 5 ∷ 12 ∷ 4 ∷ 1 ∷ 8 ∷ 2 ∷ 2 ∷ []) ∷
-    -- place 11, interval 4, one move and none; then four moves from place 0, by 14, 6, 8
+    -- place 11, interval 4, one move and none; then four moves from place 0, by 14, 6, 8, and four from place 11, by 3, 13, 5
     (movedRow (moveOf 16 exampleTables 4 11) is 0 ∷ 3 ∷ 1 ∷ 1 ∷ 1 ∷ []) ∷
     (movedRow (movesOf 16 exampleTables 0 4 11) is 0 ∷ 11 ∷ 4 ∷ 3 ∷ 0 ∷ []) ∷
     (movedRow (movesOf 16 exampleTables 1 0 0) is 0 ∷ 14 ∷ 5 ∷ 2 ∷ 0 ∷ []) ∷
     (movedRow (movesOf 16 exampleTables 2 0 0) is 0 ∷ 6 ∷ 3 ∷ 0 ∷ 1 ∷ []) ∷
     (movedRow (movesOf 16 exampleTables 3 0 0) is 0 ∷ 8 ∷ 4 ∷ 0 ∷ 1 ∷ []) ∷
     (movedRow (movesOf 16 exampleTables 4 0 0) is 0 ∷ 0 ∷ 0 ∷ 0 ∷ 1 ∷ []) ∷
+    (movedRow (movesOf 16 exampleTables 4 4 11) is 0 ∷ 11 ∷ 4 ∷ 3 ∷ 1 ∷ []) ∷
     (invertedRow (inverseOf 16 exampleTables 9) is 0 ∷ 7 ∷ 3 ∷ []) ∷
     -- weight 3, no cut; the most starts that a move may pass
     (weight 12 uncut 3 ∷ countOf (balanced 2 12 uncut) ∷ [] is 3 ∷ 4 ∷ []) ∷
@@ -150,14 +155,16 @@ keys =
     -- both ends of a shift's range
     (checkedRow (checkOf 4294967295 furthestDown) ++ signedRow (shiftOf furthestDown 1) is 0 ∷ 1 ∷ 4294967294 ∷ []) ∷
     (checkedRow (checkOf 4294967295 furthestUp) ++ signedRow (shiftOf furthestUp 0) is 0 ∷ 0 ∷ 4294967294 ∷ []) ∷
-    -- ψ: no cut at d 2; place 15, interval 4
+    -- ψ: no cut at d 2; place 15, interval 4, where it lies and where it goes
     (countOf (balanced 2 45 psi) ∷ [] is 13 ∷ []) ∷
+    (movedRow (movesOf 45 (tablesOf 45 (balanced 2 45 psi)) 0 4 15) is 0 ∷ 15 ∷ 4 ∷ 3 ∷ 0 ∷ []) ∷
     (movedRow (moveOf 45 (tablesOf 45 (balanced 2 45 psi)) 4 15) is 0 ∷ 35 ∷ 10 ∷ 1 ∷ 1 ∷ []) ∷
     -- a bookmark whose distance is wrong: a move writes it, 13 keeps it; four moves, and none, which answer the right one
-    (markingRow (markingOf 16 exampleTables (fresh 11 4 999)) is 0 ∷ 3 ∷ 1 ∷ 1 ∷ 1 ∷ 3 ∷ 1 ∷ 1 ∷ 1 ∷ 1 ∷ []) ∷
-    (markingRow (markingOf 16 exampleTables (full 11 4 999)) is 13 ∷ 0 ∷ 11 ∷ 4 ∷ 999 ∷ 4294967295 ∷ 0 ∷ []) ∷
-    (markingRow (markingsOf 16 exampleTables 4 (fresh 0 0 999)) is 0 ∷ 0 ∷ 0 ∷ 0 ∷ 0 ∷ 0 ∷ 0 ∷ 0 ∷ 4 ∷ 1 ∷ []) ∷
-    (markingRow (markingsOf 16 exampleTables 0 (fresh 11 4 999)) is 0 ∷ 11 ∷ 4 ∷ 3 ∷ 0 ∷ 11 ∷ 4 ∷ 999 ∷ 0 ∷ 0 ∷ []) ∷
+    (markingRow (markingOf 16 listedTables (fresh 11 4 999)) is 0 ∷ 3 ∷ 1 ∷ 1 ∷ 1 ∷ 3 ∷ 1 ∷ 1 ∷ 1 ∷ 1 ∷ []) ∷
+    (markingRow (markingOf 16 listedTables (fresh 0 0 999)) is 0 ∷ 14 ∷ 5 ∷ 2 ∷ 0 ∷ 14 ∷ 5 ∷ 2 ∷ 1 ∷ 0 ∷ []) ∷
+    (markingRow (markingOf 16 listedTables (full 11 4 999)) is 13 ∷ 0 ∷ 11 ∷ 4 ∷ 999 ∷ 4294967295 ∷ 0 ∷ []) ∷
+    (markingRow (markingsOf 16 listedTables 4 (fresh 11 4 999)) is 0 ∷ 11 ∷ 4 ∷ 3 ∷ 0 ∷ 11 ∷ 4 ∷ 3 ∷ 4 ∷ 1 ∷ []) ∷
+    (markingRow (markingsOf 16 listedTables 0 (fresh 11 4 999)) is 0 ∷ 11 ∷ 4 ∷ 3 ∷ 0 ∷ 11 ∷ 4 ∷ 999 ∷ 0 ∷ 0 ∷ []) ∷
     -- questions together: the listing's tables, two places equal; no records
     (answeredRow 16 exampleTables (0 ∷ 3 ∷ 3 ∷ 11 ∷ 15 ∷ []) is 0 ∷ 5 ∷ []) ∷
     (leftRow 16 exampleTables (0 ∷ 3 ∷ 3 ∷ 11 ∷ 15 ∷ []) is

@@ -38,7 +38,7 @@ module _ (n : ℕ) (r t : Runs) where
   walkCounts p (move ∷ cs) = (plainMove n r t p .count ∷ []) ∷ walkCounts (plainMove n r t p .place) cs
   walkCounts p (moves m ∷ cs) = movesCounts m p ∷ walkCounts (plainMoves n r t m p .place) cs
 
-  -- where the walk stands, as a bookmark: with the moves made and the sum of their counts
+  -- where the walk stands, as a bookmark: with the distance there, the moves made and the sum of their counts
   abbrev pub standing : ℕ → ℕ → ℕ → Bookmark
   standing p m c = record { place = p; interval = runAt n t p; distance = plainDistance n t p; moves = m; passed = c }
 

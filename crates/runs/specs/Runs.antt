@@ -47,7 +47,7 @@ has n r p x = leb (startOf r x) p && ltb p (endOf n r x)
 abbrev pub runAt : ℕ → Runs → ℕ → ℕ
 runAt n r p = firstBelow (has n r p) (countOf r)
 
--- how far place p lies from the start of run x, by the starts alone
+-- how far place p lies from the start of run x, by the starts alone (source document 001 calls it the offset)
 abbrev pub distanceIn : List ℕ → ℕ → ℕ → ℕ
 distanceIn starts x p = p - getD starts x 0
 

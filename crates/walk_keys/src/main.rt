@@ -32,7 +32,8 @@ fn bookmark_at(numbers: &[u32], moves: u32, passed: u64) -> Bookmark {
     }
 }
 
-// Moves a bookmark, whose moves stand behind its distance, and then starts passed as two of 32 bits, the high one first.
+// Moves a bookmark, whose moves stand behind its distance, and behind them the starts passed, as two numbers of 32 bits, the high
+// one first.
 fn advance(n: u32, numbers: &[u32], starts: &[u32], images: &[u32], holders: &[u32]) {
     let high = rows::number(numbers, 5) as u64;
     let low = rows::number(numbers, 6) as u64;

@@ -96,8 +96,8 @@ pub record Stopped (n : ℕ) (t : Tables) (m x i number place : ℕ) : Type 0 wh
   pub twelve : number ≡ 12
   pub there : place ≡ step .interval
 
--- What a distance promises on any tables: there is an interval x, place i lies exactly g places beyond its start, which is then
--- not above i, and g is below the interval's length.
+-- What a distance promises on any tables: x is the index of an interval, place i lies exactly g places beyond its start, which is
+-- then not above i, and g is below the interval's length.
 pub record LiesIn (n : ℕ) (t : Tables) (x i g : ℕ) : Type 0 where
   pub index : x < sizeOf t
   pub exact : startOf (t .list) x + g ≡ i

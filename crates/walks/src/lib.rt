@@ -87,7 +87,7 @@ pub fn is_unfindable(n: u32, starts: &[u32], i: u32) -> bool
 
 // The interval that a walk from interval x for place i reaches: it goes on while there is a next one that does not start above
 // i. Most walks of a balanced table pass no start or few, and the next move waits for the interval: where none is passed that is
-// x itself, and else the sum of x and a number that is counted without it.
+// x itself, and otherwise x and a count that begins at 0, so that x is added once, at the end.
 pub fn reach_from(starts: &[u32], x: u32, i: u32) -> u32
     requires { ⌜ (x < length (now starts)) × (length (now starts) ≤ maxIntervals) ⌝ }
     ensures { λ r. ⌜ r ≡ x + passed (now (starts .entry)) x i ⌝ }
