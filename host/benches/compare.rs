@@ -8,7 +8,7 @@ mod random;
 use random::{list_of, List, Random};
 use std::hint::black_box;
 use std::time::{Duration, Instant};
-use zibewoka::Question;
+use zibewoka::{Question, Step};
 
 /// Seconds of a call of the library and of its peer, each by the fastest of many rounds, turn by turn.
 fn seconds<A, B>(mut library: impl FnMut() -> A, mut peer: impl FnMut() -> B) -> [f64; 2] {
@@ -53,6 +53,18 @@ fn list(r: &mut Random, shape: &str, k: usize) -> List {
     list_of(&lengths, &order)
 }
 
+fn library_step<C: Into<u64>>(peer::Step { place, interval, distance, count }: peer::Step<C>) -> Step {
+    Step { place, interval, distance, count: count.into() }
+}
+
+/// The peer moves as the library does, once and m times.
+fn assert_moved_alike(n: u32, s: &[u32], i: &[u32], h: &[u32], x: u32, place: u32, m: u32) {
+    let once = peer::move_once(n, s, i, h, x, place).map(library_step);
+    assert_eq!(zibewoka::move_once(n, s, i, h, x, place).expect("a move"), once.expect("a move"));
+    let often = peer::moves(n, s, i, h, x, place, m).map(library_step);
+    assert_eq!(zibewoka::moves(n, s, i, h, x, place, m).expect("moves"), often.expect("moves"));
+}
+
 /// How many lists of a line are checked in turn: one alone would teach the processor where the jumps of a short sort go.
 const LISTS: usize = 16;
 
@@ -93,6 +105,7 @@ fn line(r: &mut Random, shape: &str, k: usize, d: u32) -> String {
     let m = 10_000;
     let first = places[0];
     let interval = zibewoka::find(n, s, i, h, first).expect("a place");
+    assert_moved_alike(n, s, i, h, interval, first, m);
     let times = seconds(
         || {
             (0..m).fold((first, interval), |(place, interval), _| {

@@ -52,7 +52,7 @@ fn safe_step(Reached { place, interval, distance, count }: Reached) -> Step {
     Step { place, interval, distance, count }
 }
 
-/// What a move's answer has in each field: 0 where it is not the refusal's.
+/// What a move's answer has in each field: a refusal has its number and place, and 0 in the others.
 fn fields(wanted: Outcome<Reached>) -> (u32, Reached) {
     match wanted {
         Ok(reached) => (0, reached),
@@ -459,6 +459,7 @@ fn known_keys() {
     assert_eq!(zibewoka::moves(16, &s, &i, &h, 4, 11, 0), step(11, 4, 3, 0));
     assert_eq!(zibewoka::moves(16, &s, &i, &h, 0, 0, 2), step(6, 3, 0, 1));
     assert_eq!(zibewoka::moves(16, &s, &i, &h, 0, 0, 4), step(0, 0, 0, 1));
+    assert_eq!(zibewoka::moves(16, &s, &i, &h, 4, 11, 4), step(11, 4, 3, 1));
     assert_eq!(zibewoka::inverse(16, &s, &i, &h, 9), Ok(zibewoka::Position { place: 7, interval: 3 }));
     let [mut s, mut i, mut h, mut w] = [0; 4].map(|_| vec![0; 9]);
     let short = zibewoka::balance(16, &listing.starts, &listing.images, 2, &mut s, &mut i, &mut h, &mut w);
@@ -479,6 +480,7 @@ fn known_keys() {
         list(45, &[0, 1, 5, 6, 12, 17, 19, 22, 25, 32, 34, 42, 43], &[11, 28, 2, 22, 32, 38, 42, 12, 15, 0, 3, 37, 40]);
     let [s, i, h] = tables_at(&psi, 2).expect("legal");
     assert_eq!(s, psi.starts);
+    assert_eq!(zibewoka::moves(45, &s, &i, &h, 4, 15, 0), step(15, 4, 3, 0));
     assert_eq!(zibewoka::move_once(45, &s, &i, &h, 4, 15), step(35, 10, 1, 1));
 }
 
