@@ -5,7 +5,7 @@ use mathlib.Core.List.{List, [], _∷_, _++_}
 use native.Mathlib.Numerals.{add-one}
 use native.Mathlib.Omega.{arith}
 use lib.ListN.{length, take, drop, getD, set, length-append, length-drop}
-use lib.Seq.{length-take-le, take-suc, take-all, drop-cons, append-snoc, set-at}
+use lib.Seq.{length-take-le, take-suc, take-all, drop-cons, append-snoc, set-at, take-at}
 
 -- the first i entries are those of m, the others are as they were
 pub record Filling (m s₀ s : List ℕ) (i : ℕ) : Type 0 where
@@ -42,3 +42,7 @@ module _ (m s₀ s : List ℕ) (i : ℕ) (f : Filling m s₀ s i) where
   filling-all h =
       let e : i ≡ length m = omega (arith, f .within) in
       f .is ∙ (λ k. take-all i m h k ++ drop (e k) s₀)
+
+  -- in an array that may be longer, all of m stands in front
+  pub filling-front : (n : ℕ) → length m ≡ n → n ≤ i → take n s ≡ m
+  filling-front n e h = ap (take n) (filling-all (omega arith)) ∙ take-at m (drop (length m) s₀) n e

@@ -9,7 +9,7 @@ use native.Mathlib.Nat.{le-of-suc-le-suc}
 use native.Mathlib.Omega.{arith}
 use lib.ListN.{length, getD, List·getD-eq-default}
 use Rattle.order.specs.Lists.{Strict, bit, countBelow}
-use Rattle.order.proofs.Laws.{lt-or-le, pairwise-at, pairwise-steps, strict-sorted, count-le-length, count-lt, count-gt, getD-default}
+use Rattle.order.proofs.Laws.{lt-or-le, at-all, strict-length, pairwise-at, pairwise-steps, strict-sorted, count-le-length, count-lt, count-gt, getD-default}
 use Rattle.runs.specs.Legal.{Legal}
 use Rattle.runs.specs.Runs.{Runs, countOf, startOf, imageOf, endOf, lengthOf, imageEnd, has, runAt, carry, mapOf}
 use Rattle.runs.proofs.Sums.{inside, inside-true, inside-is, sumTo, sum-swap, sum-same, sum-full, tally, tally-one, tally-inside, tally-some}
@@ -50,6 +50,10 @@ parted n r some first rising below = record {
 
 pub homes : (n : ℕ) (r : Runs) → Legal n r → Parted n r
 homes n r c = parted n r (c .some) (c .first) (c .rising) (c .below)
+
+-- a legal list has no more runs than places
+pub legal-few : (n : ℕ) (r : Runs) → Legal n r → countOf r ≤ n
+legal-few n r c = strict-length n (r .starts) (strict-steps (r .starts) (c .rising)) (at-all (λ s. s < n) (r .starts) (c .below))
 
 module _ (n : ℕ) (r : Runs) (c : Parted n r) where
   end-before : (x y : ℕ) → x < y → y < countOf r → endOf n r x ≤ startOf r y
