@@ -1,12 +1,11 @@
--- What the exports that write promise: the answer, and of the lent tables at exit what the library promises. The
+-- What the exports that write promise: the answer, and of the lent tables at exit what the library promises; for balancing the
 -- library's own answer is there because its promise names it.
 use Prim.Native.Nat.{ℕ}
 use mathlib.Core.Path.{_≡_}
 use mathlib.Core.List.{List}
-use Rattle.outcomes.specs.Outcome.{mapDone}
+use Rattle.outcomes.specs.Outcome.{mapDone, filled}
 use Rattle.runs.specs.Runs.{Runs}
-use Rattle.lists.specs.Inverse.{InverseListed, inverseListOf}
-use Rattle.outcomes.specs.declared.Checked.{Checked}
+use Rattle.lists.specs.Inverse.{inverseListOf}
 use Rattle.tables.specs.Tables.{sizeOf}
 use Rattle.balance.specs.Lent.{Lent, Balances, balanceOf}
 use Rattle.balance.specs.declared.Balanced.{Balanced}
@@ -22,5 +21,5 @@ pub record BalanceAnswered (n : ℕ) (r : Runs) (d : ℕ) (entry exit : Lent) (a
 pub record InverseListAnswered (n : ℕ) (r : Runs) (starts images starts′ images′ : List ℕ) (answer : ListAnswer)
     : Type 0 where
   pub says : answer ≡ listAnswer (inverseListOf n r starts images)
-  pub library : Checked
-  pub at-exit : InverseListed n r starts images starts′ images′ library
+  pub starts-at-exit : starts′ ≡ filled (λ q. q .starts) (inverseListOf n r starts images) starts
+  pub images-at-exit : images′ ≡ filled (λ q. q .images) (inverseListOf n r starts images) images

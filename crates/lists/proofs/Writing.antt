@@ -8,11 +8,12 @@ use borrow.Author.Tests.{lt-ltb, le-ltb}
 use Rattle.order.specs.Order.{keyOf, orderOf}
 use Rattle.sorting.specs.Parts.{Gathers}
 use Rattle.order.proofs.Laws.{order-length}
-use Rattle.outcomes.specs.Outcome.{done, refused, shortTest, judge, andThen, mapDone, filled}
-use Rattle.outcomes.specs.Refusal.{refusalSays}
+use Rattle.outcomes.specs.Outcome.{done, shortTest, judge, andThen}
+use Rattle.outcomes.specs.Refusal.{numberOf, placeOf, refusalSays, checkedSays}
 use Rattle.runs.specs.Runs.{Runs, countOf, startOf, imageOf}
 use Rattle.runs.specs.Check.{checkTests, checkOf}
-use Rattle.lists.specs.Inverse.{inverseRuns, inverseListOf, WritesList, InverseListed}
+use Rattle.runs.specs.Written.{WritesList}
+use Rattle.lists.specs.Inverse.{inverseRuns, inverseListOf, InverseListed}
 use Rattle.runs.specs.Parts.{Ordered}
 use Rattle.lists.specs.Parts.{writtenOf}
 use Rattle.outcomes.specs.declared.Refusal.{Refusal}
@@ -21,6 +22,7 @@ use Rattle.outcomes.specs.declared.Checked.{Checked}
 use Rattle.outcomes.specs.declared.Checked.the-variants.{Accepted, Refused}
 use Rattle.outcomes.proofs.Judging.{judge-append}
 use Rattle.runs.proofs.Ranking.{ordered-room, entry-below}
+use Rattle.runs.proofs.Written.{writes-refused, writes-done}
 
 -- the order by image serves to gather as many numbers as there are runs
 pub ordered-gathers : (r : Runs) (order : List ℕ) → Ordered r order → (from to : List ℕ) → length from ≡ countOf r
@@ -44,17 +46,16 @@ gathered-front r order o f m to to′ e p =
 
 -- a table too short, and two that are not
 module _ (r : Runs) (a b : List ℕ) where
-  written-refused : writtenOf r a b ≡ refused 8 (countOf r) → WritesList (writtenOf r a b) a b a b (Refused (ShortTable (countOf r)))
-  unfolding mapDone filled
-  written-refused e = record { says = rw e; starts-at-exit = rw e; images-at-exit = rw e }
+  abbrev Written : List ℕ → List ℕ → Checked → Type 0
+  Written = WritesList checkedSays (λ q. tt) (writtenOf r a b) a b
 
-  pub starts-short : length a < countOf r → WritesList (writtenOf r a b) a b a b (Refused (ShortTable (countOf r)))
+  pub starts-short : length a < countOf r → Written a b (Refused (ShortTable (countOf r)))
   unfolding writtenOf judge
-  starts-short h = written-refused (simp (lt-ltb _ _ h))
+  starts-short h = writes-refused _ _ (writtenOf r a b) a b _ 8 (countOf r) (simp (lt-ltb _ _ h)) refl
 
-  pub images-short : countOf r ≤ length a → length b < countOf r → WritesList (writtenOf r a b) a b a b (Refused (ShortTable (countOf r)))
+  pub images-short : countOf r ≤ length a → length b < countOf r → Written a b (Refused (ShortTable (countOf r)))
   unfolding writtenOf judge
-  images-short h l = written-refused (simp (le-ltb _ _ h, lt-ltb _ _ l))
+  images-short h l = writes-refused _ _ (writtenOf r a b) a b _ 8 (countOf r) (simp (le-ltb _ _ h, lt-ltb _ _ l)) refl
 
   module _ (h : countOf r ≤ length a) (l : countOf r ≤ length b) where
     written-done : writtenOf r a b ≡ done (inverseRuns r)
@@ -63,13 +64,12 @@ module _ (r : Runs) (a b : List ℕ) where
 
     pub written : (order a′ b′ : List ℕ) → Ordered r order
         → a′ ≡ map (imageOf r) (take (length (r .images)) order) ++ drop (length (r .images)) a
-        → b′ ≡ map (startOf r) (take (countOf r) order) ++ drop (countOf r) b → WritesList (writtenOf r a b) a b a′ b′ Accepted
-    unfolding mapDone filled inverseRuns
-    written order a′ b′ o p q = record {
-      says = rw written-done;
-      starts-at-exit = rw written-done (gathered-front r order o (imageOf r) (length (r .images)) a a′ (o .paired) p);
-      images-at-exit = rw written-done (gathered-front r order o (startOf r) (countOf r) b b′ refl q);
-    }
+        → b′ ≡ map (startOf r) (take (countOf r) order) ++ drop (countOf r) b → Written a′ b′ Accepted
+    unfolding inverseRuns
+    written order a′ b′ o p q =
+        writes-done _ _ (writtenOf r a b) a b _ (inverseRuns r) a′ b′ written-done
+        (gathered-front r order o (imageOf r) (length (r .images)) a a′ (o .paired) p)
+        (gathered-front r order o (startOf r) (countOf r) b b′ refl q) refl
 
 -- the whole of `inverse_list`: tests 1 to 6, and then what is written
 module _ (n : ℕ) (r : Runs) (a b : List ℕ) where
@@ -78,12 +78,12 @@ module _ (n : ℕ) (r : Runs) (a b : List ℕ) where
   listed-parts = judge-append (checkTests n r) (shortTest (countOf r) (a ∷ b ∷ []) ∷ []) tt (inverseRuns r)
 
   pub listed-refused : (x : Refusal) → refusalSays x ≡ checkOf n r → InverseListed n r a b a b (Refused x)
-  unfolding andThen mapDone filled
+  unfolding andThen
   listed-refused x e =
-      let f : inverseListOf n r a b ≡ refusalSays x = listed-parts ∙ ap (λ c. andThen c (λ _. writtenOf r a b)) (sym e) in
-      record { says = rw f; starts-at-exit = rw f; images-at-exit = rw f }
+      writes-refused _ _ (inverseListOf n r a b) a b _ (numberOf x) (placeOf x)
+      (listed-parts ∙ ap (λ c. andThen c (λ _. writtenOf r a b)) (sym e)) refl
 
-  pub listed-written : (a′ b′ : List ℕ) (o : Checked) → done tt ≡ checkOf n r → WritesList (writtenOf r a b) a b a′ b′ o
+  pub listed-written : (a′ b′ : List ℕ) (o : Checked) → done tt ≡ checkOf n r → WritesList checkedSays (λ q. tt) (writtenOf r a b) a b a′ b′ o
       → InverseListed n r a b a′ b′ o
   unfolding andThen
   listed-written a′ b′ o e w =

@@ -6,7 +6,8 @@ ghost use lib.ListN.{length};
 ghost use Rattle.runs.specs.Runs.{runs};
 ghost use Rattle.runs.specs.Check.{maxRuns};
 ghost use Rattle.runs.specs.Parts.{Ordered};
-ghost use Rattle.lists.specs.Inverse.{WritesList};
+ghost use Rattle.runs.specs.Written.{WritesList};
+ghost use Rattle.outcomes.specs.Refusal.{checkedSays};
 ghost use Rattle.lists.specs.Parts.{writtenOf};
 
 // Test 8, and the inverse list where the tables have room.
@@ -18,7 +19,7 @@ pub(crate) fn write(
     to_images: &mut [u32],
 ) -> Checked
     requires { ⌜ Ordered (runs (now starts) (now images)) (now order) × (length (now starts) ≤ maxRuns) ⌝ }
-    ensures { λ r. ⌜ WritesList
+    ensures { λ r. ⌜ WritesList checkedSays (λ q. tt)
         (writtenOf (runs (now (starts .entry)) (now (images .entry))) (now («to_starts» .entry)) (now («to_images» .entry)))
         (now («to_starts» .entry)) (now («to_images» .entry)) (now («to_starts» .exit)) (now («to_images» .exit)) r ⌝ }
 {

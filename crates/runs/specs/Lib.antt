@@ -3,4 +3,5 @@ pub mod Runs
 pub mod Legal
 pub mod Weight
 pub mod Check
+pub mod Written
 pub mod Parts

@@ -20,11 +20,11 @@ same-length-2 c = search needs
 
 returns : tie.Need-returns
 returns c =
-    let l = c .before .before .before .before .before .inverse-list in
+    let l = c .before .before .before .before .before .inverse-list .ensures in
     record {
-      says = c .of-list .ensures ∙ ap listAnswer (l .ensures .says) ∙ list-answer-map _ _;
-      library = _;
-      at-exit = l .ensures;
+      says = c .of-list .ensures ∙ ap listAnswer (l .says) ∙ list-answer-map _ _;
+      starts-at-exit = l .starts-at-exit;
+      images-at-exit = l .images-at-exit;
     }
 
 pub zibewoka-inverse-list-spec : {M : Type 1} → statement M
