@@ -25,6 +25,8 @@ pub enum Refusal {
     CounterLimit,
     NoPreimage(u32),
     FileHeader(u32),
+    TooManyPlaces(u32),
+    LastPermutation,
 }
 
 impl Refusal {
@@ -48,6 +50,8 @@ impl Refusal {
             Refusal::CounterLimit => 13,
             Refusal::NoPreimage(_) => 14,
             Refusal::FileHeader(_) => 15,
+            Refusal::TooManyPlaces(_) => 17,
+            Refusal::LastPermutation => 18,
         }
     }
 
@@ -71,6 +75,8 @@ impl Refusal {
             Refusal::CounterLimit => 0,
             Refusal::NoPreimage(j) => j,
             Refusal::FileHeader(b) => b,
+            Refusal::TooManyPlaces(n) => n,
+            Refusal::LastPermutation => 0,
         }
     }
 }
