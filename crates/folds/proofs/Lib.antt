@@ -1,0 +1,7 @@
+-- The laws of maximal runs and of folds that callers cite, and what the proofs of this crate's functions do.
+pub mod Keeping
+pub mod Tracing
+pub mod Maximal
+pub mod Folding
+pub mod Spreading
+mod Heads
