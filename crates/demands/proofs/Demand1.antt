@@ -9,10 +9,11 @@ use native.Mathlib.Omega.{arith}
 use lib.ListN.{length}
 use Rattle.outcomes.specs.Outcome.{Outcome, done, refused, Test, test, judge, _then_else_}
 use Rattle.outcomes.specs.Refusal.{checkedSays}
-use Rattle.runs.specs.Runs.{Runs}
+use Rattle.runs.specs.Runs.{Runs, countOf}
 use Rattle.runs.specs.Check.{listTests, testsUpTo}
-use Rattle.lists.specs.Inverse.{inverseListOf, InverseListed}
-use Rattle.outcomes.specs.declared.Checked.{Checked}
+use Rattle.runs.proofs.Written.{writes-kept}
+use Rattle.lists.specs.Inverse.{inverseListOf}
+use Rattle.permutations.specs.Next.{nextOf, nextSays}
 use Rattle.outcomes.proofs.Judging.{done-refused, map-refused, filled-refused}
 use Rattle.tables.specs.Tables.{Tables, sizeOf}
 use Rattle.walks.specs.Move.{findOf, moveOf, movesOf}
@@ -72,14 +73,6 @@ module _ {A : Type 0} (a : A) where
       go false q e rest = refused-first t ts k p q (rest e)
 
 -- a refusal goes through to the lent tables
-inverse-list-kept : (n : ℕ) (r : Runs) (a b a′ b′ : List ℕ) (o : Checked) → InverseListed n r a b a′ b′ o
-    → (k p : ℕ) → checkedSays o ≡ refused k p → (a′ ≡ a) × (b′ ≡ b)
-inverse-list-kept n r a b a′ b′ o c k p e =
-    let q = map-refused (λ q. tt) (inverseListOf n r a b) k p (sym (c .says) ∙ e) in (
-      c .starts-at-exit ∙ filled-refused (λ q. q .starts) _ k p a q,
-      c .images-at-exit ∙ filled-refused (λ q. q .images) _ k p b q,
-    )
-
 balance-kept : (n : ℕ) (r : Runs) (d : ℕ) (entry exit : Lent) (o : Balanced) → Balances n r d entry exit o
     → (k p : ℕ) → balancedSays o ≡ refused k p → exit ≡ entry
 balance-kept n r d entry exit o c k p e =
@@ -99,7 +92,7 @@ judged : {A : Type 0} (order : List ℕ) (ts : List Test) (a : A) → map (λ t.
 judged order ts a e = record { in-order = e; when-done = judge-passes a ts; when-refused = judge-refuses a ts }
 
 pub demand1 : Demand1
-unfolding listTests testsUpTo countTests layoutTests headerTests bodyTests fileTests inverseListOf balanceOf findOf moveOf movesOf inverseOf weightOf bookmarkOf answersOf fileOf
+unfolding listTests testsUpTo countTests layoutTests headerTests bodyTests fileTests inverseListOf balanceOf findOf moveOf movesOf inverseOf weightOf bookmarkOf answersOf nextOf fileOf
 demand1 = record {
   check = λ n r. judged _ _ _ refl;
   inverse-list = λ n r a b. judged _ _ _ refl;
@@ -114,9 +107,11 @@ demand1 = record {
   under-size = λ n t x w e. under-length n t x w (sym e);
   bookmark = λ n t b. judged _ _ _ refl;
   questions = λ n t ps. judged _ _ _ refl;
+  next-list = λ n r a b. judged _ _ _ refl;
   file = λ most bytes. judged _ _ _ refl;
-  inverse-list-kept = inverse-list-kept;
+  inverse-list-kept = λ n r a b a′ b′ o c. writes-kept checkedSays _ (inverseListOf n r a b) a b o a′ b′ c;
   balance-kept = balance-kept;
   bookmark-kept = bookmark-kept;
+  next-list-kept = λ n r a b a′ b′ x c. writes-kept nextSays countOf (nextOf n r a b) a b x a′ b′ c;
   questions-kept = questions-kept;
 }

@@ -1,5 +1,6 @@
 -- The three demands, in our words. Their proofs are in proofs/, apart from what they say. That every call stays in bounds
--- and ends is what the checker proves of each function; here stands what its contract's definitions come to.
+-- and ends is what the checker proves of each function; here stands what its contract's definitions come to. What is promised of
+-- small lists beside demand 1 stands in permutations/specs/SmallLists.
 use Prim.Native.Nat.{ℕ, suc, _+_, _*_, _^_, _≤_, _<_}
 use mathlib.Core.Path.{_≡_}
 use mathlib.Core.Logic.{_↔_, _⊎_}
@@ -13,6 +14,8 @@ use Rattle.runs.specs.Legal.{DisjointIntervals, IntervalSequence}
 use Rattle.runs.specs.Check.{maxRuns, checkTests, checkOf, writeTests}
 use Rattle.lists.specs.Inverse.{inverseRuns, inverseListOf, InverseListed}
 use Rattle.outcomes.specs.declared.Checked.{Checked}
+use Rattle.permutations.specs.Next.{nextTests, nextRuns, nextOf, nextSays, NextListed}
+use Rattle.permutations.specs.declared.Next.{Next}
 use Rattle.tables.specs.Tables.{Tables, tablesOf}
 use Rattle.walks.specs.Move.{movedSays, findTests, locateTests, moveTests, foundAt, stepOf, stayAt, findOf, moveOf, movesOf, Stopped, LiesIn}
 use Rattle.preimages.specs.Inverse.{sourceOf, inverseTests, inverseOf}
@@ -42,7 +45,7 @@ use Rattle.demands.specs.Served.{served, servedTrail, Advancing}
 
 -- DEMAND 1. Whatever numbers stand in a list, a file, tables, a bookmark or questions, a call does its work or gives the
 -- number of the first condition that applies, in an order that is fixed; and a refused call leaves all that was lent as it
--- was. The numbers are 1 to 15, and 16 for questions.
+-- was. The numbers are 1 to 15, 16 for questions, and 17 and 18 for the next list.
 pub record Demand1 : Type 0 where
   pub check : (n : ℕ) (r : Runs) → Judged (1 ∷ 2 ∷ 3 ∷ 4 ∷ 5 ∷ 6 ∷ []) (checkTests n r) tt (checkOf n r)
   pub inverse-list : (n : ℕ) (r : Runs) (a b : List ℕ)
@@ -72,6 +75,9 @@ pub record Demand1 : Type 0 where
   -- questions together: 16 before 11, and each over all records before the next
   pub questions : (n : ℕ) (t : Tables) (ps : List ℕ)
       → Judged (9 ∷ 16 ∷ 11 ∷ 12 ∷ []) (questionTests n t ps) (foundLast t ps (length ps)) (answersOf n t ps)
+  -- the next list: its own 17 and 18, and 8 between them
+  pub next-list : (n : ℕ) (r : Runs) (a b : List ℕ)
+      → Judged (1 ∷ 2 ∷ 3 ∷ 4 ∷ 5 ∷ 6 ∷ 17 ∷ 8 ∷ 18 ∷ []) (nextTests n r a b) (nextRuns n r) (nextOf n r a b)
   -- a file has an order of its own
   pub file : (most : ℕ) (bytes : List ℕ)
       → Judged (15 ∷ 1 ∷ 2 ∷ 15 ∷ 15 ∷ 15 ∷ 3 ∷ 4 ∷ 5 ∷ 6 ∷ 7 ∷ []) (fileTests most bytes) (headerOf bytes) (fileOf most bytes)
@@ -82,6 +88,8 @@ pub record Demand1 : Type 0 where
       → (k p : ℕ) → balancedSays o ≡ refused k p → exit ≡ entry
   pub bookmark-kept : (n : ℕ) (t : Tables) (b : Bookmark) (m : Moved) (left : Bookmark) → Advances n t b m left
       → (k p : ℕ) → movedSays m ≡ refused k p → left ≡ b
+  pub next-list-kept : (n : ℕ) (r : Runs) (a b a′ b′ : List ℕ) (x : Next) → NextListed n r a b a′ b′ x
+      → (k p : ℕ) → nextSays x ≡ refused k p → (a′ ≡ a) × (b′ ≡ b)
   pub questions-kept : (n : ℕ) (t : Tables) (qs : List Question) (a : Answered) (left : List Question) → Answers n t qs a left
       → (k p : ℕ) → answeredSays a ≡ refused k p → left ≡ qs
 

@@ -1,12 +1,13 @@
 -- The keys that are proved about the definitions: one table, one statement. Its rows are written from document 01: the keys
 -- that it marks to be proved, the example's listing, ψ, and both ends of a shift; and from document 02, what its text comes
--- to for questions together (A.1) and for the distance (A.2). On the left stands what is asked of a definition, on the right
+-- to for questions together (A.1), the distance (A.2) and the next list (A.3). On the left stands what is asked of a definition, on the right
 -- the numbers that the document gives, or that were worked out from it by hand.
 use Prim.Native.Nat.{ℕ, suc}
 use mathlib.Core.Path.{_≡_, refl}
 use mathlib.Core.List.{List, [], _∷_, _++_, map}
 use lib.IntN.{ℤ, pos, negsuc}
-use Rattle.outcomes.specs.Outcome.{Outcome, done, refused, judge, mapDone, andThen}
+use lib.ListN.{replicate}
+use Rattle.outcomes.specs.Outcome.{Outcome, done, refused, judge, mapDone, andThen, filled}
 use Rattle.runs.specs.Runs.{Runs, runs, countOf, startOf, imageOf, shiftOf}
 use Rattle.runs.specs.Check.{unmatched, unordered, outOfRange, overlap, overlaps, listTests, testsUpTo, checkOf}
 use Rattle.tables.specs.Tables.{Tables, tables, tablesOf, holderOf, misshapen, outside, unheld, broken}
@@ -20,6 +21,10 @@ use Rattle.bookmarks.specs.declared.Bookmark.{Bookmark}
 use Rattle.questions.specs.Questions.{fallsAt, unfindableAt, brokenAt, answersOf, filledIn, recordsAfter}
 use Rattle.questions.specs.declared.Question.{Question}
 use Rattle.cuts.specs.Balance.{cutting, balanced}
+use Rattle.folds.specs.Fold.{breaks, maximalRuns}
+use Rattle.permutations.specs.Values.{valuesOf}
+use Rattle.permutations.specs.Next.{lastAscent, lastAbove, changed, successor, falls, nextRuns, nextOf}
+use Rattle.permutations.specs.Every.{listsFrom}
 
 -- An outcome as a row of numbers: 0 and its values, or the refusal's number and place.
 abbrev pub rowFrom : {A : Type 0} → (A → List ℕ) → Outcome A → List ℕ
@@ -59,6 +64,20 @@ answeredRow n t ps = rowFrom (λ c. c ∷ []) (answersOf n t ps)
 
 abbrev pub leftRow : ℕ → Tables → List ℕ → List ℕ
 leftRow n t ps = recordsRow (recordsAfter (filledIn t) (answersOf n t ps) (map asked ps))
+
+-- the next list's run count, and both lent tables after the call
+abbrev pub nextRow : ℕ → Runs → List ℕ → List ℕ → List ℕ
+nextRow n r a b =
+    let o = nextOf n r a b in
+    rowFrom (λ q. countOf q ∷ []) o ++ (filled (λ q. q .starts) o a ++ filled (λ q. q .images) o b)
+
+abbrev pub nines : ℕ → List ℕ
+nines k = replicate k 9
+
+-- starts and images, list after list
+abbrev pub listsRow : List Runs → List ℕ
+listsRow [] = []
+listsRow (q ∷ qs) = q .starts ++ (q .images ++ listsRow qs)
 
 -- an integer as its sign, which is 1 below 0 and else 0, and its size
 abbrev pub signedRow : ℤ → List ℕ
@@ -193,8 +212,30 @@ keys =
     (leftRow 16 mixedStarts (0 ∷ 5 ∷ 9 ∷ 13 ∷ []) is
     0 ∷ 0 ∷ 0 ∷ 0 ∷ 0 ∷ 0 ∷ 5 ∷ 0 ∷ 5 ∷ 0 ∷ 0 ∷ 5 ∷
     9 ∷ 2 ∷ 9 ∷ 2 ∷ 2 ∷ 5 ∷ 13 ∷ 3 ∷ 13 ∷ 3 ∷ 0 ∷ 1 ∷ []) ∷
+    -- the next list, from the identity to the last of three places; entries beyond its runs stay
+    (nextRow 3 single (nines 3) (nines 3) is 0 ∷ 3 ∷ 0 ∷ 1 ∷ 2 ∷ 0 ∷ 2 ∷ 1 ∷ []) ∷
+    (nextRow 3 (runs (0 ∷ 1 ∷ 2 ∷ []) (0 ∷ 2 ∷ 1 ∷ [])) (nines 3) (nines 3) is 0 ∷ 3 ∷ 0 ∷ 1 ∷ 2 ∷ 1 ∷ 0 ∷ 2 ∷ []) ∷
+    (nextRow 3 (runs (0 ∷ 1 ∷ 2 ∷ []) (1 ∷ 0 ∷ 2 ∷ [])) (nines 3) (nines 3) is 0 ∷ 2 ∷ 0 ∷ 2 ∷ 9 ∷ 1 ∷ 0 ∷ 9 ∷ []) ∷
+    (nextRow 3 (runs (0 ∷ 2 ∷ []) (1 ∷ 0 ∷ [])) (nines 3) (nines 4) is 0 ∷ 2 ∷ 0 ∷ 1 ∷ 9 ∷ 2 ∷ 0 ∷ 9 ∷ 9 ∷ []) ∷
+    (nextRow 3 (runs (0 ∷ 1 ∷ []) (2 ∷ 0 ∷ [])) (nines 3) (nines 3) is 0 ∷ 3 ∷ 0 ∷ 1 ∷ 2 ∷ 2 ∷ 1 ∷ 0 ∷ []) ∷
+    (nextRow 3 (runs (0 ∷ 1 ∷ 2 ∷ []) (2 ∷ 1 ∷ 0 ∷ [])) (nines 3) (nines 3) is 18 ∷ 0 ∷ 9 ∷ 9 ∷ 9 ∷ 9 ∷ 9 ∷ 9 ∷ []) ∷
+    (listsRow (listsFrom 3 (nines 3) (nines 3) 9 single) is
+    0 ∷ 0 ∷ 0 ∷ 1 ∷ 2 ∷ 0 ∷ 2 ∷ 1 ∷ 0 ∷ 1 ∷ 2 ∷ 1 ∷ 0 ∷ 2 ∷
+    0 ∷ 2 ∷ 1 ∷ 0 ∷ 0 ∷ 1 ∷ 2 ∷ 0 ∷ 0 ∷ 1 ∷ 2 ∷ 2 ∷ 1 ∷ 0 ∷ []) ∷
+    -- of a list whose runs are not maximal; of one place; and of seven, where five values are reversed
+    (nextRow 4 (runs (0 ∷ 1 ∷ 2 ∷ 3 ∷ []) (0 ∷ 1 ∷ 2 ∷ 3 ∷ [])) (nines 4) (nines 4) is
+    0 ∷ 3 ∷ 0 ∷ 2 ∷ 3 ∷ 9 ∷ 0 ∷ 3 ∷ 2 ∷ 9 ∷ []) ∷
+    (nextRow 1 single (nines 1) (nines 1) is 18 ∷ 0 ∷ 9 ∷ 9 ∷ []) ∷
+    (nextRow 7 (runs (0 ∷ 1 ∷ 2 ∷ 3 ∷ 4 ∷ 5 ∷ 6 ∷ []) (2 ∷ 3 ∷ 6 ∷ 5 ∷ 4 ∷ 1 ∷ 0 ∷ [])) (nines 7) (nines 7) is
+    0 ∷ 5 ∷ 0 ∷ 1 ∷ 2 ∷ 4 ∷ 5 ∷ 9 ∷ 9 ∷ 2 ∷ 4 ∷ 0 ∷ 3 ∷ 5 ∷ 9 ∷ 9 ∷ []) ∷
+    -- 6 before 17, 17 before 8 and before any place is looked at, 8 with n before 18
+    (nextRow 8 (halves (0 ∷ 1 ∷ [])) [] [] is 6 ∷ 0 ∷ []) ∷
+    (nextRow 8 single [] [] is 17 ∷ 8 ∷ []) ∷
+    (nextRow 4294967295 furthestDown [] [] is 17 ∷ 4294967295 ∷ []) ∷
+    (nextRow 2 (runs (0 ∷ 1 ∷ []) (1 ∷ 0 ∷ [])) (nines 1) (nines 2) is 8 ∷ 2 ∷ 9 ∷ 9 ∷ 9 ∷ []) ∷
+    (nextRow 3 single (nines 3) (nines 2) is 8 ∷ 3 ∷ 9 ∷ 9 ∷ 9 ∷ 9 ∷ 9 ∷ []) ∷
     []
 
 pub keys-hold : map computed keys ≡ map given keys
-unfolding judge mapDone andThen unmatched unordered outOfRange overlap overlaps listTests testsUpTo misshapen outside unheld broken passed foundAt unfindable walkCount stepTo stepOf moveOf onwards movesOf sends sourceOf inverseOf overflows bookmarkOf markAfter markingOf markingsOf fallsAt unfindableAt brokenAt answersOf filledIn recordsAfter cutting balanced
+unfolding judge mapDone andThen unmatched unordered outOfRange overlap overlaps listTests testsUpTo misshapen outside unheld broken passed foundAt unfindable walkCount stepTo stepOf moveOf onwards movesOf sends sourceOf inverseOf overflows bookmarkOf markAfter markingOf markingsOf fallsAt unfindableAt brokenAt answersOf filledIn recordsAfter cutting balanced filled breaks maximalRuns valuesOf lastAscent lastAbove changed successor falls nextRuns nextOf listsFrom
 keys-hold = refl

@@ -2,6 +2,7 @@
 use balance::Balanced;
 use files::FileChecked;
 use outcomes::Checked;
+use permutations::Next;
 use rows::out;
 
 pub(crate) fn checked(a: Checked) {
@@ -15,6 +16,13 @@ pub(crate) fn balanced(a: Balanced) {
     match a {
         Balanced::Refused(r) => out::refusal(r),
         Balanced::Intervals(k) => out::one(k as u64),
+    }
+}
+
+pub(crate) fn next(a: Next) {
+    match a {
+        Next::Refused(r) => out::refusal(r),
+        Next::RunCount(k) => out::one(k as u64),
     }
 }
 

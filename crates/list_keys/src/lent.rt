@@ -21,13 +21,30 @@ fn invert_into(
     print_both(to_starts, to_images);
 }
 
-// inverse-list n, and the sizes of the two lent tables
-pub(crate) fn inverse_list(numbers: &[u32], starts: &[u32], images: &[u32]) {
+// Writes the next list to the lent tables.
+fn next_into(n: u32, starts: &[u32], images: &[u32], to_starts: &mut [u32], to_images: &mut [u32]) {
+    let answer = permutations::next_list(n, starts, images, to_starts, to_images);
+    answers::next(answer);
+    print_both(to_starts, to_images);
+}
+
+// inverse-list or next-list n, and the sizes of the two lent tables
+pub(crate) fn write_list(numbers: &[u32], starts: &[u32], images: &[u32], is_next: bool) {
     let n = rows::number(numbers, 0);
     let size = rows::size(numbers, 1);
     let size_2 = rows::size(numbers, 2);
     let mut to_starts = [7u32; 256];
     let mut to_images = [7u32; 256];
+    if is_next {
+        next_into(
+            n,
+            starts,
+            images,
+            &mut to_starts[0..size],
+            &mut to_images[0..size_2],
+        );
+        return;
+    }
     invert_into(
         n,
         starts,

@@ -5,6 +5,7 @@
 //     inverse-list n, the sizes of two lent tables : starts : images
 //     balance n d, the sizes of three lent tables and of the working table : starts : images
 //     file, its count of bytes, the size of a lent text : its words
+//     next-list n, the sizes of two lent tables : starts : images
 //
 // A file is answered by its check, and then by how many bytes its listing has.
 mod answers;
@@ -19,10 +20,11 @@ ghost use lib.ListN.{length};
 fn call(code: usize, numbers: &[u32], a: &[u32], b: &[u32]) {
     match code {
         12 => answers::checked(lists::check(rows::number(numbers, 0), a, b)),
-        132 => lent::inverse_list(numbers, a, b),
+        132 => lent::write_list(numbers, a, b, false),
         262 => lent::balance(numbers, a, b),
         321 => lent::file(numbers, a),
-        400..=499 => {}
+        432 => lent::write_list(numbers, a, b, true),
+        500..=599 => {}
         _ => out::no_call(),
     }
 }
@@ -32,7 +34,7 @@ fn run_row(line: &[u8], entries: &mut [u32]) {
     out::line(line);
     let row = rows::read(line, entries);
     call(
-        rows::code_of(b" check inverse-list balance file #", line, row),
+        rows::code_of(b" check inverse-list balance file next-list #", line, row),
         rows::part(entries, row, 0),
         rows::part(entries, row, 1),
         rows::part(entries, row, 2),
