@@ -8,7 +8,7 @@ mod random;
 use random::{list_of, List, Random};
 use std::hint::black_box;
 use std::time::{Duration, Instant};
-use zibewoka::{Question, Step};
+use zibewoka::{Question, Refusal, Step};
 
 /// Seconds of a call of the library and of its peer, each by the fastest of many rounds, turn by turn.
 fn seconds<A, B>(mut library: impl FnMut() -> A, mut peer: impl FnMut() -> B) -> [f64; 2] {
@@ -227,9 +227,62 @@ fn print_questions(r: &mut Random) {
     }
 }
 
+/// All lists of n places but the last: each is handed in once.
+fn small_lists(n: u32) -> Vec<List> {
+    let mut lists = vec![List { n, starts: vec![0], images: vec![0] }];
+    let [mut s, mut i] = [[0; 7]; 2];
+    while let Ok(k) = next_list(&lists[lists.len() - 1], &mut s, &mut i) {
+        lists.push(List { n, starts: s[..k as usize].to_vec(), images: i[..k as usize].to_vec() });
+    }
+    lists.pop();
+    lists
+}
+
+fn next_list(list: &List, s: &mut [u32], i: &mut [u32]) -> Result<u32, Refusal> {
+    zibewoka::next_list(list.n, &list.starts, &list.images, s, i)
+}
+
+fn peer_next_list(list: &List, s: &mut [u32], i: &mut [u32]) -> Result<u32, Refusal> {
+    peer::next_list(list.n, &list.starts, &list.images, s, i)
+        .map_err(|(number, place)| Refusal { number, place: place.into() })
+}
+
+/// One line of the table of next lists: the library's time for a list and its ratio to the peer's, over all lists of n places but
+/// the last.
+fn next_line(n: u32) -> String {
+    let lists = small_lists(n);
+    let [mut s, mut i, mut peer_s, mut peer_i] = [[9; 7]; 4];
+    for list in &lists {
+        for count in [7, n as usize - 1] {
+            let answer = next_list(list, &mut s[..count], &mut i);
+            assert_eq!(answer, peer_next_list(list, &mut peer_s[..count], &mut peer_i));
+            assert!(s == peer_s && i == peer_i, "the peer writes alike");
+        }
+    }
+    let [library, peer] = seconds(
+        || lists.iter().map(|list| next_list(list, &mut s, &mut i).expect("not the last")).sum::<u32>(),
+        || lists.iter().map(|list| peer_next_list(list, &mut peer_s, &mut peer_i).expect("not the last")).sum::<u32>(),
+    );
+    format!("| {n} | {} | {:.1} | {:.2} |", lists.len(), library * 1e9 / lists.len() as f64, library / peer)
+}
+
+fn print_next_lists() {
+    println!(
+        "The next list, over all lists of n places but the last: the library's time, and as a ratio to the peer's."
+    );
+    println!();
+    println!("| n | lists | ns a list | × peer |");
+    println!("|---|---|---|---|");
+    for n in 2..=7 {
+        println!("{}", next_line(n));
+    }
+}
+
 fn main() {
     let r = &mut Random::new(7);
     print_calls(r);
     println!();
     print_questions(r);
+    println!();
+    print_next_lists();
 }

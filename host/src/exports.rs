@@ -25,6 +25,18 @@ pub struct BalanceAnswer {
     pub intervals: u32,
 }
 
+/// The answer of [`next_list`].
+#[repr(C)]
+#[derive(Clone, Copy, Debug, PartialEq, Eq)]
+pub struct NextAnswer {
+    /// 0, or the paper's number.
+    pub number: u32,
+    /// The place given with the number; 0 where the call is done.
+    pub place: u32,
+    /// How many runs the next list has.
+    pub runs: u32,
+}
+
 /// The answer of [`find`] and [`inverse`].
 #[repr(C)]
 #[derive(Clone, Copy, Debug, PartialEq, Eq)]
@@ -126,6 +138,9 @@ unsafe extern "C" {
     fn zibewoka_inverse_list(
         n: u32, starts: Ptr, k: usize, images: Ptr, ki: usize, to_starts: MutPtr, ls: usize, to_images: MutPtr, li: usize,
     ) -> ListAnswer;
+    fn zibewoka_next_list(
+        n: u32, starts: Ptr, k: usize, images: Ptr, ki: usize, to_starts: MutPtr, ls: usize, to_images: MutPtr, li: usize,
+    ) -> NextAnswer;
     fn zibewoka_find(
         n: u32, starts: Ptr, k: usize, images: Ptr, ki: usize, holders: Ptr, kh: usize, place: u32,
     ) -> IntervalAnswer;
@@ -192,6 +207,26 @@ pub fn balance(
     }
 }
 
+// Calls an export that takes a list and writes another to two lent tables.
+macro_rules! list_to_list {
+    ($export:ident, $n:ident, $starts:ident, $images:ident, $to_starts:ident, $to_images:ident) => {
+        // SAFETY: as in `check`.
+        unsafe {
+            $export(
+                $n,
+                $starts.as_ptr(),
+                $starts.len(),
+                $images.as_ptr(),
+                $images.len(),
+                $to_starts.as_mut_ptr(),
+                $to_starts.len(),
+                $to_images.as_mut_ptr(),
+                $to_images.len(),
+            )
+        }
+    };
+}
+
 /// `zibewoka_inverse_list`.
 #[inline]
 pub fn inverse_list(
@@ -201,20 +236,13 @@ pub fn inverse_list(
     to_starts: &mut [u32],
     to_images: &mut [u32],
 ) -> ListAnswer {
-    // SAFETY: as in `check`.
-    unsafe {
-        zibewoka_inverse_list(
-            n,
-            starts.as_ptr(),
-            starts.len(),
-            images.as_ptr(),
-            images.len(),
-            to_starts.as_mut_ptr(),
-            to_starts.len(),
-            to_images.as_mut_ptr(),
-            to_images.len(),
-        )
-    }
+    list_to_list!(zibewoka_inverse_list, n, starts, images, to_starts, to_images)
+}
+
+/// `zibewoka_next_list`.
+#[inline]
+pub fn next_list(n: u32, starts: &[u32], images: &[u32], to_starts: &mut [u32], to_images: &mut [u32]) -> NextAnswer {
+    list_to_list!(zibewoka_next_list, n, starts, images, to_starts, to_images)
 }
 
 // Calls an export that takes n, the three tables and more.

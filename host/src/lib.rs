@@ -2,10 +2,10 @@
 //!
 //! A run list is a length `n` with two slices of one length: run i sends the places from `starts[i]` up to the next start
 //! (or `n`) to as many places from `images[i]` on. [`check`] says whether a list is a permutation of the places below
-//! `n`; [`balance`] writes its balanced tables (starts, images, holders) into lent slices; [`find`], [`move_once`],
-//! [`moves`], [`inverse`] and [`weight`] walk through any tables, and [`questions`] finds and moves for many places in
-//! one call. Every function takes any numbers: where it cannot answer, it says why by a [`Refusal`] and has changed
-//! nothing that was lent.
+//! `n`; [`next_list`] goes from a list of a few places to the next; [`balance`] writes a list's balanced tables
+//! (starts, images, holders) into lent slices; [`find`], [`move_once`], [`moves`], [`inverse`] and [`weight`] walk through
+//! any tables, and [`questions`] finds and moves for many places in one call. Every function takes any numbers: where it
+//! cannot answer, it says why by a [`Refusal`] and has changed nothing that was lent.
 //!
 //! [`exports`] has the same functions with the answers as they cross the boundary.
 
@@ -36,13 +36,15 @@ struct Readme;
 /// | 5 | an image ends beyond `n` | lowest such run |
 /// | 6 | an image shares a place with another run's | lowest such run |
 /// | 7 | the degree is not 2 to 64 | the degree |
-/// | 8 | a lent table has fewer than B entries (inverse list: than k) | B (or k) |
+/// | 8 | a lent table has fewer than B entries (inverse list: than k; next list: than `n`) | B (or k, or `n`) |
 /// | 9 | `n` is 0, or the tables are empty, of unequal count, or above 32,768 entries | 0 |
 /// | 10 | there is no interval of that index | the index |
 /// | 11 | the place is not below `n`, outside the interval, or (find, questions) below the first start | the place |
 /// | 12 | the interval's entries do not fit: its holder, or where it leads | the interval |
 /// | 14 | no interval sends a place there | the place |
 /// | 16 | a question's place is below that of the one before | the question's index |
+/// | 17 | the next list is asked for of more than 7 places | `n` |
+/// | 18 | the next list is asked for of the last, the decreasing permutation | 0 |
 ///
 /// 13 and 15 are the numbers of bookmarks and of files, which have no export.
 #[derive(Clone, Copy, Debug, PartialEq, Eq, Hash)]
@@ -139,6 +141,40 @@ pub fn inverse_list(
 ) -> Result<(), Refusal> {
     let answer = exports::inverse_list(n, starts, images, to_starts, to_images);
     done(answer.number, answer.place)
+}
+
+/// Writes the list after the given one, and answers how many runs it has: of the permutations of `n` places, 1 to 7, in
+/// lexicographic order (by the image of place 0, then of place 1, and so on), each as a list of fewest runs. From the
+/// identity each comes once, n! lists in all.
+///
+/// The list comes to stand in the first entries of the lent tables, which have at least `n`; the others stay. The one that is
+/// handed in may be any legal list of its permutation.
+///
+/// ```
+/// let (mut starts, mut images) = (vec![0], vec![0]);
+/// let [mut to_starts, mut to_images] = [[0; 3]; 2];
+/// let mut lists = 1;
+/// while let Ok(k) = zibewoka::next_list(3, &starts, &images, &mut to_starts, &mut to_images) {
+///     (starts, images) = (to_starts[..k as usize].to_vec(), to_images[..k as usize].to_vec());
+///     lists += 1;
+/// }
+/// assert_eq!((lists, images), (6, vec![2, 1, 0]));
+/// ```
+///
+/// # Errors
+/// Numbers 1 to 6; then 17 where `n` is above 7; then 8 where a lent table has fewer than `n` entries; then 18 where the list
+/// is the last.
+#[inline]
+pub fn next_list(
+    n: u32,
+    starts: &[u32],
+    images: &[u32],
+    to_starts: &mut [u32],
+    to_images: &mut [u32],
+) -> Result<u32, Refusal> {
+    let answer = exports::next_list(n, starts, images, to_starts, to_images);
+    done(answer.number, answer.place)?;
+    Ok(answer.runs)
 }
 
 /// The interval that has `place`.

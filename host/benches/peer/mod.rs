@@ -158,6 +158,36 @@ fn fits(n: u32, starts: &[u32], images: &[u32], holders: &[u32]) -> Outcome<()> 
     Ok(())
 }
 
+/// Tests 1 to 6, 17, 8 and 18, and the next list: the values are changed in place, and written as maximal runs.
+#[inline(never)]
+pub fn next_list(n: u32, starts: &[u32], images: &[u32], to_starts: &mut [u32], to_images: &mut [u32]) -> Outcome<u32> {
+    check_into_order(n, starts, images)?;
+    if n > 7 {
+        return Err((17, n));
+    }
+    if to_starts.len().min(to_images.len()) < n as usize {
+        return Err((8, n));
+    }
+    let ends = starts[1..].iter().copied().chain([n]);
+    let mut values: Vec<u32> =
+        starts.iter().zip(ends).zip(images).flat_map(|((&s, e), &i)| (s..e).map(move |p| i + (p - s))).collect();
+    let Some(rise) = (1..values.len()).rev().find(|&p| values[p - 1] < values[p]) else {
+        return Err((18, 0));
+    };
+    let other = values.iter().rposition(|&v| values[rise - 1] < v).expect("the rise is above");
+    values.swap(rise - 1, other);
+    values[rise..].reverse();
+    let mut count = 0;
+    for (p, &value) in values.iter().enumerate() {
+        if p == 0 || value != values[p - 1] + 1 {
+            to_starts[count] = p as u32;
+            to_images[count] = value;
+            count += 1;
+        }
+    }
+    Ok(count as u32)
+}
+
 #[inline(never)]
 pub fn find(n: u32, starts: &[u32], images: &[u32], holders: &[u32], i: u32) -> Outcome<u32> {
     fits(n, starts, images, holders)?;

@@ -1,6 +1,8 @@
 //! The second program: documents 01 and 02 from their text alone, in the plainest way, to be compared with the library.
 //! Nothing of the library is used or copied; lists are walked from the front and every pair is looked at.
 
+use std::sync::OnceLock;
+
 /// What a call comes to: its result, or the number and the place.
 pub type Outcome<T, P = u32> = Result<T, (u32, P)>;
 
@@ -172,6 +174,58 @@ pub fn inverse_list(n: u32, starts: &[u32], images: &[u32], lent: [usize; 2]) ->
     let mut swapped: Vec<(u32, u32)> = images.iter().copied().zip(starts.iter().copied()).collect();
     swapped.sort();
     Ok(swapped.into_iter().unzip())
+}
+
+/// All permutations of n places.
+pub fn permutations(n: u32) -> Vec<Vec<u32>> {
+    if n == 0 {
+        return vec![vec![]];
+    }
+    let mut all = Vec::new();
+    for shorter in permutations(n - 1) {
+        for at in 0..=shorter.len() {
+            let mut longer = shorter.clone();
+            longer.insert(at, n - 1);
+            all.push(longer);
+        }
+    }
+    all
+}
+
+/// The same of up to 7 places, made once: `next_list` looks at all of them in each call.
+fn small_permutations(n: u32) -> &'static [Vec<u32>] {
+    static ALL: OnceLock<Vec<Vec<Vec<u32>>>> = OnceLock::new();
+    &ALL.get_or_init(|| (0..=7).map(permutations).collect())[n as usize]
+}
+
+/// The list of fewest runs of a permutation: a run begins where the image is not one above that of the place before.
+pub fn fewest_runs(permutation: &[u32]) -> (Vec<u32>, Vec<u32>) {
+    let begins = |p: &usize| *p == 0 || permutation[*p] != permutation[*p - 1] + 1;
+    (0..permutation.len()).filter(begins).map(|p| (p as u32, permutation[p])).unzip()
+}
+
+/// Where place p of a legal list goes.
+fn image_of(n: u32, starts: &[u32], images: &[u32], p: u32) -> u32 {
+    let x = (0..starts.len()).find(|&x| u64::from(p) < end(n, starts, x)).expect("the last run ends at n");
+    images[x] + (p - starts[x])
+}
+
+/// Tests 1 to 6, 17, 8 and 18, and the next list: starts, then images. The next permutation is the least of all that are
+/// above, "by the image of place 0, then of place 1, and so on", which is how Rust compares vectors.
+pub fn next_list(n: u32, starts: &[u32], images: &[u32], lent: [usize; 2]) -> Outcome<(Vec<u32>, Vec<u32>)> {
+    check(n, starts, images)?;
+    if n > 7 {
+        return Err((17, n));
+    }
+    if lent.iter().any(|&count| count < n as usize) {
+        return Err((8, n));
+    }
+    let permutation: Vec<u32> = (0..n).map(|p| image_of(n, starts, images, p)).collect();
+    if permutation.windows(2).all(|pair| pair[1] < pair[0]) {
+        return Err((18, 0));
+    }
+    let above = small_permutations(n).iter().filter(|other| **other > permutation).min();
+    Ok(fewest_runs(above.expect("one that rises somewhere is not the last")))
 }
 
 /// Test 9.

@@ -6,7 +6,7 @@ use crate::definition::{self as second, Outcome, Reached, Tables};
 use crate::random::{damage, damaged, legal, list_of, List, Random};
 use std::collections::BTreeMap;
 use zibewoka::exports::{
-    self, BalanceAnswer, IntervalAnswer, ListAnswer, MoveAnswer, MovesAnswer, QuestionsAnswer, WeightAnswer,
+    self, BalanceAnswer, IntervalAnswer, ListAnswer, MoveAnswer, MovesAnswer, NextAnswer, QuestionsAnswer, WeightAnswer,
 };
 use zibewoka::{Question, Refusal, Step};
 
@@ -32,6 +32,7 @@ struct Given {
     check: Numbers,
     balance: Numbers,
     inverse_list: Numbers,
+    next_list: Numbers,
     find: Numbers,
     step: Numbers,
     steps: Numbers,
@@ -118,6 +119,31 @@ impl Given {
         assert_eq!(safe, refusal(wanted.map(|_| ())));
         assert!(s == after_s && i == after_i, "the same through the wrapper");
         self.inverse_list.add(number);
+    }
+
+    /// The next list, as the library leaves it in the lent tables.
+    fn next_list(&mut self, r: &mut Random, list: &List, counts: [usize; 2]) -> Option<List> {
+        let List { n, starts, images } = list;
+        let wanted = second::next_list(*n, starts, images, counts);
+        let before = counts.map(|count| r.words(count));
+        let [mut s, mut i] = before.clone();
+        let answer = exports::next_list(*n, starts, images, &mut s, &mut i);
+        let [mut after_s, mut after_i] = before.clone();
+        let (number, place) = wanted.as_ref().err().copied().unwrap_or((0, 0));
+        let mut runs = 0;
+        if let Ok((to_starts, to_images)) = &wanted {
+            runs = to_starts.len() as u32;
+            after_s[..to_starts.len()].copy_from_slice(to_starts);
+            after_i[..to_images.len()].copy_from_slice(to_images);
+        }
+        assert_eq!(answer, NextAnswer { number, place, runs });
+        assert!(s == after_s && i == after_i, "the lent tables after the next list");
+        let [mut s, mut i] = before;
+        let safe = zibewoka::next_list(*n, starts, images, &mut s, &mut i);
+        assert_eq!(safe, refusal(wanted.as_ref().map(|_| runs).map_err(|&e| e)));
+        assert!(s == after_s && i == after_i, "the same through the wrapper");
+        self.next_list.add(number);
+        safe.ok().map(|k| List { n: *n, starts: s[..k as usize].to_vec(), images: i[..k as usize].to_vec() })
     }
 
     fn find(&mut self, n: u32, t: &Tables, i: u32) {
@@ -215,11 +241,15 @@ impl Given {
         let b = if d < 2 { k } else { second::bound(d, k) };
         let mut counts = [0; 4].map(|_| b + r.below(3) as usize);
         let mut pair = [0; 2].map(|_| k + r.below(3) as usize);
+        let places = list.n.min(8) as usize;
+        let mut places_pair = [0; 2].map(|_| places + r.below(3) as usize);
         if r.one_in(6) {
+            places_pair[r.below(2) as usize] = r.below(places as u64 + 1) as usize;
             counts[r.below(4) as usize] = r.below(b as u64 + 1) as usize;
             pair[r.below(2) as usize] = r.below(k as u64 + 1) as usize;
         }
         self.inverse_list(r, list, pair);
+        self.next_list(r, list, places_pair);
         let tables = self.balance(r, list, d, counts);
         assert!(*list == before, "the list stays");
         tables
@@ -257,6 +287,7 @@ impl Given {
         self.check.add_all(other.check);
         self.balance.add_all(other.balance);
         self.inverse_list.add_all(other.inverse_list);
+        self.next_list.add_all(other.next_list);
         self.find.add_all(other.find);
         self.step.add_all(other.step);
         self.steps.add_all(other.steps);
@@ -268,11 +299,12 @@ impl Given {
 
     /// Each export with the numbers that it can give, and how often each of them is given at least. A list of too many
     /// runs is long, and comes once.
-    fn all(&self) -> [(&'static str, &Numbers, &'static [u32], u32); 9] {
+    fn all(&self) -> [(&'static str, &Numbers, &'static [u32], u32); 10] {
         [
             ("check", &self.check, &[0, 1, 2, 3, 4, 5, 6], 1),
             ("balance", &self.balance, &[0, 1, 2, 3, 4, 5, 6, 7, 8], 1),
             ("inverse_list", &self.inverse_list, &[0, 1, 2, 3, 4, 5, 6, 8], 1),
+            ("next_list", &self.next_list, &[0, 1, 2, 3, 4, 5, 6, 8, 17, 18], 1),
             ("find", &self.find, &[0, 9, 11], 10_000),
             ("move", &self.step, &[0, 9, 10, 11, 12], 10_000),
             ("moves", &self.steps, &[0, 9, 10, 11, 12], 10_000),
@@ -534,22 +566,6 @@ fn weights_kept_from_cut_to_cut_are_those_of_the_list() {
     }
 }
 
-/// All permutations of n places.
-fn permutations(n: u32) -> Vec<Vec<u32>> {
-    if n == 0 {
-        return vec![vec![]];
-    }
-    let mut all = Vec::new();
-    for shorter in permutations(n - 1) {
-        for at in 0..=shorter.len() {
-            let mut longer = shorter.clone();
-            longer.insert(at, n - 1);
-            all.push(longer);
-        }
-    }
-    all
-}
-
 /// The lists of a permutation: a run must begin at each place whose image is not the next one, and may begin at others.
 fn lists(permutation: &[u32]) -> Vec<List> {
     let n = permutation.len();
@@ -566,16 +582,28 @@ fn lists(permutation: &[u32]) -> Vec<List> {
     all
 }
 
+/// Of all lists of a permutation one has the fewest runs, and that is the second program's.
+fn assert_fewest(all: &[List], permutation: &[u32]) {
+    let fewest = all.iter().map(|list| list.starts.len()).min().expect("there is a run for each place");
+    let mut short = all.iter().filter(|list| list.starts.len() == fewest);
+    let list = short.next().expect("one has the fewest");
+    assert!(short.next().is_none());
+    assert_eq!((list.starts.clone(), list.images.clone()), second::fewest_runs(permutation));
+}
+
 #[test]
 fn all_permutations_of_up_to_six_places() {
     let mut given = Given::default();
     let r = &mut Random::new(3);
-    for permutation in (1..=6).flat_map(permutations) {
+    for permutation in (1..=6).flat_map(second::permutations) {
         let n = permutation.len() as u32;
-        for (list, d) in lists(&permutation).into_iter().flat_map(|list| [(list.clone(), 2), (list, 3)]) {
+        let all = lists(&permutation);
+        assert_fewest(&all, &permutation);
+        for (list, d) in all.into_iter().flat_map(|list| [(list.clone(), 2), (list, 3)]) {
             let k = list.starts.len();
             given.check(&list);
             given.inverse_list(r, &list, [k, k + 1]);
+            given.next_list(r, &list, [n as usize, n as usize + 1]);
             let b = second::bound(d, k);
             let tables = given.balance(r, &list, d, [b, b + 1, b, b]).expect("a permutation's list is legal");
             let literally = second::balanced_literally(n, &list.starts, &list.images, d as usize);
@@ -583,6 +611,52 @@ fn all_permutations_of_up_to_six_places() {
             every_place(&mut given, r, &permutation, &tables, d);
         }
     }
+}
+
+/// From the identity all lists of n places, one call after the other: each permutation once, in order, as its list of fewest
+/// runs, up to the last, after which the call is refused.
+#[test]
+fn every_small_list() {
+    let mut given = Given::default();
+    let r = &mut Random::new(5);
+    for n in 1..=7 {
+        let mut all = second::permutations(n);
+        all.sort();
+        let mut list = Some(List { n, starts: vec![0], images: vec![0] });
+        for permutation in all {
+            let current = list.expect("one list for each permutation");
+            assert_eq!((current.starts.clone(), current.images.clone()), second::fewest_runs(&permutation));
+            list = given.next_list(r, &current, [n as usize; 2]);
+        }
+        assert!(list.is_none(), "none after the last");
+    }
+    assert_eq!(given.next_list.0, BTreeMap::from([(0, 5913 - 7), (18, 7)]));
+}
+
+/// What the next list comes to, with both tables of nines, of these counts.
+fn next(n: u32, starts: &[u32], images: &[u32], counts: [usize; 2]) -> (Result<u32, Refusal>, Vec<u32>, Vec<u32>) {
+    let [mut s, mut i] = counts.map(|count| vec![9; count]);
+    (zibewoka::next_list(n, starts, images, &mut s, &mut i), s, i)
+}
+
+#[test]
+fn known_next_lists() {
+    let refused = |number, place, counts: [usize; 2]| {
+        let [s, i] = counts.map(|count| vec![9; count]);
+        (Err(Refusal { number, place }), s, i)
+    };
+    assert_eq!(next(3, &[0], &[0], [3, 3]), (Ok(3), vec![0, 1, 2], vec![0, 2, 1]));
+    assert_eq!(next(3, &[0, 1, 2], &[0, 2, 1], [3, 3]), (Ok(3), vec![0, 1, 2], vec![1, 0, 2]));
+    assert_eq!(next(3, &[0, 1, 2], &[1, 0, 2], [3, 3]), (Ok(2), vec![0, 2, 9], vec![1, 0, 9]));
+    assert_eq!(next(3, &[0, 2], &[1, 0], [3, 3]), (Ok(2), vec![0, 1, 9], vec![2, 0, 9]));
+    assert_eq!(next(3, &[0, 1], &[2, 0], [3, 3]), (Ok(3), vec![0, 1, 2], vec![2, 1, 0]));
+    assert_eq!(next(3, &[0, 1, 2], &[2, 1, 0], [3, 3]), refused(18, 0, [3, 3]));
+    assert_eq!(next(4, &[0, 1, 2, 3], &[0, 1, 2, 3], [4, 4]), (Ok(3), vec![0, 2, 3, 9], vec![0, 3, 2, 9]));
+    assert_eq!(next(1, &[0], &[0], [1, 1]), refused(18, 0, [1, 1]));
+    assert_eq!(next(8, &[0], &[0], [0, 0]), refused(17, 8, [0, 0]));
+    assert_eq!(next(8, &[0, 2], &[0, 1], [0, 0]), refused(6, 0, [0, 0]));
+    assert_eq!(next(2, &[0, 1], &[1, 0], [1, 2]), refused(8, 2, [1, 2]));
+    assert_eq!(next(3, &[0, 1, 2, 3, 4, 5, 6, 7], &[0; 8], [3, 3]), refused(4, 3, [3, 3]));
 }
 
 /// Every export at every place and interval of a permutation's balanced tables, and the permutation itself.

@@ -1,0 +1,31 @@
+// The next list as a C function on numbers and slices, for a host program in Rust or C: thin above the proved operation.
+//
+// A slice passes as pointer and length. The answer is a struct by value: `number` 0 means done; else it is the paper's number,
+// `place` is the place given with it, and `runs` is 0. specs/Answers.antt says which answer each outcome is.
+mod answers;
+
+ghost use Rattle.runs.specs.Runs.{runs};
+ghost use Rattle.export_permutations.specs.Answers.{NextAnswered};
+
+// The answer: how many runs the next list has.
+#[repr(C)]
+pub struct NextAnswer {
+    pub number: u32,
+    pub place: u32,
+    pub runs: u32,
+}
+
+// Writes the next list to two lent tables.
+#[no_mangle]
+pub extern "C" fn zibewoka_next_list(
+    n: u32,
+    starts: &[u32],
+    images: &[u32],
+    to_starts: &mut [u32],
+    to_images: &mut [u32],
+) -> NextAnswer
+    ensures { λ r. ⌜ NextAnswered n (runs (now (starts .entry)) (now (images .entry)))
+        (now («to_starts» .entry)) (now («to_images» .entry)) (now («to_starts» .exit)) (now («to_images» .exit)) r ⌝ }
+{
+    answers::of_next(permutations::next_list(n, starts, images, to_starts, to_images))
+}
