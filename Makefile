@@ -1,6 +1,6 @@
 # make list FILE=..   the listing of a file of a run list
 # make test           the gate: layout, every proof from nothing, every must-fail edit, every program, the host's tests
-# make bench          each export beside a peer in safe Rust
+# make bench          calls of the library beside a peer in safe Rust
 
 FILE ?= examples/document.bin
 
