@@ -165,12 +165,21 @@ unsafe extern "C" {
 // Each function from here on, and the safe one over it, is inlined into the host's own crate: a call of an export is then
 // one call, whose answer need not pass through memory.
 
+// Calls an export: n, slices that are read, numbers, and slices that are lent.
+macro_rules! call {
+    ($export:ident, $n:ident, [$($read:ident),+], [$($number:ident),*], [$($lent:ident),*]) => {
+        // SAFETY: each pointer and length is that of a Rust slice, which lives for the call and which no other `&mut` shares; the
+        // functions are proved to keep within them, whatever numbers they hold.
+        unsafe {
+            $export($n, $($read.as_ptr(), $read.len(),)+ $($number,)* $($lent.as_mut_ptr(), $lent.len(),)*)
+        }
+    };
+}
+
 /// `zibewoka_check`.
 #[inline]
 pub fn check(n: u32, starts: &[u32], images: &[u32]) -> ListAnswer {
-    // SAFETY: here and below, each pointer and length is that of a Rust slice, which lives for the call and which no
-    // other `&mut` shares; the functions are proved to keep within them, whatever numbers they hold.
-    unsafe { zibewoka_check(n, starts.as_ptr(), starts.len(), images.as_ptr(), images.len()) }
+    call!(zibewoka_check, n, [starts, images], [], [])
 }
 
 /// `zibewoka_balance`.
@@ -186,45 +195,7 @@ pub fn balance(
     to_holders: &mut [u32],
     working: &mut [u32],
 ) -> BalanceAnswer {
-    // SAFETY: as in `check`.
-    unsafe {
-        zibewoka_balance(
-            n,
-            starts.as_ptr(),
-            starts.len(),
-            images.as_ptr(),
-            images.len(),
-            d,
-            to_starts.as_mut_ptr(),
-            to_starts.len(),
-            to_images.as_mut_ptr(),
-            to_images.len(),
-            to_holders.as_mut_ptr(),
-            to_holders.len(),
-            working.as_mut_ptr(),
-            working.len(),
-        )
-    }
-}
-
-// Calls an export that takes a list and writes another to two lent tables.
-macro_rules! list_to_list {
-    ($export:ident, $n:ident, $starts:ident, $images:ident, $to_starts:ident, $to_images:ident) => {
-        // SAFETY: as in `check`.
-        unsafe {
-            $export(
-                $n,
-                $starts.as_ptr(),
-                $starts.len(),
-                $images.as_ptr(),
-                $images.len(),
-                $to_starts.as_mut_ptr(),
-                $to_starts.len(),
-                $to_images.as_mut_ptr(),
-                $to_images.len(),
-            )
-        }
-    };
+    call!(zibewoka_balance, n, [starts, images], [d], [to_starts, to_images, to_holders, working])
 }
 
 /// `zibewoka_inverse_list`.
@@ -236,44 +207,25 @@ pub fn inverse_list(
     to_starts: &mut [u32],
     to_images: &mut [u32],
 ) -> ListAnswer {
-    list_to_list!(zibewoka_inverse_list, n, starts, images, to_starts, to_images)
+    call!(zibewoka_inverse_list, n, [starts, images], [], [to_starts, to_images])
 }
 
 /// `zibewoka_next_list`.
 #[inline]
 pub fn next_list(n: u32, starts: &[u32], images: &[u32], to_starts: &mut [u32], to_images: &mut [u32]) -> NextAnswer {
-    list_to_list!(zibewoka_next_list, n, starts, images, to_starts, to_images)
-}
-
-// Calls an export that takes n, the three tables and more.
-macro_rules! on_tables {
-    ($export:ident, $n:ident, $starts:ident, $images:ident, $holders:ident, $($more:expr),+) => {
-        // SAFETY: as in `check`.
-        unsafe {
-            $export(
-                $n,
-                $starts.as_ptr(),
-                $starts.len(),
-                $images.as_ptr(),
-                $images.len(),
-                $holders.as_ptr(),
-                $holders.len(),
-                $($more),+
-            )
-        }
-    };
+    call!(zibewoka_next_list, n, [starts, images], [], [to_starts, to_images])
 }
 
 /// `zibewoka_find`.
 #[inline]
 pub fn find(n: u32, starts: &[u32], images: &[u32], holders: &[u32], place: u32) -> IntervalAnswer {
-    on_tables!(zibewoka_find, n, starts, images, holders, place)
+    call!(zibewoka_find, n, [starts, images, holders], [place], [])
 }
 
 /// `zibewoka_move`.
 #[inline]
 pub fn move_once(n: u32, starts: &[u32], images: &[u32], holders: &[u32], interval: u32, place: u32) -> MoveAnswer {
-    on_tables!(zibewoka_move, n, starts, images, holders, interval, place)
+    call!(zibewoka_move, n, [starts, images, holders], [interval, place], [])
 }
 
 /// `zibewoka_moves`.
@@ -287,19 +239,19 @@ pub fn moves(
     place: u32,
     m: u32,
 ) -> MovesAnswer {
-    on_tables!(zibewoka_moves, n, starts, images, holders, interval, place, m)
+    call!(zibewoka_moves, n, [starts, images, holders], [interval, place, m], [])
 }
 
 /// `zibewoka_inverse`.
 #[inline]
 pub fn inverse(n: u32, starts: &[u32], images: &[u32], holders: &[u32], place: u32) -> IntervalAnswer {
-    on_tables!(zibewoka_inverse, n, starts, images, holders, place)
+    call!(zibewoka_inverse, n, [starts, images, holders], [place], [])
 }
 
 /// `zibewoka_weight`.
 #[inline]
 pub fn weight(n: u32, starts: &[u32], images: &[u32], holders: &[u32], interval: u32) -> WeightAnswer {
-    on_tables!(zibewoka_weight, n, starts, images, holders, interval)
+    call!(zibewoka_weight, n, [starts, images, holders], [interval], [])
 }
 
 /// `zibewoka_questions`.
@@ -311,5 +263,5 @@ pub fn questions(
     holders: &[u32],
     questions: &mut [Question],
 ) -> QuestionsAnswer {
-    on_tables!(zibewoka_questions, n, starts, images, holders, questions.as_mut_ptr(), questions.len())
+    call!(zibewoka_questions, n, [starts, images, holders], [], [questions])
 }

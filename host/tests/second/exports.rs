@@ -45,6 +45,21 @@ fn refusal<T, P: Into<u64>>(outcome: Outcome<T, P>) -> Result<T, Refusal> {
     outcome.map_err(|(number, place)| Refusal { number, place: place.into() })
 }
 
+/// Two lent tables of these counts with any numbers in them, and as a call that comes to this list leaves them.
+fn lent_pair(
+    r: &mut Random,
+    counts: [usize; 2],
+    wanted: &Outcome<(Vec<u32>, Vec<u32>)>,
+) -> ([Vec<u32>; 2], [Vec<u32>; 2]) {
+    let before = counts.map(|count| r.words(count));
+    let mut after = before.clone();
+    if let Ok((starts, images)) = wanted {
+        after[0][..starts.len()].copy_from_slice(starts);
+        after[1][..images.len()].copy_from_slice(images);
+    }
+    (before, after)
+}
+
 fn question([place, interval, to_place, to_interval, count, distance]: second::Record) -> Question {
     Question { place, interval, to_place, to_interval, count, distance }
 }
@@ -103,21 +118,16 @@ impl Given {
     fn inverse_list(&mut self, r: &mut Random, list: &List, counts: [usize; 2]) {
         let List { n, starts, images } = list;
         let wanted = second::inverse_list(*n, starts, images, counts);
-        let before = counts.map(|count| r.words(count));
+        let (before, after) = lent_pair(r, counts, &wanted);
         let [mut s, mut i] = before.clone();
         let answer = exports::inverse_list(*n, starts, images, &mut s, &mut i);
-        let [mut after_s, mut after_i] = before.clone();
         let (number, place) = wanted.as_ref().err().copied().unwrap_or((0, 0));
-        if let Ok((to_starts, to_images)) = &wanted {
-            after_s[..to_starts.len()].copy_from_slice(to_starts);
-            after_i[..to_images.len()].copy_from_slice(to_images);
-        }
         assert_eq!(answer, ListAnswer { number, place });
-        assert!(s == after_s && i == after_i, "the lent tables after the inverse list");
+        assert!([s, i] == after, "the lent tables after the inverse list");
         let [mut s, mut i] = before;
         let safe = zibewoka::inverse_list(*n, starts, images, &mut s, &mut i);
         assert_eq!(safe, refusal(wanted.map(|_| ())));
-        assert!(s == after_s && i == after_i, "the same through the wrapper");
+        assert!([s, i] == after, "the same through the wrapper");
         self.inverse_list.add(number);
     }
 
@@ -125,25 +135,21 @@ impl Given {
     fn next_list(&mut self, r: &mut Random, list: &List, counts: [usize; 2]) -> Option<List> {
         let List { n, starts, images } = list;
         let wanted = second::next_list(*n, starts, images, counts);
-        let before = counts.map(|count| r.words(count));
+        let (before, after) = lent_pair(r, counts, &wanted);
         let [mut s, mut i] = before.clone();
         let answer = exports::next_list(*n, starts, images, &mut s, &mut i);
-        let [mut after_s, mut after_i] = before.clone();
-        let (number, place) = wanted.as_ref().err().copied().unwrap_or((0, 0));
-        let mut runs = 0;
-        if let Ok((to_starts, to_images)) = &wanted {
-            runs = to_starts.len() as u32;
-            after_s[..to_starts.len()].copy_from_slice(to_starts);
-            after_i[..to_images.len()].copy_from_slice(to_images);
-        }
-        assert_eq!(answer, NextAnswer { number, place, runs });
-        assert!(s == after_s && i == after_i, "the lent tables after the next list");
-        let [mut s, mut i] = before;
-        let safe = zibewoka::next_list(*n, starts, images, &mut s, &mut i);
-        assert_eq!(safe, refusal(wanted.as_ref().map(|_| runs).map_err(|&e| e)));
-        assert!(s == after_s && i == after_i, "the same through the wrapper");
+        let wanted = wanted.map(|(to_starts, _)| to_starts.len() as u32);
+        let (number, place) = wanted.err().unwrap_or((0, 0));
+        assert_eq!(answer, NextAnswer { number, place, runs: wanted.unwrap_or(0) });
+        assert!([s, i] == after, "the lent tables after the next list");
+        let mut lent = before;
+        let [s, i] = &mut lent;
+        let safe = zibewoka::next_list(*n, starts, images, s, i);
+        assert_eq!(safe, refusal(wanted));
+        assert!(lent == after, "the same through the wrapper");
         self.next_list.add(number);
-        safe.ok().map(|k| List { n: *n, starts: s[..k as usize].to_vec(), images: i[..k as usize].to_vec() })
+        let [starts, images] = lent.map(|table| table[..answer.runs as usize].to_vec());
+        safe.ok().map(|_| List { n: *n, starts, images })
     }
 
     fn find(&mut self, n: u32, t: &Tables, i: u32) {
