@@ -6,10 +6,10 @@ use mathlib.Core.Logic.{_≢_}
 use mathlib.Core.List.{List, [], _∷_}
 use native.Mathlib.Omega.{arith}
 use lib.ListN.{length}
-use lib.Dec.{ltb, eqb}
+use lib.Dec.{eqb}
 use borrow.Author.Tests.{ltb-false, eq-eqb, ne-eqb, lt-ltb, le-ltb}
 use Rattle.order.specs.Lists.{All}
-use Rattle.outcomes.specs.Outcome.{Outcome, done, refused, Test, mapDone, anyShort, shortTest, judge, andThen, Long}
+use Rattle.outcomes.specs.Outcome.{Outcome, done, refused, Test, mapDone, shortTest, judge, andThen, Long}
 use Rattle.outcomes.specs.declared.Checked.{Checked}
 use Rattle.outcomes.specs.declared.Checked.the-variants.{Accepted, Refused as Stopped}
 use Rattle.lists.specs.Inverse.{inverseRuns, inverseListOf}
@@ -97,10 +97,10 @@ module _ (n : ℕ) (r : Runs) (a b : List ℕ) where
         go (refused k p) f e = writes-refused _ _ (nextOf n r a b) a b _ k p
             (next-parts n r a b ∙ ap (λ o. andThen o (λ _. laterOf n r a b)) (sym f)) e
 
-    pub listed-crowded : (a′ b′ : List ℕ) → o ≡ mapDone (λ q. tt) (inverseListOf n r a′ b′) → n ≤ maxPlaces → maxPlaces < countOf r
+    pub listed-more-runs : (a′ b′ : List ℕ) → o ≡ mapDone (λ q. tt) (inverseListOf n r a′ b′) → n ≤ maxPlaces → maxPlaces < countOf r
         → NextListed n r a b a b x
     unfolding andThen mapDone inverseListOf
-    listed-crowded a′ b′ f few h = go (checkOf n r) refl
+    listed-more-runs a′ b′ f few h = go (checkOf n r) refl
       where
         go : (p : Outcome (Unit {0})) → checkOf n r ≡ p → NextListed n r a b a b x
         go (done u) g = absurd (omega (arith, legal-few n r (accepted-legal n r g .0)))
@@ -149,14 +149,6 @@ unfolding testsUpTo listTests
 check-never n r p e = judge-never (checkTests n r) tt 18 p
     (λ e. omega arith, (λ e. omega arith, (λ e. omega arith, (λ e. omega arith, (λ e. omega arith, (λ e. omega arith, tt)))))) e
 
--- what tests 17 and 8 leave
-module _ (n : ℕ) (a b : List ℕ) where
-  passed-size : ltb maxPlaces n ≡ false → n ≤ maxPlaces
-  passed-size e = ltb-false maxPlaces n e
-
-  passed-room : anyShort n (a ∷ b ∷ []) ≡ false → Long n (a ∷ b ∷ [])
-  passed-room e = none-below n (length a ∷ length b ∷ []) e
-
 -- a call that is done: all tests passed, and the list given is the next one
 pub next-done : (n : ℕ) (r : Runs) (a b : List ℕ) (q : Runs) → nextOf n r a b ≡ done q
     → Legal n r × (n ≤ maxPlaces) × Long n (a ∷ b ∷ []) × (falls (valuesOf n r) ≡ false) × (q ≡ nextRuns n r)
@@ -170,8 +162,8 @@ next-done n r a b q e = go (checkOf n r) refl (sym (next-parts n r a b) ∙ e)
         let size = judge-first (sizeTest n) (shortTest n (a ∷ b ∷ []) ∷ lastTest (valuesOf n r) ∷ []) x q (sym f) in
         let room = judge-first (shortTest n (a ∷ b ∷ [])) (lastTest (valuesOf n r) ∷ []) x q (size .1) in (
           accepted-legal n r c .0,
-          passed-size n a b (size .0),
-          passed-room n a b (room .0),
+          ltb-false maxPlaces n (size .0),
+          none-below n (length a ∷ length b ∷ []) (room .0),
           judge-first (lastTest (valuesOf n r)) [] x q (room .1) .0,
           sym (judge-done (laterTests n r a b) x q f),
         )
@@ -189,7 +181,12 @@ next-eighteen n r a b p e = go (checkOf n r) refl (sym (next-parts n r a b) ∙ 
         let x = nextRuns n r in
         let size = judge-past (sizeTest n) (shortTest n (a ∷ b ∷ []) ∷ lastTest (valuesOf n r) ∷ []) x 18 p (λ z. omega arith) f in
         let room = judge-past (shortTest n (a ∷ b ∷ [])) (lastTest (valuesOf n r) ∷ []) x 18 p (λ z. omega arith) (size .1) in
-        let last = judge-met (lastTest (valuesOf n r)) [] x 18 p (done-refused x 18 p) (room .1) in
-        (accepted-legal n r c .0, passed-size n a b (size .0), passed-room n a b (room .0), last .0, sym (last .1))
+        let last = judge-met (lastTest (valuesOf n r)) [] x 18 p (done-refused x 18 p) (room .1) in (
+          accepted-legal n r c .0,
+          ltb-false maxPlaces n (size .0),
+          none-below n (length a ∷ length b ∷ []) (room .0),
+          last .0,
+          sym (last .1),
+        )
     go (refused k j) c f =
         let z : k ≡ 18 = cc in absurd (check-never n r j (subst (λ (m : ℕ). checkOf n r ≡ refused m j) z c))

@@ -5,7 +5,7 @@ use Rattle.outcomes.specs.Outcome.{done}
 use Rattle.outcomes.specs.Refusal.{checkedSays}
 use Rattle.runs.specs.Runs.{runs}
 use Rattle.runs.specs.Check.{checkOf}
-use Rattle.permutations.proofs.Outcomes.{listed-large, listed-crowded, listed-refused, listed-later}
+use Rattle.permutations.proofs.Outcomes.{listed-large, listed-more-runs, listed-refused, listed-later}
 use borrow.Author.Needs.{needs}
 use Rattle.permutations.proofs.next_list.Statement.{statement}
 use Rattle.permutations.proofs.next_list.Tie as tie
@@ -39,7 +39,7 @@ refuse-requires-2 c κs = search needs
 
 returns-2 : tie.Need-returns-2
 returns-2 c =
-    listed-crowded _ _ _ _ _ _ (c .refuse2 .ensures) _ _ (c .before .before .before .inverse-list .ensures .says) (omega arith) (omega arith)
+    listed-more-runs _ _ _ _ _ _ (c .refuse2 .ensures) _ _ (c .before .before .before .inverse-list .ensures .says) (omega arith) (omega arith)
 
 check-few-requires : tie.Need-check-few-requires
 check-few-requires c κs = omega arith
