@@ -1,5 +1,5 @@
-// Balancing into lent tables: the same permutation with more starts, so that a move through the table passes at most
-// 2d - 1 of them.
+// Balancing into lent tables: the same permutation with more starts, so that a move through the table reads at most
+// 2d of them.
 //
 // What balancing is stands in the crate cuts (specs/Balance), which finds where to cut; the tests, and what stands in each
 // lent table at exit, in specs/Lent. All is decided, from numbers alone, before a table is written.

@@ -10,7 +10,8 @@ use Rattle.order.proofs.Laws.{lt-or-le, or-false}
 use Rattle.outcomes.specs.Outcome.{Outcome, done, refused, judge, andThen}
 use Rattle.outcomes.proofs.Judging.{done-refused, judge-append, judge-done}
 use Rattle.tables.specs.Tables.{Tables}
-use Rattle.walks.specs.Move.{movedSays, stepOf, moveOf, moveTests}
+use Rattle.walks.specs.Move.{movedSays, stepOf, moveOf, moveTests, ReadsTo}
+use Rattle.walks.proofs.Moves.{move-reads}
 use Rattle.bookmarks.specs.Bookmark.{overflows, bookmarkOf, markAfter, Advances}
 use Rattle.bookmarks.specs.Parts.{markOf}
 use Rattle.walks.specs.declared.Step.{Step}
@@ -24,27 +25,27 @@ module _ (b : Bookmark) (s : Step) where
   overflows-moves e = simp (le-leb 4294967296 (b .moves + 1) (omega arith))
 
   -- the code asks whether the rest of 64 bits is too little, so that no sum wraps
-  pub overflows-passed : b .moves < 4294967295 → s .count < 18446744073709551616
-      → ltb (18446744073709551615 - s .count) (b .passed) ≡ overflows b s
+  pub overflows-count : b .moves < 4294967295 → s .count < 18446744073709551616
+      → ltb (18446744073709551615 - s .count) (b .count) ≡ overflows b s
   unfolding overflows
-  overflows-passed l m =
-      simp (lt-leb 4294967296 (b .moves + 1) (omega arith)) (go (lt-or-le (18446744073709551615 - s .count) (b .passed)))
+  overflows-count l m =
+      simp (lt-leb 4294967296 (b .moves + 1) (omega arith)) (go (lt-or-le (18446744073709551615 - s .count) (b .count)))
     where
-      go : (18446744073709551615 - s .count < b .passed) ⊎ (b .passed ≤ 18446744073709551615 - s .count)
-          → ltb (18446744073709551615 - s .count) (b .passed) ≡ leb 18446744073709551616 (b .passed + s .count)
-      go (inl h) = rw (lt-ltb _ _ h, le-leb 18446744073709551616 (b .passed + s .count) (omega arith))
-      go (inr h) = rw (le-ltb _ _ h, lt-leb 18446744073709551616 (b .passed + s .count) (omega arith))
+      go : (18446744073709551615 - s .count < b .count) ⊎ (b .count ≤ 18446744073709551615 - s .count)
+          → ltb (18446744073709551615 - s .count) (b .count) ≡ leb 18446744073709551616 (b .count + s .count)
+      go (inl h) = rw (lt-ltb _ _ h, le-leb 18446744073709551616 (b .count + s .count) (omega arith))
+      go (inr h) = rw (le-ltb _ _ h, lt-leb 18446744073709551616 (b .count + s .count) (omega arith))
 
-  pub no-overflow : b .moves + 1 < 2 ^ 32 → b .passed + s .count < 2 ^ 64 → overflows b s ≡ false
+  no-overflow : b .moves + 1 < 2 ^ 32 → b .count + s .count < 2 ^ 64 → overflows b s ≡ false
   unfolding overflows
   no-overflow l m = simp (lt-leb _ _ l, lt-leb _ _ m)
 
   module _ (t : Bool) (e : t ≡ overflows b s) where
-    pub room : t ≡ false → (b .moves + 1 < 4294967296) × (b .passed + s .count < 18446744073709551616)
+    pub room : t ≡ false → (b .moves + 1 < 4294967296) × (b .count + s .count < 18446744073709551616)
     unfolding overflows
     room f =
         let a = or-false (leb 4294967296 (b .moves + 1)) _ (sym e ∙ f) in
-        (leb-false 4294967296 (b .moves + 1) (a .0), leb-false 18446744073709551616 (b .passed + s .count) (a .1))
+        (leb-false 4294967296 (b .moves + 1) (a .0), leb-false 18446744073709551616 (b .count + s .count) (a .1))
 
     pub mark-overflow : t ≡ true → refused 13 0 ≡ markOf b s
     unfolding markOf judge
@@ -65,7 +66,7 @@ pub bookmark-kept : (n : ℕ) (t : Tables) (b : Bookmark) (m : Moved) (left : Bo
 bookmark-kept n t b m left a k p e = a .mark ∙ sym (after-refused b (bookmarkOf n t b) k p (sym e ∙ a .says))
 
 pub after-done : (b : Bookmark) (o : Outcome Step) (s : Step) → done s ≡ o
-    → record { place = s .place; interval = s .interval; distance = s .distance; moves = b .moves + 1; passed = b .passed + s .count }
+    → record { place = s .place; interval = s .interval; distance = s .distance; moves = b .moves + 1; count = b .count + s .count }
     ≡ markAfter b o
 unfolding markAfter
 after-done b o s e = rw (← e)
@@ -99,6 +100,15 @@ module _ (n : ℕ) (t : Tables) (b : Bookmark) where
           f ∙ ap done (sym z ∙ judge-done _ (stepOf t (b .interval) (b .place)) s g)
       go (refused k p) f g = absurd (done-refused s k p (sym g))
 
+  -- so it counts by the indexes, and the bookmark adds the count to its own
+  pub marked-reads : (m : Moved) (left : Bookmark) → Advances n t b m left → (s : Step) → movedSays m ≡ done s
+      → ReadsTo t (b .interval) (s .interval) (s .count) × (left .count ≡ b .count + s .count)
+  marked-reads m left a s e =
+      let f : bookmarkOf n t b ≡ done s = sym (a .says) ∙ e in (
+        move-reads n t (b .interval) (b .place) s (bookmark-moved s f),
+        ap (λ (w : Bookmark). w .count) (a .mark ∙ sym (after-done b (bookmarkOf n t b) s (sym f))),
+      )
+
   -- where the move is made, the counters decide
   pub bookmark-overflow : (s : Step) → moveOf n t (b .interval) (b .place) ≡ done s → 4294967295 ≤ b .moves
       → bookmarkOf n t b ≡ refused 13 0
@@ -106,5 +116,5 @@ module _ (n : ℕ) (t : Tables) (b : Bookmark) where
   bookmark-overflow s e h = sym (bookmark-on s (sym e)) ∙ simp (le-leb (2 ^ 32) (b .moves + 1) (omega arith))
 
   pub bookmark-goes : (s : Step) → moveOf n t (b .interval) (b .place) ≡ done s → b .moves + 1 < 2 ^ 32
-      → b .passed + s .count < 2 ^ 64 → bookmarkOf n t b ≡ done s
+      → b .count + s .count < 2 ^ 64 → bookmarkOf n t b ≡ done s
   bookmark-goes s e l m = sym (bookmark-on s (sym e)) ∙ sym (mark-on b s _ refl (no-overflow b s l m))

@@ -1,4 +1,4 @@
--- A bookmark's move (document 01, "Walking"), with the distance of document 02, A.2.
+-- A bookmark's move (document 01, "Walking"), with the distance of document 02, A.2, and its count of the starts read, A.4.
 use Prim.Native.Nat.{ℕ, zero, suc, _+_, _^_}
 use mathlib.Core.Path.{_≡_}
 use mathlib.Core.Bool.{Bool, _||_}
@@ -14,16 +14,16 @@ use Rattle.bookmarks.specs.declared.Marked.{Marked}
 
 -- a bookmark that has made no move yet; its distance g is any number, since no move reads it
 abbrev pub fresh : ℕ → ℕ → ℕ → Bookmark
-fresh p x g = record { place = p; interval = x; distance = g; moves = 0; passed = 0 }
+fresh p x g = record { place = p; interval = x; distance = g; moves = 0; count = 0 }
 
 -- a bookmark with another distance
 abbrev pub withDistance : ℕ → Bookmark → Bookmark
 withDistance g b =
-    record { place = b .place; interval = b .interval; distance = g; moves = b .moves; passed = b .passed }
+    record { place = b .place; interval = b .interval; distance = g; moves = b .moves; count = b .count }
 
--- 13: after the step the moves would not fit in 32 bits, or the starts passed not in 64
+-- 13: after the step the moves would not fit in 32 bits, or the starts read not in 64
 unfoldable pub overflows : Bookmark → Step → Bool
-overflows b s = leb (2 ^ 32) (b .moves + 1) || leb (2 ^ 64) (b .passed + s .count)
+overflows b s = leb (2 ^ 32) (b .moves + 1) || leb (2 ^ 64) (b .count + s .count)
 
 -- the tests of one move, then 13; the answer is that move's
 abbrev pub bookmarkTests : ℕ → Tables → Bookmark → List Test
@@ -36,7 +36,7 @@ bookmarkOf n t b = judge (bookmarkTests n t b) (stepOf t (b .interval) (b .place
 -- the bookmark after an answer: further by the step, or as it was
 unfoldable pub markAfter : Bookmark → Outcome Step → Bookmark
 markAfter b (done s) =
-    record { place = s .place; interval = s .interval; distance = s .distance; moves = b .moves + 1; passed = b .passed + s .count }
+    record { place = s .place; interval = s .interval; distance = s .distance; moves = b .moves + 1; count = b .count + s .count }
 markAfter b (refused k p) = b
 
 -- what a bookmark's move promises: the answer, and the bookmark that it leaves of b

@@ -9,14 +9,14 @@ ghost use mathlib.Core.Path.{_≡_};
 ghost use Rattle.tables.specs.Tables.{tables};
 ghost use Rattle.bookmarks.specs.Bookmark.{Advances, markedSays, markingsOf};
 
-// A walk that its owner keeps: where it stands, the moves made and the starts passed. A move writes the place's distance
-// from the interval's start and never reads it, so that a bookmark may begin with any number there.
+// A walk that its owner keeps: where it stands, the moves made, and how many starts they read. A move writes the place's distance
+// from the interval's start and never looks at it, so that a bookmark may begin with any number there.
 pub struct Bookmark {
     pub place: u32,
     pub interval: u32,
     pub distance: u32,
     pub moves: u32,
-    pub passed: u64,
+    pub count: u64,
 }
 
 // What a bookmark's move answers, and the bookmark after it.

@@ -17,7 +17,7 @@ fn would_overflow(b: Bookmark, s: Step) -> bool
     if b.moves == 4294967295 {
         return true;
     }
-    18446744073709551615 - s.count < b.passed
+    18446744073709551615 - s.count < b.count
 }
 
 // Test 13, and the bookmark further by the step.
@@ -36,7 +36,7 @@ pub(crate) fn mark(b: Bookmark, s: Step) -> Marked
             interval: s.interval,
             distance: s.distance,
             moves: b.moves + 1,
-            passed: b.passed + s.count,
+            count: b.count + s.count,
         },
         moved: Moved::To(s),
     }

@@ -1,4 +1,4 @@
--- What the moves of a plain walk count, call by call: if each passes at most b starts, so does every move of every list
+-- What the moves of a plain walk count, call by call: if each counts at most b starts, so does every move of every list
 -- of calls, and all counts together are at most b for each move.
 use Prim.Native.Nat.{ℕ, zero, suc, _+_, _*_, _≤_, _<_}
 use mathlib.Core.Path.{_≡_, refl, sym, ap, _∙_}

@@ -1,6 +1,7 @@
 -- Demand 2: acceptance is `check`'s own theorem (runs/proofs/Sequences, Intervals), and the walks through a list's own tables and
 -- through those of its balanced list are one theorem (Through), since both lists are legal and have one function. What holds
--- of distances and of questions on any tables is theirs (proofs/Distances of walks and bookmarks; questions/proofs/Agreeing, Passing).
+-- of counts, of distances and of questions on any tables is theirs (Moves and Distances of walks, Marks and Distances of bookmarks,
+-- Agreeing and Passing of questions, each in proofs/).
 use Prim.Native.Nat.{ℕ, _≤_}
 use mathlib.Core.Path.{refl, sym, _∙_}
 use native.Mathlib.Omega.{arith}
@@ -11,11 +12,13 @@ use Rattle.runs.proofs.Accepted.{accepted-legal}
 use Rattle.runs.proofs.Sequences.{accepted-sequence, sequence-accepted}
 use Rattle.runs.proofs.Intervals.{accepted-intervals, intervals-accepted}
 use Rattle.tables.specs.Tables.{maxIntervals}
+use Rattle.walks.proofs.Moves.{move-reads}
 use Rattle.walks.proofs.Distances.{move-lies, moves-lie}
+use Rattle.bookmarks.proofs.Marks.{marked-reads}
 use Rattle.bookmarks.proofs.Distances.{distance-unread, distance-forgotten, marked-lies, distances-unread, distances-forgotten, markings-lie, markings-left}
 use Rattle.files.proofs.Accepted.{file-accepted}
 use Rattle.questions.specs.Questions.{placesOf}
-use Rattle.questions.proofs.Agreeing.{records-agree, records-lie, unfound, unmoved}
+use Rattle.questions.proofs.Agreeing.{records-agree, records-lie, records-read, unfound, unmoved}
 use Rattle.questions.proofs.Passing.{passes-once}
 use Rattle.cuts.specs.Balance.{balanced}
 use Rattle.cuts.proofs.Balancing.{balanced-legal, balanced-map, balanced-cuts}
@@ -37,6 +40,9 @@ demand2 = record {
   accepted-file = file-accepted;
   own-tables = λ n r a. let l = accepted-legal n r a in through n r r (l .0) (l .0) (omega (arith, l .1)) (λ p h. refl);
   balanced-tables = λ n r d a many few. let l = accepted-legal n r a in through-balanced n r (l .0) (l .1) d many;
+  move-reads = move-reads;
+  bookmark-reads = marked-reads;
+  questions-read = records-read;
   move-distance = λ n t x i s e. move-lies n t x i s e;
   moves-distance = moves-lie;
   bookmark-distance = marked-lies;

@@ -1,6 +1,6 @@
 -- Demand 3. What `balance` promises puts the tables of the balanced list at the head of the lent ones; through these the
 -- single calls are the plain walk's, so whole lists of calls are (Serving, Marking); and since no interval is heavy, no
--- move passes more than 2d − 1 starts (Counting).
+-- move reads more than 2d starts (Counting).
 use Prim.Native.Nat.{ℕ, zero, suc, _*_, _≤_, _<_}
 use mathlib.Core.Path.{_≡_, refl, sym, ap, _∙_}
 use mathlib.Core.List.{List, [], _∷_, _++_, map}
@@ -27,7 +27,7 @@ use Rattle.balance.proofs.Outcomes.{balance-done}
 use Rattle.cuts.proofs.Balancing.{balanced-legal, balanced-map, balanced-light, balanced-count}
 use Rattle.demands.specs.Calls.{Call, total, countIn, Bounded}
 use Rattle.walks.specs.Plain.{maxCount, plainMove, plainMoves}
-use Rattle.walks.proofs.PlainMoves.{count-most}
+use Rattle.walks.proofs.LegalCounts.{count-most}
 use Rattle.demands.specs.PlainWalk.{walkCounts, plainTrail}
 use Rattle.demands.specs.Served.{served, servedTrail}
 use Rattle.demands.specs.Demands.{Through, Serves, Demand3}

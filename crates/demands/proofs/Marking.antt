@@ -1,5 +1,5 @@
 -- The moves of one bookmark are served as the plain walk answers them, and leave its five numbers. The counter of starts
--- passed never gets near its width: at most b starts for each of fewer than 2^32 moves, and b is no more than a table has.
+-- read never gets near its width: at most b starts for each of fewer than 2^32 moves, and b is no more than a table may have.
 use Prim.Native.Nat.{ℕ, zero, suc, _+_, _*_, _^_, _≤_, _<_}
 use mathlib.Core.Path.{_≡_, refl, sym, ap, _∙_}
 use mathlib.Core.Logic.{_⊎_, inl, inr}
@@ -41,15 +41,15 @@ pub record Stands (n b : ℕ) (r t : Runs) (w : Bookmark) : Type 0 where
   pub place : ℕ
   pub distance : ℕ
   pub moves : ℕ
-  pub passed : ℕ
-  pub is : w ≡ withDistance distance (standing n r t place moves passed)
+  pub count : ℕ
+  pub is : w ≡ withDistance distance (standing n r t place moves count)
   pub inside : place < n
   pub few : moves ≤ 4294967295
-  pub bounded : passed ≤ moves * b
+  pub bounded : count ≤ moves * b
 
 pub fresh-stands : (n b : ℕ) (r t : Runs) (p g : ℕ) → p < n → Stands n b r t (fresh p (runAt n t p) g)
 fresh-stands n b r t p g h =
-    record { place = p; distance = g; moves = 0; passed = 0; is = refl; inside = h; few = omega arith; bounded = omega arith }
+    record { place = p; distance = g; moves = 0; count = 0; is = refl; inside = h; few = omega arith; bounded = omega arith }
 
 -- one move of a bookmark that stands so
 module _ (n : ℕ) (r t : Runs) (τ : Tables)
@@ -111,7 +111,7 @@ module _ (n b : ℕ) (r t : Runs) (τ : Tables)
   turn : (w : Bookmark) → Stands n b r t w → Bounded b (markingOf n τ w) × Stands n b r t (markingOf n τ w .bookmark)
   turn w s =
       rw (s .is)
-      (go (s .place) (s .distance) (s .moves) (s .passed) (s .inside) (s .few) (s .bounded) (lt-or-le (s .moves) 4294967295))
+      (go (s .place) (s .distance) (s .moves) (s .count) (s .inside) (s .few) (s .bounded) (lt-or-le (s .moves) 4294967295))
     where
       go : (p g m c : ℕ) → p < n → m ≤ 4294967295 → c ≤ m * b → (m < 4294967295) ⊎ (4294967295 ≤ m)
           → Bounded b (markingOf n τ (withDistance g (standing n r t p m c)))
@@ -120,12 +120,12 @@ module _ (n b : ℕ) (r t : Runs) (τ : Tables)
           let f = sum-next p m c h e w in
           rw (mark-goes n r t τ move-to p g m c h (omega arith) (f .0)) (
             record { move = most p h; sum = f .1 },
-            record { place = mapOf n r p; distance = plainDistance n t (mapOf n r p); moves = m + 1; passed = c + plainMove n r t p .count; is = refl; inside = below p h; few = omega arith; bounded = f .1 },
+            record { place = mapOf n r p; distance = plainDistance n t (mapOf n r p); moves = m + 1; count = c + plainMove n r t p .count; is = refl; inside = below p h; few = omega arith; bounded = f .1 },
           )
       go p g m c h l w (inr e) =
           rw (mark-stays n r t τ move-to p g m c h e) (
             record { move = omega arith; sum = w },
-            record { place = p; distance = g; moves = m; passed = c; is = refl; inside = h; few = l; bounded = w },
+            record { place = p; distance = g; moves = m; count = c; is = refl; inside = h; few = l; bounded = w },
           )
 
   pub trail-bounds : (k : ℕ) (w : Bookmark) → Stands n b r t w → All (Bounded b) (servedTrail n τ k w)

@@ -18,7 +18,8 @@ use Rattle.questions.proofs.LegalQuestions.{legal-answers, legal-records}
 use Rattle.bookmarks.specs.declared.Bookmark.{Bookmark}
 use Rattle.bookmarks.specs.Bookmark.{fresh, withDistance, Marking, marking, markingOf, markingsOf}
 use Rattle.walks.specs.Plain.{plainDistance, plainMove, plainMoves}
-use Rattle.walks.proofs.PlainMoves.{move-same, count-few, moves-place, moves-below}
+use Rattle.walks.proofs.Moves.{move-count}
+use Rattle.walks.proofs.PlainMoves.{move-same, moves-place, moves-below}
 use Rattle.demands.specs.PlainWalk.{standing}
 use Rattle.demands.specs.Demands.{Through}
 use Rattle.demands.proofs.Marking.{mark-goes}
@@ -33,17 +34,19 @@ module _ (n : ℕ) (r t : Runs) (c : Legal n t) (same : (p : ℕ) → p < n → 
       ∙ ap (λ (u : Step). countedAfter (u .count) (plainMove n r t (u .place))) (steps-plain m p h)
 
 -- m moves of a bookmark that is fresh at p, by the moves of the list
-module _ (n : ℕ) (r t : Runs) (few : countOf t ≤ maxIntervals)
+module _ (n : ℕ) (r t : Runs)
     (move-to : (p : ℕ) → p < n → moveOf n (tablesOf n t) (runAt n t p) p ≡ done (plainMove n r t p))
     (power-below : (m p : ℕ) → p < n → powerOf n r m p < n) where
-  count-small : (p : ℕ) → plainMove n r t p .count ≤ maxIntervals
-  unfolding plainMove
-  count-small p = omega (arith, count-few n t p (mapOf n r p))
+  count-small : (p : ℕ) → p < n → plainMove n r t p .count ≤ maxIntervals
+  count-small p h = move-count n (tablesOf n t) (runAt n t p) p (plainMove n r t p) (sym (move-to p h))
 
-  counts-few : (m p : ℕ) → plainMoves n r t m p .count ≤ m * maxIntervals
+  counts-few : (m p : ℕ) → p < n → plainMoves n r t m p .count ≤ m * maxIntervals
   unfolding plainMoves
-  counts-few zero p = omega arith
-  counts-few (suc m) p = omega (arith, counts-few m p, count-small (plainMoves n r t m p .place))
+  counts-few zero p h = omega arith
+  counts-few (suc m) p h =
+      let q = plainMoves n r t m p .place in
+      let l : q < n = rw (moves-place n r t m p) (power-below m p h) in
+      omega (arith, counts-few m p h, count-small q l)
 
   counts-next : (m p : ℕ) → p < n
       → plainMoves n r t m p .count + plainMove n r t (powerOf n r m p) .count ≡ plainMoves n r t (suc m) p .count
@@ -59,7 +62,7 @@ module _ (n : ℕ) (r t : Runs) (few : countOf t ≤ maxIntervals)
       let q = powerOf n r m p in
       let c = plainMoves n r t m p .count in
       mark-goes n r t (tablesOf n t) move-to q g m c (power-below m p h) (omega arith)
-      (omega (arith, counts-few m p, count-small q))
+      (omega (arith, counts-few m p h, count-small q (power-below m p h)))
       ∙ rw (add-one, ← counts-next m p h)
 
   -- only before the first move is the distance another than the plain walk's
@@ -75,7 +78,7 @@ module _ (n : ℕ) (r t : Runs) (few : countOf t ≤ maxIntervals)
         ap (λ (b : Bookmark). markingOf n (tablesOf n t) b .bookmark) (w .1) ∙ ap (λ (k : Marking). k .bookmark) (next m p (w .0) h l),
       )
 
-  pub marks-are : (m p g : ℕ) → p < n → suc m < 2 ^ 32
+  marks-are : (m p g : ℕ) → p < n → suc m < 2 ^ 32
       → markingsOf n (tablesOf n t) (suc m) (fresh p (runAt n t p) g)
       ≡ marking (done (plainMove n r t (powerOf n r m p)))
       (standing n r t (powerOf n r (suc m) p) (suc m) (plainMoves n r t (suc m) p .count))
@@ -94,7 +97,7 @@ through n r t l c few same =
       move = move-to;
       moves = λ m p h. (legal-moves n t c few m p h ∙ ap done (steps-plain n r t c same m p h), moves-place n r t m p);
       bookmark = mark-goes n r t (tablesOf n t) move-to;
-      bookmark-moves = marks-are n r t few move-to (power-below n r l);
+      bookmark-moves = marks-are n r t move-to (power-below n r l);
       inverse = λ p h. ap (inverseOf n (tablesOf n t)) (sym (same p h)) ∙ legal-inverse n t c few p h;
       questions = legal-answers n t c few;
       records = legal-records n t c few r same;

@@ -39,7 +39,7 @@ countIn (moved o) = countOfMove o
 abbrev pub allCounts : List Reply → ℕ
 allCounts replies = total (map countIn replies)
 
--- A bookmark's move counts at most b starts, and the bookmark after it has passed at most b for each move it has made.
+-- A bookmark's move counts at most b starts, and the bookmark after it at most b for each move that it has made.
 pub record Bounded (b : ℕ) (m : Marking) : Type 0 where
   pub move : countOfMove (m .answer) ≤ b
-  pub sum : m .bookmark .passed ≤ m .bookmark .moves * b
+  pub sum : m .bookmark .count ≤ m .bookmark .moves * b

@@ -17,7 +17,7 @@ use Rattle.outcomes.specs.declared.Checked.{Checked}
 use Rattle.permutations.specs.Next.{nextTests, nextRuns, nextOf, nextSays, NextListed}
 use Rattle.permutations.specs.declared.Next.{Next}
 use Rattle.tables.specs.Tables.{Tables, tablesOf}
-use Rattle.walks.specs.Move.{movedSays, findTests, locateTests, moveTests, foundAt, stepOf, stayAt, findOf, moveOf, movesOf, Stopped, LiesIn}
+use Rattle.walks.specs.Move.{movedSays, findTests, locateTests, moveTests, foundAt, stepOf, stayAt, findOf, moveOf, movesOf, Stopped, ReadsTo, LiesIn}
 use Rattle.preimages.specs.Inverse.{sourceOf, inverseTests, inverseOf}
 use Rattle.weights.specs.Under.{underTests, underCount, weightOf, startsUnderOf}
 use Rattle.walks.specs.declared.Step.{Step}
@@ -134,6 +134,14 @@ pub record Demand2 : Type 0 where
   pub accepted-file : (bytes : List ℕ) (h : Header) → (fileOf maxRuns bytes ≡ done h) ↔ ((h ≡ headerOf bytes) × RightFile bytes)
   pub own-tables : (n : ℕ) (r : Runs) → checkOf n r ≡ done tt → Through n r r
   pub balanced-tables : (n : ℕ) (r : Runs) (d : ℕ) → checkOf n r ≡ done tt → 2 ≤ d → d ≤ 64 → Through n r (balanced d n r)
+  -- The count that a move answers, on any tables: the index of the interval reached minus the holder, which is not above it, and one
+  -- more unless that interval is the table's last. So it is for a bookmark, which adds it to its own, and for a question's record; a
+  -- repeated move's is the sum (`onwards`).
+  pub move-reads : (n : ℕ) (t : Tables) (x i : ℕ) (s : Step) → moveOf n t x i ≡ done s → ReadsTo t x (s .interval) (s .count)
+  pub bookmark-reads : (n : ℕ) (t : Tables) (b : Bookmark) (m : Moved) (left : Bookmark) → Advances n t b m left
+      → (s : Step) → movedSays m ≡ done s → ReadsTo t (b .interval) (s .interval) (s .count) × (left .count ≡ b .count + s .count)
+  pub questions-read : (n : ℕ) (t : Tables) (qs : List Question) (a : Answered) (left : List Question) → Answers n t qs a left
+      → (c : ℕ) → answeredSays a ≡ done c → All (λ q. ReadsTo t (q .interval) (q .«to_interval») (q .count)) left
   -- The distance that a call answers, on any tables: the interval reached is one of the table's, its start is not above the place
   -- reached, the difference is exact, and it is below the interval's length. A bookmark holds the same from its first move on.
   pub move-distance : (n : ℕ) (t : Tables) (x i : ℕ) (s : Step) → moveOf n t x i ≡ done s
@@ -176,8 +184,7 @@ pub record Demand2 : Type 0 where
 
 -- DEMAND 3. An accepted list of k runs, a degree from 2 to 64 and lent tables of at least B entries: balancing fits in B
 -- and leaves the same permutation. Any list of calls through the filled entries, refused ones included, is answered as the
--- plain walk answers it, each move passing at most 2d − 1 starts; and so for the moves of one bookmark, and for questions
--- together.
+-- plain walk answers it, each move reading at most 2d starts; and so for the moves of one bookmark, and for questions together.
 
 -- The tables τ serve, at degree d, the plain walk over the list r and the balanced list t, from any place p and the
 -- interval of t that has it.

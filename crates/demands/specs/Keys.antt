@@ -1,7 +1,8 @@
 -- The keys that are proved about the definitions: one table, one statement. Its rows are written from document 01: the keys
 -- that it marks to be proved, the example's listing, ψ, and both ends of a shift; and from document 02, what its text comes
--- to for questions together (A.1), the distance (A.2) and the next list (A.3). On the left stands what is asked of a definition, on the right
--- the numbers that the document gives, or that were worked out from it by hand.
+-- to for questions together (A.1), the distance (A.2), the next list (A.3) and the starts read (A.4), which every move here
+-- counts; what questions answer is still the starts passed in finding. On the left stands what is asked of a definition, on the
+-- right the numbers that the document gives, or that were worked out from it by hand.
 use Prim.Native.Nat.{ℕ, suc}
 use mathlib.Core.Path.{_≡_, refl}
 use mathlib.Core.List.{List, [], _∷_, _++_, map}
@@ -11,7 +12,8 @@ use Rattle.outcomes.specs.Outcome.{Outcome, done, refused, judge, mapDone, andT
 use Rattle.runs.specs.Runs.{Runs, runs, countOf, startOf, imageOf, shiftOf}
 use Rattle.runs.specs.Check.{unmatched, unordered, outOfRange, overlap, overlaps, listTests, testsUpTo, checkOf}
 use Rattle.tables.specs.Tables.{Tables, tables, tablesOf, holderOf, misshapen, outside, unheld, broken}
-use Rattle.walks.specs.Move.{passed, foundAt, unfindable, walkCount, stepTo, stepOf, moveOf, onwards, movesOf}
+use Rattle.walks.specs.Move.{passed, foundAt, unfindable, startsRead, walkCount, stepTo, stepOf, moveOf, onwards, movesOf}
+use Rattle.walks.specs.Plain.{plainMove, plainMoves}
 use Rattle.preimages.specs.Inverse.{sends, sourceOf, inverseOf}
 use Rattle.runs.specs.Weight.{weight}
 use Rattle.walks.specs.declared.Step.{Step}
@@ -45,15 +47,15 @@ abbrev pub recordsRow : List Question → List ℕ
 recordsRow [] = []
 recordsRow (q ∷ qs) = q .place ∷ q .interval ∷ q .«to_place» ∷ q .«to_interval» ∷ q .count ∷ q .distance ∷ recordsRow qs
 
--- an answer and a bookmark: its place, interval, distance, moves and starts passed
+-- an answer and a bookmark: its place, interval, distance, moves and starts read
 abbrev pub markingRow : Marking → List ℕ
 markingRow m =
     let b = m .bookmark in
-    movedRow (m .answer) ++ (b .place ∷ b .interval ∷ b .distance ∷ b .moves ∷ b .passed ∷ [])
+    movedRow (m .answer) ++ (b .place ∷ b .interval ∷ b .distance ∷ b .moves ∷ b .count ∷ [])
 
--- a bookmark whose counter of moves is full
-abbrev pub full : ℕ → ℕ → ℕ → Bookmark
-full p x g = record { place = p; interval = x; distance = g; moves = 4294967295; passed = 0 }
+-- a bookmark at place p of interval x, with distance g, whose m moves have read c starts
+abbrev pub kept : ℕ → ℕ → ℕ → ℕ → ℕ → Bookmark
+kept p x g m c = record { place = p; interval = x; distance = g; moves = m; count = c }
 
 -- records that ask about these places, with another number in the fields to be filled in; the answer, and what it leaves
 abbrev pub asked : ℕ → Question
@@ -154,18 +156,23 @@ keys =
     (listedRow 16 exampleTables 4 is 4 ∷ 8 ∷ 0 ∷ 1 ∷ 8 ∷ 0 ∷ 2 ∷ []) ∷
     (listedRow 16 exampleTables 5 is 5 ∷ 12 ∷ 4 ∷ 1 ∷ 8 ∷ 2 ∷ 2 ∷ []) ∷
     -- place 11, interval 4, one move and none; then four moves from place 0, by 14, 6, 8, and four from place 11, by 3, 13, 5
-    (movedRow (moveOf 16 exampleTables 4 11) is 0 ∷ 3 ∷ 1 ∷ 1 ∷ 1 ∷ []) ∷
+    (movedRow (moveOf 16 exampleTables 4 11) is 0 ∷ 3 ∷ 1 ∷ 1 ∷ 2 ∷ []) ∷
     (movedRow (movesOf 16 exampleTables 0 4 11) is 0 ∷ 11 ∷ 4 ∷ 3 ∷ 0 ∷ []) ∷
     (movedRow (movesOf 16 exampleTables 1 0 0) is 0 ∷ 14 ∷ 5 ∷ 2 ∷ 0 ∷ []) ∷
-    (movedRow (movesOf 16 exampleTables 2 0 0) is 0 ∷ 6 ∷ 3 ∷ 0 ∷ 1 ∷ []) ∷
-    (movedRow (movesOf 16 exampleTables 3 0 0) is 0 ∷ 8 ∷ 4 ∷ 0 ∷ 1 ∷ []) ∷
-    (movedRow (movesOf 16 exampleTables 4 0 0) is 0 ∷ 0 ∷ 0 ∷ 0 ∷ 1 ∷ []) ∷
-    (movedRow (movesOf 16 exampleTables 4 4 11) is 0 ∷ 11 ∷ 4 ∷ 3 ∷ 1 ∷ []) ∷
+    (movedRow (movesOf 16 exampleTables 2 0 0) is 0 ∷ 6 ∷ 3 ∷ 0 ∷ 2 ∷ []) ∷
+    (movedRow (movesOf 16 exampleTables 3 0 0) is 0 ∷ 8 ∷ 4 ∷ 0 ∷ 3 ∷ []) ∷
+    (movedRow (movesOf 16 exampleTables 4 0 0) is 0 ∷ 0 ∷ 0 ∷ 0 ∷ 4 ∷ []) ∷
+    (movedRow (movesOf 16 exampleTables 4 4 11) is 0 ∷ 11 ∷ 4 ∷ 3 ∷ 4 ∷ []) ∷
     (invertedRow (inverseOf 16 exampleTables 9) is 0 ∷ 7 ∷ 3 ∷ []) ∷
-    -- weight 3, no cut; the most starts that a move may pass
+    -- weight 3, no cut; the most starts that a move may read
     (weight 12 uncut 3 ∷ countOf (balanced 2 12 uncut) ∷ [] is 3 ∷ 4 ∷ []) ∷
     (countOf (balanced 2 15 fullest) ∷ [] is 5 ∷ []) ∷
-    (movedRow (moveOf 15 (tablesOf 15 (balanced 2 15 fullest)) 4 14) is 0 ∷ 7 ∷ 3 ∷ 0 ∷ 3 ∷ []) ∷
+    (movedRow (moveOf 15 (tablesOf 15 (balanced 2 15 fullest)) 4 14) is 0 ∷ 7 ∷ 3 ∷ 0 ∷ 4 ∷ []) ∷
+    -- the plain walk's own answers: place 11; four moves from place 0; the most starts; and a walk that ends with the starts
+    (movedRow (done (plainMove 16 example (listedTables .list) 11)) is 0 ∷ 3 ∷ 1 ∷ 1 ∷ 2 ∷ []) ∷
+    (movedRow (done (plainMoves 16 example (listedTables .list) 4 0)) is 0 ∷ 0 ∷ 0 ∷ 0 ∷ 4 ∷ []) ∷
+    (movedRow (done (plainMove 15 fullest fullest 14)) is 0 ∷ 7 ∷ 3 ∷ 0 ∷ 4 ∷ []) ∷
+    (movedRow (done (plainMove 45 psi psi 20)) is 0 ∷ 43 ∷ 12 ∷ 0 ∷ 1 ∷ []) ∷
     -- accepted and refused lists
     (checkedRow (checkOf 1 single) ++ (countOf (balanced 2 1 single) ∷ []) is 0 ∷ 1 ∷ []) ∷
     (checkedRow (checkOf 4 (halves (2 ∷ 0 ∷ []))) is 0 ∷ []) ∷
@@ -174,21 +181,28 @@ keys =
     -- both ends of a shift's range
     (checkedRow (checkOf 4294967295 furthestDown) ++ signedRow (shiftOf furthestDown 1) is 0 ∷ 1 ∷ 4294967294 ∷ []) ∷
     (checkedRow (checkOf 4294967295 furthestUp) ++ signedRow (shiftOf furthestUp 0) is 0 ∷ 0 ∷ 4294967294 ∷ []) ∷
-    -- ψ: no cut at d 2; place 15, interval 4, where it lies and where it goes
+    -- ψ: no cut at d 2; place 15, interval 4, where it lies and where it goes; place 20, interval 6, whose walk passes a start and
+    -- ends with the table
     (countOf (balanced 2 45 psi) ∷ [] is 13 ∷ []) ∷
     (movedRow (movesOf 45 (tablesOf 45 (balanced 2 45 psi)) 0 4 15) is 0 ∷ 15 ∷ 4 ∷ 3 ∷ 0 ∷ []) ∷
-    (movedRow (moveOf 45 (tablesOf 45 (balanced 2 45 psi)) 4 15) is 0 ∷ 35 ∷ 10 ∷ 1 ∷ 1 ∷ []) ∷
-    -- a bookmark whose distance is wrong: a move writes it, 13 keeps it; four moves, and none, which answer the right one
-    (markingRow (markingOf 16 listedTables (fresh 11 4 999)) is 0 ∷ 3 ∷ 1 ∷ 1 ∷ 1 ∷ 3 ∷ 1 ∷ 1 ∷ 1 ∷ 1 ∷ []) ∷
+    (movedRow (moveOf 45 (tablesOf 45 (balanced 2 45 psi)) 4 15) is 0 ∷ 35 ∷ 10 ∷ 1 ∷ 2 ∷ []) ∷
+    (movedRow (moveOf 45 (tablesOf 45 psi) 6 20) is 0 ∷ 43 ∷ 12 ∷ 0 ∷ 1 ∷ []) ∷
+    -- a bookmark whose distance is wrong: a move writes it, 13 of either counter keeps it, and a count may fill its counter; four
+    -- moves, and none, which answer the right one
+    (markingRow (markingOf 16 listedTables (fresh 11 4 999)) is 0 ∷ 3 ∷ 1 ∷ 1 ∷ 2 ∷ 3 ∷ 1 ∷ 1 ∷ 1 ∷ 2 ∷ []) ∷
     (markingRow (markingOf 16 listedTables (fresh 0 0 999)) is 0 ∷ 14 ∷ 5 ∷ 2 ∷ 0 ∷ 14 ∷ 5 ∷ 2 ∷ 1 ∷ 0 ∷ []) ∷
-    (markingRow (markingOf 16 listedTables (full 11 4 999)) is 13 ∷ 0 ∷ 11 ∷ 4 ∷ 999 ∷ 4294967295 ∷ 0 ∷ []) ∷
-    (markingRow (markingsOf 16 listedTables 4 (fresh 11 4 999)) is 0 ∷ 11 ∷ 4 ∷ 3 ∷ 0 ∷ 11 ∷ 4 ∷ 3 ∷ 4 ∷ 1 ∷ []) ∷
+    (markingRow (markingOf 16 listedTables (kept 11 4 999 4294967295 0)) is 13 ∷ 0 ∷ 11 ∷ 4 ∷ 999 ∷ 4294967295 ∷ 0 ∷ []) ∷
+    (markingRow (markingOf 16 listedTables (kept 11 4 999 3 18446744073709551614)) is
+    13 ∷ 0 ∷ 11 ∷ 4 ∷ 999 ∷ 3 ∷ 18446744073709551614 ∷ []) ∷
+    (markingRow (markingOf 16 listedTables (kept 11 4 999 3 18446744073709551613)) is
+    0 ∷ 3 ∷ 1 ∷ 1 ∷ 2 ∷ 3 ∷ 1 ∷ 1 ∷ 4 ∷ 18446744073709551615 ∷ []) ∷
+    (markingRow (markingsOf 16 listedTables 4 (fresh 11 4 999)) is 0 ∷ 11 ∷ 4 ∷ 3 ∷ 1 ∷ 11 ∷ 4 ∷ 3 ∷ 4 ∷ 4 ∷ []) ∷
     (markingRow (markingsOf 16 listedTables 0 (fresh 11 4 999)) is 0 ∷ 11 ∷ 4 ∷ 3 ∷ 0 ∷ 11 ∷ 4 ∷ 999 ∷ 0 ∷ 0 ∷ []) ∷
     -- questions together: the listing's tables, two places equal; no records
     (answeredRow 16 exampleTables (0 ∷ 3 ∷ 3 ∷ 11 ∷ 15 ∷ []) is 0 ∷ 5 ∷ []) ∷
     (leftRow 16 exampleTables (0 ∷ 3 ∷ 3 ∷ 11 ∷ 15 ∷ []) is
     0 ∷ 0 ∷ 14 ∷ 5 ∷ 0 ∷ 2 ∷ 3 ∷ 1 ∷ 13 ∷ 5 ∷ 0 ∷ 1 ∷ 3 ∷ 1 ∷ 13 ∷ 5 ∷ 0 ∷ 1 ∷
-    11 ∷ 4 ∷ 3 ∷ 1 ∷ 1 ∷ 1 ∷ 15 ∷ 5 ∷ 7 ∷ 3 ∷ 1 ∷ 1 ∷ []) ∷
+    11 ∷ 4 ∷ 3 ∷ 1 ∷ 2 ∷ 1 ∷ 15 ∷ 5 ∷ 7 ∷ 3 ∷ 2 ∷ 1 ∷ []) ∷
     (answeredRow 16 exampleTables [] is 0 ∷ 0 ∷ []) ∷
     -- the tables' own test comes first, for no records too; then places that fall, after one that is not below n and before
     -- one, and twice, and nothing is filled in; then two places not below n, and one below the first start
@@ -210,8 +224,8 @@ keys =
     -- starts in any order: found 0, 0, 2 and 3
     (answeredRow 16 mixedStarts (0 ∷ 5 ∷ 9 ∷ 13 ∷ []) is 0 ∷ 3 ∷ []) ∷
     (leftRow 16 mixedStarts (0 ∷ 5 ∷ 9 ∷ 13 ∷ []) is
-    0 ∷ 0 ∷ 0 ∷ 0 ∷ 0 ∷ 0 ∷ 5 ∷ 0 ∷ 5 ∷ 0 ∷ 0 ∷ 5 ∷
-    9 ∷ 2 ∷ 9 ∷ 2 ∷ 2 ∷ 5 ∷ 13 ∷ 3 ∷ 13 ∷ 3 ∷ 0 ∷ 1 ∷ []) ∷
+    0 ∷ 0 ∷ 0 ∷ 0 ∷ 1 ∷ 0 ∷ 5 ∷ 0 ∷ 5 ∷ 0 ∷ 1 ∷ 5 ∷
+    9 ∷ 2 ∷ 9 ∷ 2 ∷ 3 ∷ 5 ∷ 13 ∷ 3 ∷ 13 ∷ 3 ∷ 0 ∷ 1 ∷ []) ∷
     -- the next list, from the identity to the last of three places; entries beyond its runs stay
     (nextRow 3 single (nines 3) (nines 3) is 0 ∷ 3 ∷ 0 ∷ 1 ∷ 2 ∷ 0 ∷ 2 ∷ 1 ∷ []) ∷
     (nextRow 3 (runs (0 ∷ 1 ∷ 2 ∷ []) (0 ∷ 2 ∷ 1 ∷ [])) (nines 3) (nines 3) is 0 ∷ 3 ∷ 0 ∷ 1 ∷ 2 ∷ 1 ∷ 0 ∷ 2 ∷ []) ∷
@@ -237,5 +251,5 @@ keys =
     []
 
 pub keys-hold : map computed keys ≡ map given keys
-unfolding judge mapDone andThen unmatched unordered outOfRange overlap overlaps listTests testsUpTo misshapen outside unheld broken passed foundAt unfindable walkCount stepTo stepOf moveOf onwards movesOf sends sourceOf inverseOf overflows bookmarkOf markAfter markingOf markingsOf fallsAt unfindableAt brokenAt answersOf filledIn recordsAfter cutting balanced filled breaks maximalRuns valuesOf lastAscent lastAbove changed successor falls nextRuns nextOf listsFrom
+unfolding judge mapDone andThen unmatched unordered outOfRange overlap overlaps listTests testsUpTo misshapen outside unheld broken passed foundAt unfindable startsRead walkCount stepTo stepOf moveOf onwards movesOf plainMove plainMoves sends sourceOf inverseOf overflows bookmarkOf markAfter markingOf markingsOf fallsAt unfindableAt brokenAt answersOf filledIn recordsAfter cutting balanced filled breaks maximalRuns valuesOf lastAscent lastAbove changed successor falls nextRuns nextOf listsFrom
 keys-hold = refl

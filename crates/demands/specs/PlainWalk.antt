@@ -40,7 +40,7 @@ module _ (n : ℕ) (r t : Runs) where
 
   -- where the walk stands, as a bookmark: with the distance there, the moves made and the sum of their counts
   abbrev pub standing : ℕ → ℕ → ℕ → Bookmark
-  standing p m c = record { place = p; interval = runAt n t p; distance = plainDistance n t p; moves = m; passed = c }
+  standing p m c = record { place = p; interval = runAt n t p; distance = plainDistance n t p; moves = m; count = c }
 
   -- k moves of a bookmark. Its counter of moves holds 4,294,967,295: from there on each is 13 with place 0, and it stays.
   unfoldable pub plainTrail : ℕ → ℕ → ℕ → ℕ → List Marking

@@ -28,7 +28,7 @@ pub struct WeightAnswer {
     pub weight: u32,
 }
 
-// The answer of a move.
+// The answer of a move: the count is of the starts read.
 #[repr(C)]
 pub struct MoveAnswer {
     pub number: u32,
@@ -38,7 +38,7 @@ pub struct MoveAnswer {
     pub count: u32,
 }
 
-// The answer of a repeated move.
+// The answer of a repeated move: the count is of the starts that all moves read.
 #[repr(C)]
 pub struct MovesAnswer {
     pub number: u32,

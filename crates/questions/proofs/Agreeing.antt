@@ -6,6 +6,7 @@ use mathlib.Core.List.{List, [], _∷_, map}
 use native.Mathlib.Omega.{arith}
 use lib.ListN.{length}
 use Rattle.order.specs.Lists.{All}
+use Rattle.order.proofs.Laws.{all-map}
 use Rattle.outcomes.specs.Outcome.{done, refused, judge}
 use Rattle.outcomes.specs.Search.{firstBelow}
 use Rattle.outcomes.proofs.Judging.{done-refused, judge-past, judge-met}
@@ -14,9 +15,10 @@ use borrow.Author.Tests.{ltb-true}
 use Rattle.tables.specs.Tables.{Tables, shapeTest}
 use Rattle.tables.specs.Parts.{Shaped}
 use Rattle.tables.proofs.Passing.{shaped}
-use Rattle.walks.specs.Move.{foundAt, findOf, stepOf, moveOf, LiesIn}
+use Rattle.walks.specs.Move.{foundAt, findOf, stepOf, moveOf, ReadsTo, LiesIn}
 use Rattle.walks.proofs.Steps.{find-out, find-at}
 use Rattle.walks.proofs.Finding.{move-broken, move-on}
+use Rattle.walks.proofs.Moves.{move-reads}
 use Rattle.walks.proofs.Distances.{move-lies}
 use Rattle.questions.specs.declared.Question.{Question}
 use Rattle.questions.specs.declared.Answered.{Answered}
@@ -110,11 +112,13 @@ module _ (n : ℕ) (t : Tables) where
       let d = each-place DoneAlone qs (λ j h. (finds n t ps c f j h, moves n t ps c f j h)) in
       rw (w .records, ← f) (each-made (λ q. DoneAlone (q .place)) (Agrees n t) (filledIn t) filled-agrees qs d)
 
-  -- so a record's distance is as exact as the move's own
-  each-lies : (qs : List Question) → All (Agrees n t) qs → All (λ q. LiesIn n t (q .«to_interval») (q .«to_place») (q .distance)) qs
-  each-lies [] a = tt
-  each-lies (q ∷ qs) a = (move-lies n t (q .interval) (q .place) _ (a .0 .moved), each-lies qs (a .1))
-
+  -- so a record has the distance and the count of a move alone
   pub records-lie : (qs : List Question) (a : Answered) (left : List Question) → Answers n t qs a left
       → (c : ℕ) → answeredSays a ≡ done c → All (λ q. LiesIn n t (q .«to_interval») (q .«to_place») (q .distance)) left
-  records-lie qs a left w c e = each-lies left (records-agree qs a left w c e)
+  records-lie qs a left w c e =
+      all-map (Agrees n t) _ left (λ q g. move-lies n t (q .interval) (q .place) _ (g .moved)) (records-agree qs a left w c e)
+
+  pub records-read : (qs : List Question) (a : Answered) (left : List Question) → Answers n t qs a left
+      → (c : ℕ) → answeredSays a ≡ done c → All (λ q. ReadsTo t (q .interval) (q .«to_interval») (q .count)) left
+  records-read qs a left w c e =
+      all-map (Agrees n t) _ left (λ q g. move-reads n t (q .interval) (q .place) _ (g .moved)) (records-agree qs a left w c e)

@@ -1,4 +1,5 @@
--- Questions together, on any tables and any records (document 02, A.1, with the distance of A.2).
+-- Questions together, on any tables and any records (document 02, A.1, with the distance of A.2 and, in each record, the count of
+-- A.4).
 use Prim.Native.Nat.{ℕ, zero, suc, _-_}
 use mathlib.Core.Path.{_≡_}
 use mathlib.Core.Bool.{Bool}

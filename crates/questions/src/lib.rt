@@ -14,7 +14,7 @@ ghost use Rattle.tables.specs.Tables.{tables};
 ghost use Rattle.questions.specs.Questions.{Answers};
 
 // A question: its place is handed in, all else is filled in. The interval that has the place, and where a move from there
-// leads: the place and the interval reached, the starts passed on that walk, and the distance of the place reached from the
+// leads: the place and the interval reached, how many starts that walk read, and the distance of the place reached from the
 // start of that interval.
 #[repr(C)]
 pub struct Question {

@@ -40,14 +40,14 @@ pub(crate) fn weighed(a: Weighed) {
     }
 }
 
-// What a lent bookmark holds: place, interval, distance, moves, and starts passed.
+// What a lent bookmark holds: place, interval, distance, moves, and how many starts these read.
 fn mark(b: Bookmark) {
     out::text(b"now");
     out::number(b.place as u64);
     out::number(b.interval as u64);
     out::number(b.distance as u64);
     out::number(b.moves as u64);
-    out::number(b.passed);
+    out::number(b.count);
     out::end();
 }
 

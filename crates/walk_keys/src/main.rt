@@ -7,7 +7,7 @@
 //     inverse n j : starts : images : holders
 //     weight n x : starts : images : holders
 //     under n x : starts : images : holders
-//     bookmark n, place, interval, distance, moves, and starts passed as a high and a low number : starts : images : holders
+//     bookmark n, place, interval, distance, moves, and the count as a high and a low number : starts : images : holders
 //     bookmark-moves n, place, interval and distance of a fresh one, m : starts : images : holders
 //     questions n : starts : images : holders : places, at most eight
 //
@@ -22,18 +22,18 @@ ghost use Prim.Native.Nat.{_≤_};
 ghost use lib.ListN.{length};
 
 // A bookmark whose place, interval and distance stand behind n.
-fn bookmark_at(numbers: &[u32], moves: u32, passed: u64) -> Bookmark {
+fn bookmark_at(numbers: &[u32], moves: u32, count: u64) -> Bookmark {
     Bookmark {
         place: rows::number(numbers, 1),
         interval: rows::number(numbers, 2),
         distance: rows::number(numbers, 3),
         moves,
-        passed,
+        count,
     }
 }
 
-// Moves a bookmark, whose moves stand behind its distance, and behind them the starts passed, as two numbers of 32 bits, the high
-// one first.
+// Moves a bookmark, whose moves stand behind its distance, and behind them its count, as two numbers of 32 bits, the high one
+// first.
 fn advance(n: u32, numbers: &[u32], starts: &[u32], images: &[u32], holders: &[u32]) {
     let high = rows::number(numbers, 5) as u64;
     let low = rows::number(numbers, 6) as u64;

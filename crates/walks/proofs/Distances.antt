@@ -8,24 +8,19 @@ use Rattle.outcomes.proofs.Judging.{done-refused, judge-done}
 use Rattle.runs.specs.Runs.{distanceIn}
 use Rattle.tables.specs.Tables.{Tables}
 use Rattle.tables.specs.Parts.{Located}
-use Rattle.walks.specs.Move.{stepTo, stepOf, stayAt, locateTests, moveOf, movesOf, countedAfter, onwards, LiesIn}
-use Rattle.walks.specs.Parts.{advanceOf}
+use Rattle.walks.specs.Move.{stayAt, locateTests, moveOf, movesOf, countedAfter, onwards, LiesIn}
 use Rattle.walks.specs.declared.Step.{Step}
 use Rattle.walks.proofs.Steps.{located}
-use Rattle.walks.proofs.Moves.{step-is, step-located, move-made}
+use Rattle.walks.proofs.Moves.{step-apart, step-located, move-made}
 
 located-lies : (n : ℕ) (t : Tables) (x i : ℕ) → Located n t x i → LiesIn n t x i (distanceIn (t .list .starts) x i)
 located-lies n t x i l = record { index = l .at .index; exact = omega (arith, l .low); short = omega (arith, l .low, l .high) }
 
 module _ (n : ℕ) (t : Tables) (x i : ℕ) where
-  step-apart : (s : Step) → done s ≡ advanceOf n t x i → s .distance ≡ distanceIn (t .list .starts) (s .interval) (s .place)
-  unfolding stepOf stepTo
-  step-apart s e = rw (step-is n t x i s e .2)
-
   pub move-lies : (s : Step) → moveOf n t x i ≡ done s → LiesIn n t (s .interval) (s .place) (s .distance)
   move-lies s e =
       let m = move-made n t x i s (sym e) in
-      rw (step-apart s (m .1)) (located-lies n t (s .interval) (s .place) (step-located n t x i s (m .1) (m .0)))
+      rw (step-apart n t x i s (m .1)) (located-lies n t (s .interval) (s .place) (step-located n t x i s (m .1) (m .0)))
 
 pub moves-lie : (n : ℕ) (t : Tables) (m x i : ℕ) (s : Step) → movesOf n t m x i ≡ done s
     → LiesIn n t (s .interval) (s .place) (s .distance)

@@ -1,23 +1,24 @@
 -- Through the tables of a legal list, balanced or not, the walks give the list's function and its powers; no call on a
 -- place below n is refused. A holder is the index of the run that has the image, so a walk from it passes the starts up to
 -- the place reached (Walks).
-use Prim.Native.Nat.{ℕ, zero, suc, _+_, _≤_, _<_}
+use Prim.Native.Nat.{ℕ, zero, suc, _≤_, _<_}
 use mathlib.Core.Path.{_≡_, sym, ap, _∙_}
 use mathlib.Core.Bool.{false}
 use native.Mathlib.Omega.{arith}
 use Rattle.outcomes.specs.Outcome.{done, refused, mapDone, andThen}
-use Rattle.runs.specs.Runs.{Runs, countOf, imageOf, endOf, distanceIn, runAt, mapOf}
+use Rattle.runs.specs.Runs.{Runs, countOf, endOf, distanceIn, runAt, mapOf}
 use Rattle.runs.specs.Legal.{Legal}
 use Rattle.runs.proofs.Legality.{homes, run-at, own}
 use Rattle.runs.proofs.Bijection.{map-below}
 use Rattle.tables.specs.Tables.{tablesOf, maxIntervals, broken}
-use Rattle.walks.specs.Move.{passed, foundAt, walkCount, stepTo, stepOf, findOf, moveOf, movesOf, onwards}
-use Rattle.walks.specs.Plain.{plainCount, plainMove, plainMoves}
+use Rattle.walks.specs.Move.{passed, foundAt, stepTo, stepOf, findOf, moveOf, movesOf, onwards}
+use Rattle.walks.specs.Plain.{plainMove, plainMoves}
 use Rattle.tables.proofs.Passing.{whole}
 use Rattle.tables.proofs.LegalShape.{shape, legal-located, holder-is, legal-held}
+use Rattle.walks.proofs.LegalCounts.{legal-interval, legal-count}
 use Rattle.walks.proofs.Steps.{far, findable, find-out, find-at, locate-in, move-located, advance-on}
 use Rattle.walks.proofs.PlainMoves.{moves-interval, moves-below}
-use Rattle.runs.proofs.Walks.{walk-passed, walk-count, above-to, map-in}
+use Rattle.runs.proofs.Walks.{walk-passed, map-in}
 
 module _ (n : ℕ) (r : Runs) (c : Legal n r) (few : countOf r ≤ maxIntervals) where
   -- find gives the run that has the place
@@ -37,33 +38,17 @@ module _ (n : ℕ) (r : Runs) (c : Legal n r) (few : countOf r ≤ maxIntervals)
   pub legal-find-beyond : (i : ℕ) → n ≤ i → findOf n (tablesOf n r) i ≡ refused 11 i
   legal-find-beyond i h = sym (find-out n (tablesOf n r) i (shape n r c few) (far n (r .starts) i h))
 
-  -- a move gives the function's value, the run that has it, the distance there, and the starts above the image and not above it
+  -- a move gives the function's value, the run that has it, the distance there, and the count (LegalCounts)
   module _ (p : ℕ) (h : p < n) where
-    legal-count : walkCount (r .starts) (runAt n r (imageOf r (runAt n r p))) (mapOf n r p) ≡ plainCount n r p (mapOf n r p)
-    unfolding walkCount passed
-    legal-count =
-        let i = imageOf r (runAt n r p) in
-        let j = map-in n r c p h in
-        let w = walk-passed n r (homes n r c) i (mapOf n r p) (j .0) (j .2) in
-        omega (arith, walk-count n r (homes n r c) i (mapOf n r p) (j .0) (j .2), above-to i (mapOf n r p) (r .starts))
-
-    legal-interval : runAt n r (imageOf r (runAt n r p)) + passed (r .starts) (runAt n r (imageOf r (runAt n r p))) (mapOf n r p)
-        ≡ runAt n r (mapOf n r p)
-    unfolding passed
-    legal-interval =
-        let i = imageOf r (runAt n r p) in
-        let j = map-in n r c p h in
-        omega (arith, walk-passed n r (homes n r c) i (mapOf n r p) (j .0) (j .2))
-
     pub legal-step : stepOf (tablesOf n r) (runAt n r p) p ≡ plainMove n r r p
     unfolding stepOf stepTo plainMove
     legal-step =
         rw (holder-is n r c few (runAt n r p) (own n r c p h .0))
         (λ i. record {
           place = mapOf n r p;
-          interval = legal-interval i;
-          distance = distanceIn (r .starts) (legal-interval i) (mapOf n r p);
-          count = legal-count i;
+          interval = legal-interval n r c p h i;
+          distance = distanceIn (r .starts) (legal-interval n r c p h i) (mapOf n r p);
+          count = legal-count n r c p h i;
         })
 
     pub legal-whole : broken n (tablesOf n r) (runAt n r p) p ≡ false

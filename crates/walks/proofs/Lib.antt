@@ -1,8 +1,10 @@
 -- The laws of the walks.
 pub mod Reached
+pub mod StartsRead
 pub mod Steps
 pub mod Moves
 pub mod Distances
 pub mod Finding
 pub mod PlainMoves
+pub mod LegalCounts
 pub mod LegalTables

@@ -1,5 +1,5 @@
--- After a move the place lies in the interval reached; so a repeated move is a loop over the step, which can only meet
--- 12 on the way.
+-- After a move the place lies in the interval reached, and the count goes by the indexes; so a repeated move is a loop over the
+-- step, which can only meet 12 on the way.
 use Prim.Native.Nat.{ℕ, zero, suc, _+_, _*_, _≤_, _<_}
 use mathlib.Core.Path.{_≡_, refl, sym, ap, _∙_}
 use mathlib.Core.Bool.{Bool, true, false}
@@ -7,30 +7,38 @@ use mathlib.Core.Logic.{_↔_, _⊎_, inl, inr}
 use mathlib.Core.List.{[]}
 use native.Mathlib.Numerals.{add-one}
 use native.Mathlib.Omega.{arith}
-use Rattle.order.proofs.Laws.{lt-or-le}
+use lib.Dec.{ltb}
+use Rattle.order.proofs.Laws.{lt-or-le, bit-le}
 use Rattle.outcomes.specs.Outcome.{Outcome, done, refused, judge, mapDone, andThen, _then_else_}
-use Rattle.runs.specs.Runs.{carry}
+use Rattle.runs.specs.Runs.{distanceIn, carry}
 use Rattle.tables.specs.Tables.{Tables, sizeOf, holderOf, maxIntervals, unheld, broken, brokenTest}
-use Rattle.walks.specs.Move.{walkCount, stepTo, stayAt, stepOf, moveOf, movesOf, countedAfter, onwards, Stopped}
+use Rattle.walks.specs.Move.{passed, standAt, stepTo, stayAt, stepOf, moveOf, movesOf, countedAfter, onwards, Stopped, ReadsTo}
 use Rattle.tables.specs.Parts.{Shaped, Located}
 use Rattle.walks.specs.Parts.{advanceOf}
 use Rattle.walks.specs.declared.Step.{Step}
 use Rattle.outcomes.proofs.Judging.{done-refused, judge-first}
 use Rattle.tables.proofs.Passing.{whole-is, held-is}
 use Rattle.walks.proofs.Reached.{reached-index, reached-low, reached-high}
+use Rattle.walks.proofs.StartsRead.{count-is, count-to}
 use Rattle.walks.proofs.Steps.{locate-in, located, move-is, move-located, advance-broken}
 
--- a step from an interval that has its holder counts no more starts than there are
+-- a step from an interval that has its holder counts no more starts than a table may have
 pub held-count : (t : Tables) (x i : ℕ) → unheld t x ≡ false → sizeOf t ≤ maxIntervals → stepOf t x i .count ≤ maxIntervals
-unfolding stepOf stepTo walkCount
+unfolding stepOf stepTo
 held-count t x i u f =
     let h = held-is t x u in
-    let l = reached-index (t .list .starts) (holderOf t x) (carry (t .list) x i) (h .0) in
-    omega arith
+    let l = t .list .starts in
+    let j = carry (t .list) x i in
+    omega (
+      arith,
+      count-is l (holderOf t x) j (h .0),
+      reached-index l (holderOf t x) j (h .0),
+      bit-le (ltb (suc (holderOf t x + passed l (holderOf t x) j)) (sizeOf t)),
+    )
 
 -- a step that was made
 module _ (n : ℕ) (t : Tables) (x i : ℕ) (s : Step) (e : done s ≡ advanceOf n t x i) where
-  pub step-is : (unheld t x ≡ false) × (carry (t .list) x i < n) × (s ≡ stepOf t x i)
+  step-is : (unheld t x ≡ false) × (carry (t .list) x i < n) × (s ≡ stepOf t x i)
   unfolding advanceOf judge
   step-is =
       let f = judge-first (brokenTest n t x i) [] (stepOf t x i) s e in
@@ -51,7 +59,23 @@ module _ (n : ℕ) (t : Tables) (x i : ℕ) (s : Step) (e : done s ≡ advanceOf
         high = reached-high (t .list .starts) (holderOf t x) k (h .0) n (w .1);
       })
 
-  pub step-count : Shaped n t → s .count ≤ maxIntervals
+  -- it carries the distance of the place reached
+  pub step-apart : s .distance ≡ distanceIn (t .list .starts) (s .interval) (s .place)
+  unfolding stepOf stepTo
+  step-apart = rw (step-is .2)
+
+  -- it counts by the indexes, and the one reached is not below the holder
+  step-reads : ReadsTo t x (s .interval) (s .count)
+  unfolding stepOf stepTo
+  step-reads =
+      let w = step-is in
+      let h = held-is t x (w .0) in
+      rw (w .2) (record {
+        onward = omega arith;
+        exact = count-to (t .list .starts) (holderOf t x) (carry (t .list) x i) (h .0) _ refl;
+      })
+
+  step-count : Shaped n t → s .count ≤ maxIntervals
   step-count f = let w = step-is in rw (w .2) (held-count t x i (w .0) (f .few))
 
 -- a move that was made began at a place of its interval
@@ -65,7 +89,11 @@ move-made n t x i s e = go (movesOf n t 0 x i) refl (e ∙ move-is n t x i)
     go (done a) f g = (located n t x i a f, g)
     go (refused k p) f g = absurd (done-refused s k p g)
 
--- so is a move's count small
+-- so it counts by the indexes
+pub move-reads : (n : ℕ) (t : Tables) (x i : ℕ) (s : Step) → moveOf n t x i ≡ done s → ReadsTo t x (s .interval) (s .count)
+move-reads n t x i s e = step-reads n t x i s (move-made n t x i s (sym e) .1)
+
+-- and no more starts than a table may have
 pub move-count : (n : ℕ) (t : Tables) (x i : ℕ) (s : Step) → done s ≡ moveOf n t x i → s .count ≤ maxIntervals
 move-count n t x i s e = let m = move-made n t x i s e in step-count n t x i s (m .1) (m .0 .at .shape)
 
@@ -94,10 +122,9 @@ pub record Walking (n : ℕ) (t : Tables) (x i m : ℕ) (a : Step) (made : ℕ) 
   pub said : done a ≡ movesOf n t made x i
   pub small : a .count ≤ made * maxIntervals
 
-pub walking-start : (n : ℕ) (t : Tables) (x i m : ℕ) → Located n t x i
-    → (a : Step) → a ≡ stayAt (t .list .starts) x i → Walking n t x i m a 0
-walking-start n t x i m l a e =
-    rw e (record { within = omega arith; here = l; said = locate-in n t x i l; small = omega arith })
+pub walking-start : (n : ℕ) (t : Tables) (x i m : ℕ) → Located n t x i → Walking n t x i m (stayAt (t .list .starts) x i) 0
+walking-start n t x i m l =
+    record { within = omega arith; here = l; said = locate-in n t x i l; small = omega arith }
 
 module _ (n : ℕ) (t : Tables) (x i m : ℕ) (a : Step) (made : ℕ) (w : Walking n t x i m a made) where
   next-move : (o : Outcome Step) → o ≡ advanceOf n t (a .interval) (a .place)
@@ -114,10 +141,10 @@ module _ (n : ℕ) (t : Tables) (x i m : ℕ) (a : Step) (made : ℕ) (w : Walki
     pub walking-fits : made < 4294967296 → a .count + s .count < 18446744073709551616
     walking-fits h = omega (arith, walking-sum)
 
-    pub walking-more : (b : Step) → b ≡ countedAfter (a .count) s → Walking n t x i m b (made + 1)
+    pub walking-more : Walking n t x i m (standAt (t .list .starts) (s .interval) (s .place) (a .count + s .count)) (made + 1)
     unfolding mapDone
-    walking-more b f =
-        rw f (record {
+    walking-more =
+        rw (← step-apart n t (a .interval) (a .place) s e) (record {
           within = omega arith;
           here = step-located n t (a .interval) (a .place) s e (w .here);
           said = next-move (done s) e;

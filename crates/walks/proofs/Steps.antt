@@ -1,6 +1,6 @@
 -- What find and a move come to, by the facts that their tests show; and that after a move the place lies in the
 -- interval reached.
-use Prim.Native.Nat.{ℕ, _+_, _-_, _^_, _≤_, _<_}
+use Prim.Native.Nat.{ℕ, _^_, _≤_, _<_}
 use mathlib.Core.Path.{_≡_, refl, sym, _∙_}
 use mathlib.Core.Bool.{Bool, true, false}
 use mathlib.Core.List.{List, [], _∷_}
@@ -9,12 +9,13 @@ use lib.ListN.{getD}
 use lib.Dec.{leb, ltb}
 use borrow.Author.Tests.{le-ltb, le-leb, lt-leb, leb-false, ltb-false}
 use Rattle.outcomes.specs.Outcome.{done, refused, judge, andThen}
-use Rattle.runs.specs.Runs.{startOf, distanceIn, carry}
+use Rattle.runs.specs.Runs.{startOf, carry}
 use Rattle.tables.specs.Tables.{Tables, sizeOf, holderOf, misshapen, outside, broken, shapeTest, indexTest, placeTest, brokenTest}
 use Rattle.order.proofs.Laws.{or-false}
-use Rattle.walks.specs.Move.{passed, walkCount, stepTo, stayAt, foundAt, unfindable, findOf, stepOf, moveOf, movesOf, locateTests}
+use Rattle.walks.specs.Move.{walkedTo, standAt, stepTo, stayAt, foundAt, unfindable, findOf, stepOf, moveOf, movesOf, locateTests}
 use Rattle.tables.specs.Parts.{Shaped, Indexed, Located}
 use Rattle.walks.specs.Parts.{advanceOf, Movable}
+use Rattle.walks.specs.declared.reaching.Walked.{Walked}
 use Rattle.walks.specs.declared.Step.{Step}
 use Rattle.outcomes.proofs.Judging.{judge-append, judge-first}
 use Rattle.tables.proofs.Passing.{shaped, inside, inside-is, whole-is, held-is}
@@ -114,21 +115,19 @@ module _ (n : ℕ) (t : Tables) (x i : ℕ) where
         fits = omega (arith, w .1);
       }
 
--- such a move reaches an interval y that does not start above the place reached
-module _ (t : Tables) (x i y : ℕ) (m : Movable t x i)
-    (e : y ≡ holderOf t x + passed (t .list .starts) (holderOf t x) (carry (t .list) x i)) where
-  pub step-index : y < sizeOf t
+-- such a move reaches an interval that does not start above the place reached
+module _ (t : Tables) (x i : ℕ) (w : Walked) (m : Movable t x i)
+    (e : w ≡ walkedTo (t .list .starts) (holderOf t x) (carry (t .list) x i)) where
+  pub step-index : w .interval < sizeOf t
   step-index = rw e (reached-index (t .list .starts) (holderOf t x) (carry (t .list) x i) (held-is t x (m .held) .0))
 
-  pub step-low : startOf (t .list) y ≤ carry (t .list) x i
+  pub step-low : startOf (t .list) (w .interval) ≤ carry (t .list) x i
   step-low =
       let h = held-is t x (m .held) in
       rw e (reached-low (t .list .starts) (holderOf t x) (carry (t .list) x i) (h .0) (omega (arith, h .1)))
 
--- the step by its numbers: the holder, the place reached, and the interval reached
-pub step-by : (t : Tables) (x i h j y : ℕ) → h ≡ holderOf t x → j ≡ carry (t .list) x i → y ≡ h + passed (t .list .starts) h j
-    → record { place = j; interval = y; distance = distanceIn (t .list .starts) y j; count = y - h } ≡ stepOf t x i
-unfolding stepOf stepTo walkCount
-step-by t x i h j y p q r =
-    let z : y - h ≡ passed (t .list .starts) h j = omega arith in
-    rw z (simp (r, p, q))
+-- the step by its numbers: the place reached, and the walk to there from the holder
+pub step-by : (t : Tables) (x i j : ℕ) (w : Walked) → j ≡ carry (t .list) x i → w ≡ walkedTo (t .list .starts) (holderOf t x) j
+    → standAt (t .list .starts) (w .interval) j (w .count) ≡ stepOf t x i
+unfolding stepOf stepTo
+step-by t x i j w q e = rw (e, q)

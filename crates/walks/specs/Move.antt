@@ -1,16 +1,18 @@
--- Find, move and repeated move (document 01, "Walking"), on any tables, with the distance of document 02, A.2.
-use Prim.Native.Nat.{ℕ, zero, suc, _+_, _<_}
+-- Find, move and repeated move (document 01, "Walking"), on any tables, with the distance of document 02, A.2, and its count of
+-- the starts read, A.4.
+use Prim.Native.Nat.{ℕ, zero, suc, _+_, _-_, _≤_, _<_}
 use mathlib.Core.Path.{_≡_}
 use mathlib.Core.Bool.{Bool, _||_}
 use mathlib.Core.List.{List, [], _∷_}
 use lib.ListN.{drop, getD}
 use lib.Dec.{ltb, leb}
-use Rattle.outcomes.specs.Outcome.{Outcome, done, refused, Test, test, judge, mapDone, andThen}
+use Rattle.outcomes.specs.Outcome.{Outcome, done, refused, Test, test, judge, mapDone, andThen, _then_else_}
 use Rattle.outcomes.specs.Refusal.{refusalSays}
-use Rattle.order.specs.Lists.{leading}
+use Rattle.order.specs.Lists.{leading, bit}
 use Rattle.runs.specs.Runs.{startOf, lengthOf, distanceIn, carry}
 use Rattle.tables.specs.Tables.{Tables, sizeOf, holderOf, shapeTest, indexTest, placeTest, brokenTest}
 use Rattle.walks.specs.declared.Step.{Step}
+use Rattle.walks.specs.declared.reaching.Walked.{Walked}
 use Rattle.walks.specs.declared.Found.{Found}
 use Rattle.walks.specs.declared.Found.the-variants.{At, Refused as NotFound}
 use Rattle.walks.specs.declared.Moved.{Moved}
@@ -43,24 +45,40 @@ findTests n t i = shapeTest n t ∷ test 11 (unfindable n (t .list .starts) i) i
 unfoldable pub findOf : ℕ → Tables → ℕ → Outcome ℕ
 findOf n t i = judge (findTests n t i) (foundAt t i)
 
--- what a walk from interval h to place j counts: the starts passed
-unfoldable pub walkCount : List ℕ → ℕ → ℕ → ℕ
-walkCount starts h j = passed starts h j
+-- The starts read for place j, which are those compared with it: one after the other, until none is left or one lies above
+-- j. That one is read too, and ends the walk.
+unfoldable pub startsRead : List ℕ → ℕ → ℕ
+startsRead [] j = 0
+startsRead (s ∷ ss) j = suc (leb s j then startsRead ss j else 0)
 
--- The step of a walk from interval h to place j: the place, the interval reached, which lies as far from h as starts were
--- passed, the distance, which is the place reached minus the start of the interval reached, and the count.
+-- What a walk from interval h to place j counts: the starts that it reads, which stand behind that of h.
+unfoldable pub walkCount : List ℕ → ℕ → ℕ → ℕ
+walkCount starts h j = startsRead (drop (suc h) starts) j
+
+-- The same by the indexes, where the walk from h ends in interval x of k (proofs/StartsRead): one start for each interval gone
+-- past, and one more unless x is the last.
+abbrev pub readTo : ℕ → ℕ → ℕ → ℕ
+readTo k h x = x - h + bit (ltb (suc x) k)
+
+-- The walk from interval h to place j: the interval reached, which lies as far from h as starts are passed, and the count.
+abbrev pub walkedTo : List ℕ → ℕ → ℕ → Walked
+walkedTo starts h j = record { interval = h + passed starts h j; count = walkCount starts h j }
+
+-- at place i of interval x, with the distance, which is the place minus the interval's start, and a count
+abbrev pub standAt : List ℕ → ℕ → ℕ → ℕ → Step
+standAt starts x i c = record { place = i; interval = x; distance = distanceIn starts x i; count = c }
+
+-- The step of the walk from interval h to place j: it stands at j, in the interval reached.
 unfoldable pub stepTo : List ℕ → ℕ → ℕ → Step
-stepTo starts h j =
-    let x = h + passed starts h j in
-    record { place = j; interval = x; distance = distanceIn starts x j; count = walkCount starts h j }
+stepTo starts h j = let w = walkedTo starts h j in standAt starts (w .interval) j (w .count)
 
 -- Move: the step from the holder to the place reached.
 unfoldable pub stepOf : Tables → ℕ → ℕ → Step
 stepOf t x i = stepTo (t .list .starts) (holderOf t x) (carry (t .list) x i)
 
--- no move, at place i of interval x, with the distance from its start
+-- no move, at place i of interval x
 abbrev pub stayAt : List ℕ → ℕ → ℕ → Step
-stayAt starts x i = record { place = i; interval = x; distance = distanceIn starts x i; count = 0 }
+stayAt starts x i = standAt starts x i 0
 
 abbrev pub locateTests : ℕ → Tables → ℕ → ℕ → List Test
 locateTests n t x i = shapeTest n t ∷ indexTest t x ∷ placeTest n t x i ∷ []
@@ -95,6 +113,12 @@ pub record Stopped (n : ℕ) (t : Tables) (m x i number place : ℕ) : Type 0 wh
   pub stuck : moveOf n t (step .interval) (step .place) ≡ refused 12 (step .interval)
   pub twelve : number ≡ 12
   pub there : place ≡ step .interval
+
+-- What a count promises on any tables, where a move from interval x has reached interval y: y is not below the holder, and the count
+-- goes by the indexes.
+pub record ReadsTo (t : Tables) (x y c : ℕ) : Type 0 where
+  pub onward : holderOf t x ≤ y
+  pub exact : c ≡ readTo (sizeOf t) (holderOf t x) y
 
 -- What a distance promises on any tables: x is the index of an interval, place i lies exactly g places beyond its start, which is
 -- then not above i, and g is below the interval's length.

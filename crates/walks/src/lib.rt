@@ -4,6 +4,7 @@
 // list these are the list's function and its powers (proofs/LegalTables). The parts of find and of a move that questions share
 // with them stand last, and ask for what the tests before them show.
 mod locating;
+mod reaching;
 mod walk;
 
 use outcomes::Refusal;
@@ -15,7 +16,7 @@ ghost use Rattle.walks.specs.Move.{foundSays, movedSays, passed, unfinda
 ghost use Rattle.walks.specs.Parts.{Movable};
 
 // Where a move or a repeated move ends: the place, the interval that has it and the place's distance from the interval's
-// start; and how many interval starts it passed.
+// start; and how many interval starts it read, which is how many it compared with the places that it reached.
 pub struct Step {
     pub place: u32,
     pub interval: u32,
@@ -85,21 +86,13 @@ pub fn is_unfindable(n: u32, starts: &[u32], i: u32) -> bool
     i < starts[0]
 }
 
-// The interval that a walk from interval x for place i reaches: it goes on while there is a next one that does not start above
-// i. Most walks of a balanced table pass no start or few, and the next move waits for the interval: where none is passed that is
-// x itself, and otherwise x and a count that begins at 0, so that x is added once, at the end.
+// The interval that a walk from interval x for place i reaches, for our own crates.
 pub fn reach_from(starts: &[u32], x: u32, i: u32) -> u32
     requires { ⌜ (x < length (now starts)) × (length (now starts) ≤ maxIntervals) ⌝ }
     ensures { λ r. ⌜ r ≡ x + passed (now (starts .entry)) x i ⌝ }
 {
-    let next = x as usize + 1;
-    if starts.len() <= next {
-        return x;
-    }
-    if i < starts[next] {
-        return x;
-    }
-    x + (1 + order::stretch_length(starts, next + 1, i) as u32)
+    let walked = reaching::walk_from(starts, x, i);
+    walked.interval
 }
 
 // The step from place i of interval x where no test refuses it, for our own crates.
@@ -109,12 +102,6 @@ pub fn step_from(starts: &[u32], images: &[u32], holders: &[u32], x: u32, i: u32
 {
     let at = x as usize;
     let j = images[at] + (i - starts[at]);
-    let holder = holders[at];
-    let reached = reach_from(starts, holder, j);
-    Step {
-        place: j,
-        interval: reached,
-        distance: j - starts[reached as usize],
-        count: (reached - holder) as u64,
-    }
+    let walked = reaching::walk_from(starts, holders[at], j);
+    locating::stand(starts, walked.interval, j, walked.count)
 }

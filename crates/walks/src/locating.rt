@@ -1,4 +1,4 @@
-// The tests of 9 to 11 that a move begins with, and where no moves lead.
+// The tests of 9 to 11 that a move begins with, and the step that stands at a place.
 use super::Moved;
 use super::Step;
 use outcomes::Refusal;
@@ -6,18 +6,18 @@ ghost use mathlib.Core.Path.{_≡_};
 ghost use Prim.Native.Nat.{_≤_, _<_};
 ghost use lib.ListN.{length, getD};
 ghost use Rattle.tables.specs.Tables.{tables};
-ghost use Rattle.walks.specs.Move.{movedSays, movesOf, stayAt};
+ghost use Rattle.walks.specs.Move.{movedSays, movesOf, standAt};
 
-// Where no moves lead.
-pub(crate) fn stay(starts: &[u32], x: u32, i: u32) -> Step
+// Standing at place i of interval x, after walks of this count.
+pub(crate) fn stand(starts: &[u32], x: u32, i: u32, count: u64) -> Step
     requires { ⌜ (x < length (now starts)) × (getD (now starts) x 0 ≤ i) ⌝ }
-    ensures { λ r. ⌜ r ≡ stayAt (now (starts .entry)) x i ⌝ }
+    ensures { λ r. ⌜ r ≡ standAt (now (starts .entry)) x i count ⌝ }
 {
     Step {
         place: i,
         interval: x,
         distance: i - starts[x as usize],
-        count: 0,
+        count,
     }
 }
 
@@ -48,5 +48,5 @@ pub(crate) fn locate(
     if order::entry_or(starts, at + 1, n) <= i {
         return Moved::Refused(Refusal::PlaceRange(i)); // not below x's end
     }
-    Moved::To(stay(starts, x, i))
+    Moved::To(stand(starts, x, i, 0))
 }

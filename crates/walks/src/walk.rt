@@ -1,12 +1,10 @@
 // A move from a place that lies in its interval, and many of them.
 use super::Moved;
-use super::Step;
 use super::locating;
 use outcomes::Refusal;
 ghost use mathlib.Core.Path.{_≡_};
-ghost use Prim.Native.Nat.{_+_, _<_};
 ghost use Rattle.tables.specs.Tables.{tables};
-ghost use Rattle.walks.specs.Move.{movedSays, movesOf, countedAfter};
+ghost use Rattle.walks.specs.Move.{movedSays, movesOf};
 ghost use Rattle.tables.specs.Parts.{Located};
 ghost use Rattle.walks.specs.Parts.{advanceOf};
 
@@ -28,21 +26,8 @@ pub(crate) fn advance(
     Moved::To(super::step_from(starts, images, holders, x, i))
 }
 
-// A step with what was counted before it.
-fn counted(before: u64, s: Step) -> Step
-    requires { ⌜ before + s .count < 18446744073709551616 ⌝ }
-    ensures { λ r. ⌜ r ≡ countedAfter before s ⌝ }
-{
-    Step {
-        place: s.place,
-        interval: s.interval,
-        distance: s.distance,
-        count: before + s.count,
-    }
-}
-
 // m moves from a place that lies in interval x, with the sum of the counts. After a move the place lies in the interval
-// reached, so that only 12 is left to test.
+// reached, so that only 12 is left to test. Only the last move's distance is asked for, so that the loop keeps none.
 pub(crate) fn moves_from(
     n: u32,
     starts: &[u32],
@@ -55,14 +40,20 @@ pub(crate) fn moves_from(
     requires { ⌜ Located n (tables (now starts) (now images) (now holders)) x i ⌝ }
     ensures { λ r. ⌜ movedSays r ≡ movesOf n (tables (now (starts .entry)) (now (images .entry)) (now (holders .entry))) m x i ⌝ }
 {
-    let mut step = locating::stay(starts, x, i);
+    let mut place = i;
+    let mut interval = x;
+    let mut count: u64 = 0;
     let mut made: u32 = 0;
     while made < m {
-        match advance(n, starts, images, holders, step.interval, step.place) {
+        match advance(n, starts, images, holders, interval, place) {
             Moved::Refused(r) => return Moved::Refused(r),
-            Moved::To(next) => step = counted(step.count, next),
+            Moved::To(next) => {
+                place = next.place;
+                interval = next.interval;
+                count += next.count;
+            }
         }
         made += 1;
     }
-    Moved::To(step)
+    Moved::To(locating::stand(starts, interval, place, count))
 }

@@ -52,8 +52,8 @@ returns-5 c =
     let end = entry-after (a .starts .now) (a .x) (a .n) in
     locate-place _ _ _ _ s (omega arith) (outside-high _ _ _ _ (omega arith) (omega arith) (omega (arith, end)))
 
-stay-requires : tie.Need-stay-requires
-stay-requires c κs = search needs
+stand-requires : tie.Need-stand-requires
+stand-requires c κs = search needs
 
 returns-6 : tie.Need-returns-6
 returns-6 c =
@@ -61,7 +61,7 @@ returns-6 c =
     let s = shaped _ _ _ (e .before .is-misshapen .ensures) (e .if1 .left) in
     let a = e .before .before .before .before .before .args in
     let end = entry-after (a .starts .now) (a .x) (a .n) in
-    ap done (c .stay .ensures)
+    ap done (c .stand .ensures)
     ∙ locate-in _ _ _ _
     (record {
       at = record { shape = s; index = omega arith };
@@ -84,5 +84,5 @@ locate-spec =
     add-entry-or
     entry-or-requires
     returns-5
-    stay-requires
+    stand-requires
     returns-6)

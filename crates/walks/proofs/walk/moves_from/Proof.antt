@@ -1,8 +1,9 @@
--- `moves_from` meets its contract. The invariant is `Walking`: the place lies in its interval, and the step is what so
+-- `moves_from` meets its contract. The invariant is `Walking`: the place lies in its interval, and standing there is what so
 -- many moves come to.
 use Rattle.walks.proofs.Moves.{Walking, walking-start, walking-fits, walking-more, walking-refused, walking-end}
-use Rattle.walks.specs.Move.{movedSays}
+use Rattle.walks.specs.Move.{movedSays, standAt}
 use Rattle.tables.specs.Tables.{tables}
+use Rattle.outcomes.specs.Outcome.{done}
 use borrow.Author.Needs.{needs}
 use native.Mathlib.Omega.{arith}
 use mathlib.Core.Path.{sym, ap, _∙_}
@@ -11,17 +12,14 @@ use Rattle.walks.proofs.walk.moves_from.Statement.{statement}
 use Rattle.walks.proofs.walk.moves_from.Tie as tie
 
 abbrev Inv-loop : tie.InvT-loop
-Inv-loop n starts images holders x i m step₀ made₀ step made =
-    Walking n (tables starts images holders) x i m step made
+Inv-loop n starts images holders x i m place₀ interval₀ count₀ made₀ place interval count made =
+    Walking n (tables starts images holders) x i m (standAt starts interval place count) made
 
 abbrev μ-loop : tie.MeasureT-loop
-μ-loop n starts images holders x i m step₀ made₀ step made = m - made
-
-stay-requires : tie.Need-stay-requires Inv-loop μ-loop
-stay-requires c κs = search needs
+μ-loop n starts images holders x i m place₀ interval₀ count₀ made₀ place interval count made = m - made
 
 loop-holds : tie.Need-loop-holds Inv-loop μ-loop
-loop-holds c = walking-start _ _ _ _ _ (c .before .before .before .before .pre) _ (c .stay .ensures)
+loop-holds c = walking-start _ _ _ _ _ (search needs)
 
 advance-requires : tie.Need-advance-requires Inv-loop μ-loop
 advance-requires c κs = c .before .loop .inv .here
@@ -39,14 +37,13 @@ returns c =
 enum-known-next : tie.Need-enum-known-next Inv-loop μ-loop
 enum-known-next c = search needs
 
-counted-requires : tie.Need-counted-requires Inv-loop μ-loop
-counted-requires c κs =
-    let s = c .before in
+add-count : tie.Need-add-count Inv-loop μ-loop
+add-count c =
+    let s = c .before .before in
     let a = s .before .before in
     let l = a .before .before in
     let e = ap movedSays (sym (s .next .given .1)) ∙ a .advance .ensures in
-    let begun = l .before .before .before .before .before in
-    walking-fits _ _ _ _ _ _ _ (l .loop .inv) _ e (a .before .loop-test .taken) (omega (arith, begun .fits .m))
+    omega (arith, walking-fits _ _ _ _ _ _ _ (l .loop .inv) _ e (a .before .loop-test .taken) (omega arith))
 
 add-made : tie.Need-add-made Inv-loop μ-loop
 add-made c = omega arith
@@ -60,10 +57,15 @@ loop-again c =
     let a = s .before .before in
     let l = a .before .before in
     let e = ap movedSays (sym (s .next .given .1)) ∙ a .advance .ensures in
-    walking-more _ _ _ _ _ _ _ (l .loop .inv) _ e (a .before .loop-test .taken) _ (c .counted .ensures)
+    walking-more _ _ _ _ _ _ _ (l .loop .inv) _ e (a .before .loop-test .taken)
+
+stand-requires : tie.Need-stand-requires Inv-loop μ-loop
+stand-requires c κs =
+    let here = c .before .loop .inv .here in
+    (here .at .index, here .low)
 
 returns-2 : tie.Need-returns-2 Inv-loop μ-loop
-returns-2 c = walking-end _ _ _ _ _ _ _ (c .before .loop .inv) (omega arith)
+returns-2 c = ap done (c .stand .ensures) ∙ walking-end _ _ _ _ _ _ _ (c .before .before .loop .inv) (omega arith)
 
 pub moves-from-spec : {M : Type 1} → statement M
 moves-from-spec =
@@ -71,14 +73,14 @@ moves-from-spec =
     (tie.spec
     Inv-loop
     μ-loop
-    stay-requires
     loop-holds
     advance-requires
     enum-known-r
     returns
     enum-known-next
-    counted-requires
+    add-count
     add-made
     loop-less
     loop-again
+    stand-requires
     returns-2)
