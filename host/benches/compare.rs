@@ -144,8 +144,8 @@ fn questions(r: &mut Random, n: u32, k: usize) -> Vec<Question> {
 /// The peer refuses as the library does: no places at all, places that fall, a place beyond n, intervals without a holder.
 fn assert_refused_alike(n: u32, s: &[u32], i: &[u32], h: &[u32], asked: &[Question]) {
     let falling: Vec<Question> = asked.iter().rev().copied().collect();
-    let torn = vec![u32::MAX; h.len()];
-    for (number, n, h, asked) in [(9, 0, h, asked), (16, n, h, &falling), (11, 1, h, asked), (12, n, &torn, asked)] {
+    let broken = vec![u32::MAX; h.len()];
+    for (number, n, h, asked) in [(9, 0, h, asked), (16, n, h, &falling), (11, 1, h, asked), (12, n, &broken, asked)] {
         let [mut records, mut peer_records] = [asked.to_vec(), asked.to_vec()];
         let refused = zibewoka::questions(n, s, i, h, &mut records).expect_err("damaged");
         assert_eq!(refused.number, number);

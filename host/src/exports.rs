@@ -74,7 +74,7 @@ pub struct MoveAnswer {
     pub interval: u32,
     /// How far the place lies from the interval's start.
     pub distance: u32,
-    /// How many starts the walk passed.
+    /// How many starts the walk read: those that it compared with the place reached.
     pub count: u32,
 }
 
@@ -90,7 +90,7 @@ pub struct MovesAnswer {
     pub interval: u32,
     /// How far the place lies from the interval's start.
     pub distance: u32,
-    /// How many starts all moves together passed.
+    /// How many starts all moves together read.
     pub count: u64,
 }
 
@@ -106,7 +106,7 @@ pub struct Question {
     pub to_place: u32,
     /// The interval that has that one.
     pub to_interval: u32,
-    /// How many starts the move's walk passed.
+    /// How many starts the move's walk read.
     pub count: u32,
     /// How far the place reached lies from the start of the interval reached.
     pub distance: u32,

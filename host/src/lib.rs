@@ -82,7 +82,8 @@ pub struct Step {
     pub interval: u32,
     /// How far the place lies from the interval's start; that start is `place - distance`.
     pub distance: u32,
-    /// How many interval starts were passed on the way.
+    /// How many interval starts were read on the way, which is how many were compared with the place reached: those that
+    /// the walk passed, and the one that ended it, if there is one behind the interval reached. Of several moves, the sum.
     pub count: u64,
 }
 
@@ -262,7 +263,7 @@ pub fn weight(n: u32, starts: &[u32], images: &[u32], holders: &[u32], interval:
 /// let (starts, images, holders) = ([0, 2, 4, 6, 8, 12], [14, 12, 10, 8, 0, 4], [5, 5, 4, 4, 0, 2]);
 /// let mut records = [3, 11].map(|place| Question { place, ..Question::default() });
 /// assert_eq!(zibewoka::questions(16, &starts, &images, &holders, &mut records), Ok(4));
-/// assert_eq!(records[1], Question { place: 11, interval: 4, to_place: 3, to_interval: 1, count: 1, distance: 1 });
+/// assert_eq!(records[1], Question { place: 11, interval: 4, to_place: 3, to_interval: 1, count: 2, distance: 1 });
 /// ```
 ///
 /// # Errors

@@ -232,6 +232,13 @@ fn on_from(starts: &[u32], from: usize, j: u32) -> usize {
     reached
 }
 
+/// How many starts are read from the holder to the interval reached: those gone past, and the one that ends the walk, if there
+/// is one.
+#[inline(always)]
+fn starts_read(starts: &[u32], holder: usize, reached: usize) -> usize {
+    reached - holder + usize::from(reached + 1 < starts.len())
+}
+
 /// Where a move or a repeated move ends: the place, the interval, the distance from its start, and the count.
 pub struct Step<C> {
     pub place: u32,
@@ -253,7 +260,10 @@ pub fn move_once(n: u32, starts: &[u32], images: &[u32], holders: &[u32], x: u32
     located(n, starts, images, holders, x, i)?;
     match step(n, starts, images, holders, x as usize, i) {
         None => Err((12, x)),
-        Some((j, y, h)) => Ok(Step { place: j, interval: y as u32, distance: j - starts[y], count: (y - h) as u32 }),
+        Some((j, y, h)) => {
+            let count = starts_read(starts, h, y) as u32;
+            Ok(Step { place: j, interval: y as u32, distance: j - starts[y], count })
+        }
     }
 }
 
@@ -267,7 +277,7 @@ pub fn moves(n: u32, starts: &[u32], images: &[u32], holders: &[u32], x: u32, i:
         let Some((j, y, h)) = step(n, starts, images, holders, interval, place) else {
             return Err((12, interval as u32));
         };
-        (place, interval, count) = (j, y, count + (y - h) as u64);
+        (place, interval, count) = (j, y, count + starts_read(starts, h, y) as u64);
     }
     Ok(Step { place, interval: interval as u32, distance: place - starts[interval], count })
 }
@@ -313,7 +323,7 @@ pub fn questions(
             interval: x as u32,
             to_place: j,
             to_interval: y as u32,
-            count: (y - h) as u32,
+            count: starts_read(starts, h, y) as u32,
             distance: j - starts[y],
         };
     }

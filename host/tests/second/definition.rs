@@ -269,7 +269,7 @@ fn stands(n: u32, t: &Tables, x: u32, i: u32) -> Outcome<()> {
 }
 
 /// Where a walk ends: the place and the interval reached, the distance, "the place reached minus the start of the interval
-/// reached", and the starts passed.
+/// reached", and the count, "each start it compares with the place reached".
 #[derive(Clone, Copy, Debug, PartialEq, Eq)]
 pub struct Reached {
     pub place: u32,
@@ -291,13 +291,24 @@ pub fn step(n: u32, t: &Tables, x: u32, i: u32) -> Outcome<Reached> {
         return Err((12, x));
     }
     let mut reached = h;
-    let mut passed = 0;
-    while reached + 1 < t.starts.len() && u64::from(t.starts[reached + 1]) <= j {
+    let mut compared = 0;
+    while reached + 1 < t.starts.len() {
+        compared += 1;
+        if u64::from(t.starts[reached + 1]) > j {
+            break;
+        }
         reached += 1;
-        passed += 1;
     }
     let distance = j - u64::from(t.starts[reached]);
-    Ok(Reached { place: j as u32, interval: reached as u32, distance: distance as u32, count: passed })
+    Ok(Reached { place: j as u32, interval: reached as u32, distance: distance as u32, count: compared })
+}
+
+/// What the plain walk counts for a move from interval x of a balanced list's tables to q: the starts "above x's image and not
+/// above q", and the one that would end the walk, if there is a start above q.
+pub fn plain_count(t: &Tables, x: u32, q: u32) -> u64 {
+    let image = t.images[x as usize];
+    let passed = t.starts.iter().filter(|&&start| image < start && start <= q).count();
+    passed as u64 + u64::from(t.starts.iter().any(|&start| q < start))
 }
 
 /// m moves, with the sum of the counts.
@@ -354,7 +365,7 @@ fn widened<T>(outcome: Outcome<T>) -> Outcome<T, u64> {
     outcome.map_err(|(number, place)| (number, u64::from(place)))
 }
 
-/// A question's record as it is filled in: place, interval found, place reached, interval reached, starts passed, distance.
+/// A question's record as it is filled in: place, interval found, place reached, interval reached, count, distance.
 pub type Record = [u32; 6];
 
 /// "Each record must agree with find and move done alone": they are done alone here, first find for all records and then

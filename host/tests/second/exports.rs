@@ -493,11 +493,11 @@ fn known_keys() {
         [0, 1, 0, 1, 2, 2]
     );
     let step = |place, interval, distance, count| Ok(Step { place, interval, distance, count });
-    assert_eq!(zibewoka::move_once(16, &s, &i, &h, 4, 11), step(3, 1, 1, 1));
+    assert_eq!(zibewoka::move_once(16, &s, &i, &h, 4, 11), step(3, 1, 1, 2));
     assert_eq!(zibewoka::moves(16, &s, &i, &h, 4, 11, 0), step(11, 4, 3, 0));
-    assert_eq!(zibewoka::moves(16, &s, &i, &h, 0, 0, 2), step(6, 3, 0, 1));
-    assert_eq!(zibewoka::moves(16, &s, &i, &h, 0, 0, 4), step(0, 0, 0, 1));
-    assert_eq!(zibewoka::moves(16, &s, &i, &h, 4, 11, 4), step(11, 4, 3, 1));
+    let from_zero = [step(14, 5, 2, 0), step(6, 3, 0, 2), step(8, 4, 0, 3), step(0, 0, 0, 4)];
+    assert_eq!([1, 2, 3, 4].map(|m| zibewoka::moves(16, &s, &i, &h, 0, 0, m)), from_zero);
+    assert_eq!(zibewoka::moves(16, &s, &i, &h, 4, 11, 4), step(11, 4, 3, 4));
     assert_eq!(zibewoka::inverse(16, &s, &i, &h, 9), Ok(zibewoka::Position { place: 7, interval: 3 }));
     let [mut s, mut i, mut h, mut w] = [0; 4].map(|_| vec![0; 9]);
     let short = zibewoka::balance(16, &listing.starts, &listing.images, 2, &mut s, &mut i, &mut h, &mut w);
@@ -508,7 +508,7 @@ fn known_keys() {
     let most = list(15, &[0, 3, 5, 7, 8], &[8, 11, 13, 0, 1]);
     let [s, i, h] = tables_at(&most, 2).expect("legal");
     assert_eq!(s, most.starts);
-    assert_eq!(zibewoka::move_once(15, &s, &i, &h, 4, 14), step(7, 3, 0, 3));
+    assert_eq!(zibewoka::move_once(15, &s, &i, &h, 4, 14), step(7, 3, 0, 4));
     assert_eq!(tables_at(&list(1, &[0], &[0]), 2).expect("legal")[0].len(), 1);
     assert_eq!(zibewoka::check(4, &[0, 2], &[2, 0]), Ok(()));
     assert_eq!(zibewoka::check(4, &[0, 2], &[0, 1]), Err(Refusal { number: 6, place: 0 }));
@@ -519,7 +519,8 @@ fn known_keys() {
     let [s, i, h] = tables_at(&psi, 2).expect("legal");
     assert_eq!(s, psi.starts);
     assert_eq!(zibewoka::moves(45, &s, &i, &h, 4, 15, 0), step(15, 4, 3, 0));
-    assert_eq!(zibewoka::move_once(45, &s, &i, &h, 4, 15), step(35, 10, 1, 1));
+    assert_eq!(zibewoka::move_once(45, &s, &i, &h, 4, 15), step(35, 10, 1, 2));
+    assert_eq!(zibewoka::move_once(45, &s, &i, &h, 6, 20), step(43, 12, 0, 1));
 }
 
 /// What questions at these places, on tables with n 16, come to. A refusal leaves the records as they were.
@@ -542,22 +543,25 @@ fn known_questions() {
     let listing = second::tables(16, &[0, 2, 4, 6, 8, 12], &[14, 12, 10, 8, 0, 4]);
     assert_eq!(listing.holders, [5, 5, 4, 4, 0, 2]);
     let records =
-        [[0, 0, 14, 5, 0, 2], [3, 1, 13, 5, 0, 1], [3, 1, 13, 5, 0, 1], [11, 4, 3, 1, 1, 1], [15, 5, 7, 3, 1, 1]];
+        [[0, 0, 14, 5, 0, 2], [3, 1, 13, 5, 0, 1], [3, 1, 13, 5, 0, 1], [11, 4, 3, 1, 2, 1], [15, 5, 7, 3, 2, 1]];
     assert_eq!(answered(&listing, &[0, 3, 3, 11, 15]), done(5, &records));
     assert_eq!(answered(&listing, &[]), done(0, &[]));
     assert_eq!(answered(&listing, &[3, 2, 99]), refused(16, 1));
     assert_eq!(answered(&listing, &[3, 16, 20]), refused(11, 16));
 
-    let mut torn = listing;
-    torn.holders[1] = 9;
-    assert_eq!(answered(&torn, &[2, 3, 99]), refused(11, 99));
-    assert_eq!(answered(&torn, &[0, 3, 4]), refused(12, 1));
-    assert_eq!(answered(&torn, &[0, 1, 4]), done(2, &[[0, 0, 14, 5, 0, 2], [1, 0, 15, 5, 0, 3], [4, 2, 10, 4, 0, 2]]));
+    let mut broken = listing;
+    broken.holders[1] = 9;
+    assert_eq!(answered(&broken, &[2, 3, 99]), refused(11, 99));
+    assert_eq!(answered(&broken, &[0, 3, 4]), refused(12, 1));
+    assert_eq!(
+        answered(&broken, &[0, 1, 4]),
+        done(2, &[[0, 0, 14, 5, 0, 2], [1, 0, 15, 5, 0, 3], [4, 2, 10, 4, 1, 2]])
+    );
 
     let starts = vec![0, 9, 4, 12];
-    let disordered = Tables { images: starts.clone(), starts, holders: vec![0, 1, 0, 3] };
-    let records = [[0, 0, 0, 0, 0, 0], [5, 0, 5, 0, 0, 5], [9, 2, 9, 2, 2, 5], [13, 3, 13, 3, 0, 1]];
-    assert_eq!(answered(&disordered, &[0, 5, 9, 13]), done(3, &records));
+    let mixed = Tables { images: starts.clone(), starts, holders: vec![0, 1, 0, 3] };
+    let records = [[0, 0, 0, 0, 1, 0], [5, 0, 5, 0, 1, 5], [9, 2, 9, 2, 3, 5], [13, 3, 13, 3, 0, 1]];
+    assert_eq!(answered(&mixed, &[0, 5, 9, 13]), done(3, &records));
 }
 
 #[test]
@@ -679,7 +683,8 @@ fn every_place(given: &mut Given, r: &mut Random, permutation: &[u32], t: &Table
         let step = zibewoka::move_once(n, &t.starts, &t.images, &t.holders, x, p).expect("x has p");
         assert_eq!(step.place, permutation[p as usize]);
         assert_eq!(step.place - step.distance, t.starts[step.interval as usize]);
-        assert!(step.count < u64::from(2 * d));
+        assert_eq!(step.count, second::plain_count(t, x, step.place));
+        assert!(step.count <= u64::from(2 * d));
         let back = zibewoka::inverse(n, &t.starts, &t.images, &t.holders, step.place).expect("each place is an image");
         assert_eq!((back.place, back.interval), (p, x));
     }
@@ -705,11 +710,11 @@ fn a_walk_of_millions_of_moves() {
             let step = zibewoka::move_once(*n, s, i, h, interval, place).expect("the interval has the place");
             let run = starts.partition_point(|&start| start <= place) - 1;
             assert_eq!(step.place, images[run] + (place - starts[run]));
-            assert!(step.count < u64::from(2 * d));
+            assert!(step.count <= u64::from(2 * d));
             (place, interval, distance, count) = (step.place, step.interval, step.distance, count + step.count);
         }
         let whole = zibewoka::moves(*n, s, i, h, first_interval, first, m).expect("the same walk");
         assert_eq!(whole, Step { place, interval, distance, count });
-        assert!(count <= u64::from(m) * u64::from(2 * d - 1));
+        assert!(count <= u64::from(m) * u64::from(2 * d));
     }
 }
