@@ -29,6 +29,18 @@ judge-append (t ∷ ts) us a b = go (t .applies) (judge-append ts us a b)
     go true i = refl
     go false i = i
 
+-- the tests alone decide whether a call is refused
+pub judge-map : {A B : Type 0} (ts : List Test) (a : A) (b : B) → judge ts b ≡ mapDone (λ _. b) (judge ts a)
+unfolding judge mapDone
+judge-map [] a b = refl
+judge-map (t ∷ ts) a b = go (t .applies) (judge-map ts a b)
+  where
+    go : (s : Bool) → judge ts b ≡ mapDone (λ _. b) (judge ts a)
+        → (s then refused (t .number) (t .place) else judge ts b)
+        ≡ mapDone (λ _. b) (s then refused (t .number) (t .place) else judge ts a)
+    go true i = refl
+    go false i = i
+
 -- the first test of a list that passes
 pub judge-first : {A : Type 0} (t : Test) (ts : List Test) (a b : A)
     → done b ≡ judge (t ∷ ts) a → (t .applies ≡ false) × (done b ≡ judge ts a)
@@ -59,15 +71,23 @@ judge-met t ts a k p h e = go (t .applies) e
     go true e = (refl, cc)
     go false e = absurd (h e)
 
--- what tests that pass give is the result, and that tests further on follow
+-- a refusal's number is that of one of the tests
+pub judge-number : {A : Type 0} (P : ℕ → Type 0) (ts : List Test) (a : A) (k p : ℕ) → All (λ t. P (t .number)) ts
+    → judge ts a ≡ refused k p → P k
+unfolding judge
+judge-number P [] a k p h e = absurd (done-refused a k p e)
+judge-number P (t ∷ ts) a k p h e = go (t .applies) e (judge-number P ts a k p (h .1))
+  where
+    go : (s : Bool) → (s then refused (t .number) (t .place) else judge ts a) ≡ refused k p
+        → (judge ts a ≡ refused k p → P k) → P k
+    go true e i = let q : t .number ≡ k = cc in rw (← q) (h .0)
+    go false e i = i e
+
+-- what tests that pass give is the result
 pub judge-done : {A : Type 0} (ts : List Test) (a b : A) → judge ts a ≡ done b → a ≡ b
 unfolding judge
 judge-done [] a b e = cc
 judge-done (t ∷ ts) a b e = judge-done ts a b (sym (judge-first t ts a b (sym e) .1))
-
-pub judge-on : {A : Type 0} (ts us : List Test) (a b : A) → judge ts a ≡ done b → judge (ts ++ us) a ≡ judge us a
-unfolding andThen
-judge-on ts us a b e = rw (judge-append ts us a a, e)
 
 -- tests that cannot apply once the others have passed can be left out
 pub judge-less : {A : Type 0} (ts us : List Test) (a b : A) → ((c : A) → judge ts b ≡ done c → judge us a ≡ done b)
@@ -85,11 +105,10 @@ unfolding mapDone
 map-refused f (done a) k p e = absurd (done-refused (f a) k p e)
 map-refused f (refused k′ p′) k p e = cc
 
-pub map-then : {A B C : Type 0} (f : B → C) (o : Outcome A) (g : A → Outcome B)
-    → mapDone f (andThen o g) ≡ andThen o (λ a. mapDone f (g a))
-unfolding mapDone andThen
-map-then f (done a) g = refl
-map-then f (refused k p) g = refl
+pub map-done : {A : Type 0} (f : Unit {0} → A) (o : Outcome (Unit {0})) (a : A) → mapDone f o ≡ done a → (o ≡ done tt) × (f tt ≡ a)
+unfolding mapDone
+map-done f (done x) a e = let q : f x ≡ a = cc in (refl, q)
+map-done f (refused k p) a e = absurd (done-refused a k p (sym e))
 
 -- a refusal leaves a lent table
 pub filled-refused : {A : Type 0} (l : A → List ℕ) (o : Outcome A) (k p : ℕ) (table : List ℕ) → o ≡ refused k p

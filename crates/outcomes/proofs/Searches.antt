@@ -12,7 +12,7 @@ use Rattle.outcomes.specs.Search.{firstFrom, firstBelow, anyBelow, inser
 use Rattle.order.proofs.Laws.{lt-or-le}
 
 module _ (p : ℕ → Bool) where
-  from-le : (k x : ℕ) → (x ≤ firstFrom p k x) × (firstFrom p k x ≤ x + k)
+  pub from-le : (k x : ℕ) → (x ≤ firstFrom p k x) × (firstFrom p k x ≤ x + k)
   from-le zero x = omega arith
   from-le (suc k) x = go (p x) (from-le k (suc x))
     where
@@ -21,7 +21,7 @@ module _ (p : ℕ → Bool) where
       go true i = omega arith
       go false i = omega arith
 
-  from-true : (k x : ℕ) → firstFrom p k x < x + k → p (firstFrom p k x) ≡ true
+  pub from-true : (k x : ℕ) → firstFrom p k x < x + k → p (firstFrom p k x) ≡ true
   from-true zero x h = absurd (omega arith)
   from-true (suc k) x h = go (p x) refl h (from-true k (suc x))
     where
@@ -31,7 +31,7 @@ module _ (p : ℕ → Bool) where
       go true e h i = e
       go false e h i = i (omega arith)
 
-  from-least : (k x y : ℕ) → x ≤ y → y < x + k → p y ≡ true → firstFrom p k x ≤ y
+  pub from-least : (k x y : ℕ) → x ≤ y → y < x + k → p y ≡ true → firstFrom p k x ≤ y
   from-least zero x y h l e = absurd (omega arith)
   from-least (suc k) x y h l e = go (p x) refl (lt-or-le x y) (from-least k (suc x) y)
     where
@@ -40,6 +40,22 @@ module _ (p : ℕ → Bool) where
       go true f m i = h
       go false f (inl m) i = i m (omega arith) e
       go false f (inr m) i = let q : x ≡ y = omega arith in absurd (false≢true (sym f ∙ ap p q ∙ e))
+
+  pub from-only : (k x y : ℕ) → x ≤ y → y < x + k → p y ≡ true → ((z : ℕ) → x ≤ z → z < y → p z ≡ false) → firstFrom p k x ≡ y
+  from-only k x y h l e none = go (lt-or-le (firstFrom p k x) y)
+    where
+      go : (firstFrom p k x < y) ⊎ (y ≤ firstFrom p k x) → firstFrom p k x ≡ y
+      go (inl m) = let i = from-le k x in
+          absurd (false≢true (sym (none (firstFrom p k x) (i .0) m) ∙ from-true k x (omega arith)))
+      go (inr m) = omega (arith, from-least k x y h l e)
+
+  pub from-none : (k x : ℕ) → ((z : ℕ) → x ≤ z → z < x + k → p z ≡ false) → firstFrom p k x ≡ x + k
+  from-none k x none = go (lt-or-le (firstFrom p k x) (x + k))
+    where
+      go : (firstFrom p k x < x + k) ⊎ (x + k ≤ firstFrom p k x) → firstFrom p k x ≡ x + k
+      go (inl m) = let i = from-le k x in
+          absurd (false≢true (sym (none (firstFrom p k x) (i .0) m) ∙ from-true k x m))
+      go (inr m) = let i = from-le k x in omega arith
 
   pub first-le : (k : ℕ) → firstBelow p k ≤ k
   first-le k = omega (arith, from-le k 0)

@@ -27,6 +27,7 @@ pub enum Refusal {
     FileHeader(u32),
     TooManyPlaces(u32),
     LastPermutation,
+    NoDegreeFits(u32),
 }
 
 impl Refusal {
@@ -52,6 +53,7 @@ impl Refusal {
             Refusal::FileHeader(_) => 15,
             Refusal::TooManyPlaces(_) => 17,
             Refusal::LastPermutation => 18,
+            Refusal::NoDegreeFits(_) => 19,
         }
     }
 
@@ -77,6 +79,7 @@ impl Refusal {
             Refusal::FileHeader(b) => b,
             Refusal::TooManyPlaces(n) => n,
             Refusal::LastPermutation => 0,
+            Refusal::NoDegreeFits(e) => e,
         }
     }
 }
@@ -87,6 +90,9 @@ pub enum Checked {
     Refused(Refusal),
 }
 
+// The highest degree.
+pub const MOST_DEGREE: u32 = 64;
+
 // Whether test 7 lets the degree pass, which balancing and files share: it is about a number alone.
 pub fn is_degree(d: u32) -> bool
     ensures { λ r. ⌜ r ≡ not (noDegree d) ⌝ }
@@ -94,5 +100,5 @@ pub fn is_degree(d: u32) -> bool
     if d < 2 {
         return false;
     }
-    d <= 64
+    d <= MOST_DEGREE
 }

@@ -32,6 +32,12 @@ pub sum-same : (k : ℕ) (f g : ℕ → ℕ) → ((x : ℕ) → x < k → f x �
 sum-same zero f g h = refl
 sum-same (suc k) f g h = omega (arith, h 0 (omega arith), sum-same k (λ x. f (suc x)) (λ x. g (suc x)) (λ x l. h (suc x) (suc-le-suc l)))
 
+-- a term is not above the sum
+pub sum-term : (k : ℕ) (f : ℕ → ℕ) (x : ℕ) → x < k → f x ≤ sumTo k f
+sum-term zero f x h = absurd (not-suc-le-zero h)
+sum-term (suc k) f zero h = omega arith
+sum-term (suc k) f (suc x) h = omega (arith, sum-term k (λ y. f (suc y)) x (le-of-suc-le-suc h))
+
 pub sum-zero : (k : ℕ) → sumTo k (λ x. 0) ≡ 0
 sum-zero zero = refl
 sum-zero (suc k) = omega (arith, sum-zero k)
@@ -186,13 +192,13 @@ keep-cut a b l j h u m =
     from (inl c) k = absurd (omega (arith, count-gt a l (strict-sorted l u) (countBelow a l + j) k c))
     from (inr c) k = c
 
--- a sum after one term was made two
-pub sum-grow : (x k : ℕ) (f g : ℕ → ℕ) → x < k → ((y : ℕ) → y < x → f y ≤ g y) → suc (f x) ≤ g x + g (suc x) → ((y : ℕ) → x < y → y < k → f y ≤ g (suc y))
-    → suc (sumTo k f) ≤ sumTo (suc k) g
-sum-grow x zero f g h a b c = absurd (not-suc-le-zero h)
-sum-grow zero (suc k) f g h a b c = omega (arith, sum-mono k (λ y. f (suc y)) (λ y. g (suc (suc y))) (λ y l. c (suc y) (omega arith) (suc-le-suc l)))
-sum-grow (suc x) (suc k) f g h a b c =
-    omega (arith, a 0 (omega arith), sum-grow x k (λ y. f (suc y)) (λ y. g (suc y)) (le-of-suc-le-suc h) (λ y l. a (suc y) (suc-le-suc l)) b (λ y l m. c (suc y) (suc-le-suc l) (suc-le-suc m)))
+-- a sum after one term was made two: it comes to as much more, or less, as the two terms do
+pub sum-grow : (more less x k : ℕ) (f g : ℕ → ℕ) → x < k → ((y : ℕ) → y < x → f y ≤ g y) → f x + more ≤ g x + g (suc x) + less → ((y : ℕ) → x < y → y < k → f y ≤ g (suc y))
+    → sumTo k f + more ≤ sumTo (suc k) g + less
+sum-grow more less x zero f g h a b c = absurd (not-suc-le-zero h)
+sum-grow more less zero (suc k) f g h a b c = omega (arith, sum-mono k (λ y. f (suc y)) (λ y. g (suc (suc y))) (λ y l. c (suc y) (omega arith) (suc-le-suc l)))
+sum-grow more less (suc x) (suc k) f g h a b c =
+    omega (arith, a 0 (omega arith), sum-grow more less x k (λ y. f (suc y)) (λ y. g (suc y)) (le-of-suc-le-suc h) (λ y l. a (suc y) (suc-le-suc l)) b (λ y l m. c (suc y) (suc-le-suc l) (suc-le-suc m)))
 
 pub bit-leb : (a b c d : ℕ) → (a ≤ b → c ≤ d) → bit (leb a b) ≤ bit (leb c d)
 bit-leb a b c d h = go (leb a b) refl

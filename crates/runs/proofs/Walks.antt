@@ -22,6 +22,10 @@ use Rattle.runs.proofs.Legality.{Parted, homes, home, run-at, end-next}
 up-to : (j : ℕ) → _≡_ {A = ℕ → Bool} (λ s. leb s j) (λ s. ltb s (suc j))
 up-to j = fun-ext (λ s. sym (leb·suc-suc s j))
 
+-- below an end is up to the place before it
+pub up-to-end : (b : ℕ) → 0 < b → _≡_ {A = ℕ → Bool} (λ s. leb s (b - 1)) (λ s. ltb s b)
+up-to-end b h = let z : suc (b - 1) ≡ b = omega arith in up-to (b - 1) ∙ fun-ext (λ s. ap (ltb s) z)
+
 -- in a rising list the leading elements below t are all that are
 pub leading-below : (l : List ℕ) (t : ℕ) → Strict l → leading (λ s. ltb s t) l ≡ countBelow t l
 leading-below [] t u = refl

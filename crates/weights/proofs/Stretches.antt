@@ -1,17 +1,18 @@
 -- What a weight comes to, by the facts that its tests show, and the stretch of starts that has it.
-use Prim.Native.Nat.{ℕ, suc, _+_, _-_, _≤_, _<_}
-use mathlib.Core.Path.{_≡_, refl, sym, ap, _∙_, fun-ext}
+use Prim.Native.Nat.{ℕ, _+_, _-_, _≤_, _<_}
+use mathlib.Core.Path.{_≡_, refl, sym, ap, _∙_}
 use mathlib.Core.Bool.{Bool, true, false}
 use mathlib.Core.Logic.{_≢_}
 use mathlib.Core.List.{[]}
 use native.Mathlib.Omega.{arith}
 use lib.ListN.{length, take, drop, length-take, length-drop}
-use lib.Dec.{ltb, leb, eqb, leb·suc-suc}
+use lib.Dec.{ltb, leb, eqb}
 use borrow.Author.Tests.{lt-ltb, le-ltb, le-leb, lt-leb, leb-false, eq-eqb, ne-eqb}
 use Rattle.order.proofs.Laws.{or-false}
 use Rattle.outcomes.specs.Outcome.{done, refused, test, judge, _then_else_}
 use Rattle.order.specs.Lists.{leading}
 use Rattle.runs.specs.Runs.{startOf, imageOf, endOf, imageEnd}
+use Rattle.runs.proofs.Walks.{up-to-end}
 use Rattle.outcomes.proofs.Judging.{judge-first, judge-done}
 use Rattle.tables.specs.Tables.{Tables, sizeOf, holderOf, misshapen, unheld, shapeTest, indexTest}
 use Rattle.weights.specs.Under.{unplaced, underFirst, underCount, weightOf, stretch, startsUnderOf}
@@ -65,10 +66,6 @@ module _ (n : ℕ) (t : Tables) (x : ℕ) where
   unfolding stretchOf judge
   stretch-broken b = simp b
 
--- below the end is up to the place before it
-up-to : (b : ℕ) → 0 < b → _≡_ {A = ℕ → Bool} (λ s. leb s (b - 1)) (λ s. ltb s b)
-up-to b h = fun-ext (λ s. let z : b ≡ suc (b - 1) = omega arith in sym (leb·suc-suc s (b - 1)) ∙ ap (ltb s) (sym z))
-
 module _ (n : ℕ) (t : Tables) (x : ℕ) where
   pub stretch-to : unplaced n t x ≡ false
       → (f e o : ℕ) → f ≡ underFirst t x → e ≡ imageEnd n (t .list) x → 0 < e
@@ -76,7 +73,7 @@ module _ (n : ℕ) (t : Tables) (x : ℕ) where
       → done o ≡ stretchOf n t x
   unfolding stretchOf underCount judge
   stretch-to b f e o p q h r =
-      let u = ap (λ (g : ℕ → Bool). leading g (drop f (t .list .starts))) (up-to e h) in
+      let u = ap (λ (g : ℕ → Bool). leading g (drop f (t .list .starts))) (up-to-end e h) in
       let z : o ≡ underCount n t x = r ∙ u ∙ simp (q, p) in
       simp (b, z)
 
