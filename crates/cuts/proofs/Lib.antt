@@ -3,6 +3,7 @@ pub mod Refine
 pub mod Cut
 pub mod Weights
 pub mod Balancing
+pub mod Certain
 pub mod Swept
 pub mod Sweeping
 pub mod Cutlist

@@ -17,10 +17,10 @@ use Rattle.runs.proofs.Sums.{count-inside}
 use Rattle.runs.proofs.Legality.{homes, run-at, end-next}
 use Rattle.runs.specs.Weight.{weight}
 use Rattle.runs.proofs.Walks.{weight-is, run-below, under-at, weight-less}
-use Rattle.cuts.specs.Balance.{cutPlace, cutAt}
+use Rattle.cuts.specs.Balance.{cutPlace, cutAt, balanced}
 use Rattle.merging.specs.Merged.{merged, Starts}
 use Rattle.cuts.specs.Marks.{Skips}
-use Rattle.cuts.specs.Cuts.{withCuts, BalancingCuts}
+use Rattle.cuts.specs.Cuts.{withCuts, CutsStand, BalancingCuts}
 use Rattle.cuts.specs.Parts.{Begins, PieceAt, Covers}
 use Rattle.merging.specs.declared.Mark.{Mark}
 use Rattle.cuts.specs.declared.Piece.{Piece}
@@ -48,6 +48,17 @@ legal-starts n r cuts c l s = record {
 no-cuts : (n : ℕ) (r : Runs) → Legal n r → r ≡ withCuts n r []
 no-cuts n r c = refined-cuts n r r [] c (refines-self n r c)
     (sym (merged-none (r .starts) (strict-sorted (r .starts) (homes n r c .up))))
+
+-- no cuts balance a list that balancing leaves as it is
+pub uncut-stand : (d n : ℕ) (r : Runs) → Legal n r → balanced d n r ≡ r → (table : List ℕ) → CutsStand d n r table 0
+uncut-stand d n r c e table =
+    let z = no-cuts n r c in
+    record {
+      list-is = sym z ∙ sym e;
+      starts = legal-starts n r [] c (subst (Legal n) z c) tt;
+      counted = omega (arith, ap countOf (sym e));
+      fits = omega arith;
+    }
 
 -- where the sweep looks after a cut that added u
 back-is : (n : ℕ) (q : Runs) (u Q P : ℕ) → Legal n q → (u < Q → Covers n q u P) → (Q ≤ u → P ≡ Q) → back n q u Q ≡ P
@@ -110,11 +121,7 @@ module _ (d n : ℕ) (many : 2 ≤ d) (r : Runs) (c₀ : Legal n r) (working₀ 
   progress-end h =
       let e = sweeping-end d n many r c₀ (withCuts n r (take c working)) P Q (g .sweeping) h in
       record {
-        list-is = e;
-        starts = g .starts;
-        counted = sym progress-count
-            ∙ ap countOf e;
-        fits = g .fits;
+        stand = record { list-is = e; starts = g .starts; counted = sym progress-count ∙ ap countOf e; fits = g .fits };
         rest = g .rest;
       }
 

@@ -109,13 +109,16 @@ module _ (d n : ℕ) (r : Runs) (c : Legal n r) (x : ℕ) (hx : x < countOf r) (
         let k = cutAt-kept d n r c x hx some (omega arith) in
         let q = cutAt d n r x in
         rw (cut-count n r (c .paired) x s hx)
-        (sum-grow x (countOf r) (λ y. bit (leb d (weight n r y))) (λ y. bit (leb d (weight n q y))) hx
-        (λ y l. bit-leb d (weight n r y) d (weight n q y)
-        (λ e. omega (arith, weight-cut n r x s y, kept-left n r (c .paired) x s hx y l)))
-        (rw (
-          le-leb d (weight n q x) (omega (arith, weight-cut n r x s x)),
-          le-leb d (weight n q (suc x)) (omega (arith, weight-cut n r x s (suc x))),
-        )
-        (omega (arith, bit-le (leb d (weight n r x)))))
-        (λ y l m. bit-leb d (weight n r y) d (weight n q (suc y))
-        (λ e. omega (arith, weight-cut n r x s (suc y), kept-right n r (c .paired) x s hx y l))))
+        (omega (
+          arith,
+          sum-grow 1 0 x (countOf r) (λ y. bit (leb d (weight n r y))) (λ y. bit (leb d (weight n q y))) hx
+              (λ y l. bit-leb d (weight n r y) d (weight n q y)
+              (λ e. omega (arith, weight-cut n r x s y, kept-left n r (c .paired) x s hx y l)))
+              (rw (
+                le-leb d (weight n q x) (omega (arith, weight-cut n r x s x)),
+                le-leb d (weight n q (suc x)) (omega (arith, weight-cut n r x s (suc x))),
+              )
+              (omega (arith, bit-le (leb d (weight n r x)))))
+              (λ y l m. bit-leb d (weight n r y) d (weight n q (suc y))
+              (λ e. omega (arith, weight-cut n r x s (suc y), kept-right n r (c .paired) x s hx y l))),
+        ))

@@ -41,6 +41,10 @@ cutting (suc fuel) d n r =
 unfoldable pub balanced : ℕ → ℕ → Runs → Runs
 balanced d n r = cutting (countOf r) d n r
 
+-- K, how many intervals it has
+abbrev pub sizeAt : ℕ → Runs → ℕ → ℕ
+sizeAt n r d = countOf (balanced d n r)
+
 -- B, the whole part of dk/(d − 1)
 abbrev pub boundOf : ℕ → ℕ → ℕ
 boundOf d k = d * k / (d - 1)

@@ -7,7 +7,7 @@ use Rattle.merging.specs.Merged.{merged, Starts}
 use Rattle.runs.specs.Legal.{Legal}
 use Rattle.runs.specs.Parts.{Ordered}
 use Rattle.runs.specs.Runs.{Runs, runs, countOf, mapOf}
-use Rattle.cuts.specs.Balance.{balanced}
+use Rattle.cuts.specs.Balance.{balanced, sizeAt}
 
 -- the list after the cuts: more starts, and the same function
 abbrev pub withCuts : ℕ → Runs → List ℕ → Runs
@@ -23,10 +23,14 @@ pub record Cuttable (n : ℕ) (r : Runs) (order ranked : List ℕ) (d : ℕ) (wo
   pub high : d ≤ 64
   pub in-working : countOf r ≤ length working
 
--- the first c entries of the working table are the cuts that balance r, and the others are as they were
+-- the first c entries of a table are the cuts that balance r
+pub record CutsStand (d n : ℕ) (r : Runs) (table : List ℕ) (c : ℕ) : Type 0 where
+  pub list-is : withCuts n r (take c table) ≡ balanced d n r
+  pub starts : Starts n (r .starts) (take c table)
+  pub counted : c + countOf r ≡ sizeAt n r d
+  pub fits : c ≤ length table
+
+-- what `find_cuts` promises: they stand in the working table, whose other entries are as they were
 pub record BalancingCuts (d n : ℕ) (r : Runs) (entry exit : List ℕ) (c : ℕ) : Type 0 where
-  pub list-is : withCuts n r (take c exit) ≡ balanced d n r
-  pub starts : Starts n (r .starts) (take c exit)
-  pub counted : c + countOf r ≡ countOf (balanced d n r)
-  pub fits : c ≤ length exit
+  pub stand : CutsStand d n r exit c
   pub rest : drop c exit ≡ drop c entry

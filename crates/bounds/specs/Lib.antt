@@ -1,0 +1,3 @@
+-- What the search for a first degree asks and promises, and then its parts.
+pub mod Bound
+pub mod Parts
