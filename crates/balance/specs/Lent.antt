@@ -1,15 +1,14 @@
--- Balancing into lent tables: tests 1 to 8, and what stands in each table at exit.
-use Prim.Native.Nat.{ℕ}
+-- Balancing into lent tables: its tests, and what stands in each table at exit.
+use Prim.Native.Nat.{ℕ, _≤_}
 use mathlib.Core.Path.{_≡_}
 use mathlib.Core.List.{List, [], _∷_, _++_}
-use lib.ListN.{take, replicate}
-use Rattle.outcomes.specs.Outcome.{Outcome, done, refused, Test, Long, shortTest, judge, mapDone, over, filled}
+use lib.ListN.{length, take}
+use Rattle.outcomes.specs.Outcome.{Outcome, done, refused, Test, Long, shortTest, judge, mapDone, over}
 use Rattle.outcomes.specs.Refusal.{refusalSays}
-use Rattle.outcomes.specs.Degree.{degreeTest}
 use Rattle.runs.specs.Runs.{Runs, countOf}
-use Rattle.runs.specs.Check.{checkTests}
 use Rattle.tables.specs.Tables.{Tables, tables, tablesOf, sizeOf, allColumns, eachColumn, eachPair}
-use Rattle.cuts.specs.Balance.{balanced, boundOf}
+use Rattle.cuts.specs.Balance.{balanced, sizeAt}
+use Rattle.plans.specs.Working.{workingSize, planTests, clearedBy}
 use Rattle.balance.specs.declared.Balanced.{Balanced}
 use Rattle.balance.specs.declared.Balanced.the-variants.{Intervals, Refused}
 
@@ -33,20 +32,15 @@ lentColumns l = allColumns (l .tables) ++ (l .working ∷ [])
 abbrev pub firstOf : ℕ → Lent → Tables
 firstOf k l = eachColumn (take k) (l .tables)
 
--- how many entries each table that is lent must have for k runs, and how many of the working table are cleared: B, both
-abbrev pub tableSize : ℕ → ℕ → ℕ
-tableSize d k = boundOf d k
+-- what is lent has room for a balanced list: K entries in each of the three tables, and B in the working table
+pub record Room (n : ℕ) (r : Runs) (d : ℕ) (l : Lent) : Type 0 where
+  pub tables : Long (sizeAt n r d) (allColumns (l .tables))
+  pub working : workingSize d (countOf r) ≤ length (l .working)
 
-abbrev pub workingSize : ℕ → ℕ → ℕ
-workingSize d k = boundOf d k
-
--- each lent table has at least b entries
-abbrev pub Room : ℕ → Lent → Type 0
-Room b l = Long b (lentColumns l)
-
--- 1 to 6, then 7, and 8: something lent has fewer than B entries
+-- 1 to 7 and 8 for the working table, then 8 for the three: one of them has fewer than K entries
 abbrev pub balanceTests : ℕ → Runs → ℕ → Lent → List Test
-balanceTests n r d l = checkTests n r ++ (degreeTest d ∷ shortTest (tableSize d (countOf r)) (lentColumns l) ∷ [])
+balanceTests n r d l =
+    planTests n r d (length (l .working)) ++ (shortTest (sizeAt n r d) (allColumns (l .tables)) ∷ [])
 
 unfoldable pub balanceOf : ℕ → Runs → ℕ → Lent → Outcome Tables
 balanceOf n r d l = judge (balanceTests n r d l) (tablesOf n (balanced d n r))
@@ -56,10 +50,9 @@ unfoldable pub filledTables : Outcome Tables → Tables → Tables
 filledTables (done t) entry = eachPair over t entry
 filledTables (refused k p) entry = entry
 
--- What `balance` promises: the answer K, the tables of the balanced list in the first K entries of the three, 0 in the
--- first B entries of the working table, and every other entry as it was.
+-- What `balance` promises: the answer K, the tables of the balanced list in the first K entries of the three, and every
+-- other entry as it was, after a refusal all of them; and the working table at exit, cleared also where the last test applies.
 pub record Balances (n : ℕ) (r : Runs) (d : ℕ) (entry exit : Lent) (answer : Balanced) : Type 0 where
   pub says : balancedSays answer ≡ mapDone sizeOf (balanceOf n r d entry)
   pub written : exit .tables ≡ filledTables (balanceOf n r d entry) (entry .tables)
-  pub working : exit .working ≡ filled (λ t. replicate (workingSize d (countOf r)) 0) (balanceOf n r d entry)
-      (entry .working)
+  pub working : exit .working ≡ clearedBy n r d (entry .working)

@@ -1,4 +1,3 @@
--- What `balance` promises, and what its parts do: what is decided before anything is written, and the writing.
+-- What `balance` promises, and what the functions that write the tables do.
 pub mod Lent
-pub mod Plan
 pub mod Parts

@@ -1,15 +1,17 @@
 -- What the private functions that write the tables ask and promise.
-use Prim.Native.Nat.{ℕ, suc, _≤_, _<_}
+use Prim.Native.Nat.{ℕ, suc, _+_, _≤_, _<_}
 use mathlib.Core.Path.{_≡_}
-use mathlib.Core.List.{List}
-use lib.ListN.{length, getD, replicate}
-use Rattle.outcomes.specs.Outcome.{over}
-use Rattle.runs.specs.Check.{maxRuns}
+use mathlib.Core.List.{List, [], _∷_}
+use lib.ListN.{length, getD}
+use Rattle.outcomes.specs.Outcome.{Outcome, shortTest, judge, mapDone, over}
+use Rattle.merging.specs.Merged.{Starts}
 use Rattle.runs.specs.Legal.{Legal}
 use Rattle.runs.specs.Runs.{Runs, countOf}
-use Rattle.tables.specs.Tables.{Tables, sizeOf, eachPair}
-use Rattle.cuts.specs.Cuts.{withCuts, BalancingCuts}
-use Rattle.balance.specs.Lent.{Lent, Room, tableSize}
+use Rattle.tables.specs.Tables.{Tables, sizeOf, allColumns, eachPair}
+use Rattle.cuts.specs.Cuts.{withCuts}
+use Rattle.balance.specs.Lent.{balancedSays, filledTables}
+use Rattle.balance.specs.declared.Balanced.{Balanced}
+use Rattle.balance.specs.declared.Sizes.{Sizes}
 
 -- the run at x of a list with these starts has place p
 pub record Has (n : ℕ) (starts : List ℕ) (x p : ℕ) : Type 0 where
@@ -26,17 +28,20 @@ pub record ListWritten (n : ℕ) (r : Runs) (cuts starts images starts′ images
 abbrev pub TablesWritten : Tables → Tables → Tables → Type 0
 TablesWritten t entry exit = exit ≡ eachPair over t entry
 
--- c cuts that balance a list stand in the working table, and the tables have room for it
-pub record Fillable (n : ℕ) (r : Runs) (d c : ℕ) (l : Lent) : Type 0 where
-  pub legal : Legal n r
-  pub few : countOf r ≤ maxRuns
-  pub low : 2 ≤ d
-  pub high : d ≤ 64
-  pub cuts : BalancingCuts d n r (l .working) (l .working) c
-  pub room : Room (tableSize d (countOf r)) l
+-- the lengths of the three tables, by the names that the code has for them, as a list
+abbrev pub allSizes : Sizes → List ℕ
+allSizes s = s .starts ∷ s .images ∷ s .holders ∷ []
 
--- the tables t stand in the lent ones, and b entries of the working table are cleared
-pub record Filled (t : Tables) (b : ℕ) (entry exit : Lent) (k : ℕ) : Type 0 where
-  pub counted : k ≡ sizeOf t
-  pub written : TablesWritten t (entry .tables) (exit .tables)
-  pub cleared : exit .working ≡ over (replicate b 0) (entry .working)
+-- 8 for tables that are to hold `size` intervals, and what is written to them
+unfoldable pub fillOf : ℕ → Tables → Tables → Outcome Tables
+fillOf size t entry = judge (shortTest size (allColumns entry) ∷ []) t
+
+-- what filling the tables with a list after cuts asks, and promises
+pub record Fillable (n : ℕ) (r : Runs) (cuts : List ℕ) : Type 0 where
+  pub legal : Legal n r
+  pub starts : Starts n (r .starts) cuts
+  pub few : countOf r + length cuts < 4294967296
+
+pub record Fills (size : ℕ) (t entry exit : Tables) (answer : Balanced) : Type 0 where
+  pub says : balancedSays answer ≡ mapDone sizeOf (fillOf size t entry)
+  pub written : exit ≡ filledTables (fillOf size t entry) entry

@@ -3,7 +3,7 @@ use merging::Mark;
 ghost use mathlib.Core.Path.{_≡_};
 ghost use mathlib.Core.List.{map};
 ghost use Prim.Native.Nat.{_+_, _≤_};
-ghost use lib.ListN.{length, replicate};
+ghost use lib.ListN.{length};
 ghost use Rattle.runs.specs.Legal.{Legal};
 ghost use Rattle.runs.specs.Runs.{runs, runAt, mapOf};
 ghost use Rattle.tables.specs.Tables.{tables, tablesOf, allColumns};
@@ -81,16 +81,4 @@ pub(crate) fn write_tables(
     write_list(n, starts, images, cuts, to_starts, to_images);
     let k = starts.len() + cuts.len();
     write_holders(n, &to_starts[..k], &to_images[..k], to_holders);
-}
-
-// Sets the first `count` entries to 0.
-pub(crate) fn clear(s: &mut [u32], count: usize)
-    requires { ⌜ count ≤ length (now s) ⌝ }
-    ensures { λ _. ⌜ now (s .exit) ≡ over (replicate count 0) (now (s .entry)) ⌝ }
-{
-    let mut i = 0;
-    while i < count {
-        s[i] = 0;
-        i += 1;
-    }
 }

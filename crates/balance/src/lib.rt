@@ -1,17 +1,21 @@
 // Balancing into lent tables: the same permutation with more starts, so that a move through the table reads at most
 // 2d of them.
 //
-// What balancing is stands in the crate cuts (specs/Balance), which finds where to cut; the tests, and what stands in each
-// lent table at exit, in specs/Lent. All is decided, from numbers alone, before a table is written.
+// What balancing is stands in the crate cuts (specs/Balance), and where to cut is planned by the crate plans; the tests, and what
+// stands in each lent table at exit, in specs/Lent. All is decided before one of the three tables is written.
 
 mod fill;
-mod plan;
 
-ghost use Rattle.runs.specs.Runs.{runs, countOf};
-ghost use Rattle.tables.specs.Tables.{tablesOf};
-ghost use Rattle.cuts.specs.Balance.{balanced};
-ghost use Rattle.balance.specs.Lent.{lent, workingSize, Balances};
-ghost use Rattle.balance.specs.Parts.{Fillable, Filled};
+use plans::Planned;
+ghost use mathlib.Core.Path.{_≡_};
+ghost use Prim.Native.Nat.{_+_};
+ghost use lib.ListN.{length};
+ghost use Rattle.outcomes.specs.Outcome.{someBelow};
+ghost use Rattle.runs.specs.Runs.{runs};
+ghost use Rattle.tables.specs.Tables.{tables, tablesOf};
+ghost use Rattle.cuts.specs.Cuts.{withCuts};
+ghost use Rattle.balance.specs.Lent.{lent, Balances};
+ghost use Rattle.balance.specs.Parts.{allSizes, Fillable, Fills};
 
 // How many intervals the balanced list has.
 pub enum Balanced {
@@ -19,56 +23,58 @@ pub enum Balanced {
     Refused(outcomes::Refusal),
 }
 
-// The lengths of what is lent.
+// The lengths of the three tables.
 struct Sizes {
     starts: usize,
     images: usize,
     holders: usize,
-    working: usize,
 }
 
-// How many cuts stand in the working table.
-enum Planned {
-    Cuts(usize),
-    Refused(outcomes::Refusal),
+// Whether one of them is below `size`.
+fn is_short(size: usize, sizes: Sizes) -> bool
+    ensures { λ r. ⌜ r ≡ someBelow size (allSizes sizes) ⌝ }
+{
+    if sizes.starts < size {
+        return true;
+    }
+    if sizes.images < size {
+        return true;
+    }
+    sizes.holders < size
 }
 
-// Writes the tables of the list after the cuts that stand in `working`, and clears that. Answers how many intervals they
-// have.
+// Test 8 for the three tables, and the tables of the list after the cuts. Answers how many intervals they have.
 fn fill_tables(
     n: u32,
     starts: &[u32],
     images: &[u32],
-    d: u32,
-    cuts: usize,
+    cuts: &[u32],
     to_starts: &mut [u32],
     to_images: &mut [u32],
     to_holders: &mut [u32],
-    working: &mut [u32],
-) -> u32
-    requires { ⌜ Fillable n (runs (now starts) (now images)) d cuts
-        (lent (now «to_starts») (now «to_images») (now «to_holders») (now working)) ⌝ }
-    ensures { λ r. ⌜ Filled (tablesOf n (balanced d n (runs (now (starts .entry)) (now (images .entry)))))
-        (workingSize d (countOf (runs (now (starts .entry)) (now (images .entry)))))
-        (lent (now («to_starts» .entry)) (now («to_images» .entry)) (now («to_holders» .entry)) (now (working .entry)))
-        (lent (now («to_starts» .exit)) (now («to_images» .exit)) (now («to_holders» .exit)) (now (working .exit))) r ⌝ }
+) -> Balanced
+    requires { ⌜ Fillable n (runs (now starts) (now images)) (now cuts) ⌝ }
+    ensures { λ r. ⌜ Fills (length (now (starts .entry)) + length (now (cuts .entry)))
+        (tablesOf n (withCuts n (runs (now (starts .entry)) (now (images .entry))) (now (cuts .entry))))
+        (tables (now («to_starts» .entry)) (now («to_images» .entry)) (now («to_holders» .entry)))
+        (tables (now («to_starts» .exit)) (now («to_images» .exit)) (now («to_holders» .exit))) r ⌝ }
 {
-    fill::write_tables(
-        n,
-        starts,
-        images,
-        &working[..cuts],
-        to_starts,
-        to_images,
-        to_holders,
-    );
-    let b = plan::bound_of(d, starts.len());
-    fill::clear(working, b);
-    (starts.len() + cuts) as u32
+    let size = starts.len() + cuts.len();
+    let sizes = Sizes {
+        starts: to_starts.len(),
+        images: to_images.len(),
+        holders: to_holders.len(),
+    };
+    if is_short(size, sizes) {
+        return Balanced::Refused(outcomes::Refusal::ShortTable(size as u32));
+    }
+    fill::write_tables(n, starts, images, cuts, to_starts, to_images, to_holders);
+    Balanced::Intervals(size as u32)
 }
 
 // Balances the list at the degree `d`: its tables come to stand in the first K entries of the three lent ones, and the
-// first B entries of `working` to be 0. Answers K. Tests 1 to 8; a refused call changes nothing.
+// first B entries of `working` to be 0. Answers K. Tests 1 to 7, 8 for the working table with B, and 8 for the others with K;
+// the last one leaves the working table as success does, and nothing else is changed by a refusal.
 pub fn balance(
     n: u32,
     starts: &[u32],
@@ -83,25 +89,21 @@ pub fn balance(
         (lent (now («to_starts» .entry)) (now («to_images» .entry)) (now («to_holders» .entry)) (now (working .entry)))
         (lent (now («to_starts» .exit)) (now («to_images» .exit)) (now («to_holders» .exit)) (now (working .exit))) r ⌝ }
 {
-    let sizes = Sizes {
-        starts: to_starts.len(),
-        images: to_images.len(),
-        holders: to_holders.len(),
-        working: working.len(),
-    };
-    let planned = plan::plan(n, starts, images, d, sizes, working);
+    let planned = plans::plan(n, starts, images, plans::NO_LIMIT, d, working);
     match planned {
         Planned::Refused(refusal) => Balanced::Refused(refusal),
-        Planned::Cuts(cuts) => Balanced::Intervals(fill_tables(
-            n,
-            starts,
-            images,
-            d,
-            cuts,
-            to_starts,
-            to_images,
-            to_holders,
-            working,
-        )),
+        Planned::Cuts(plan) => {
+            let answer = fill_tables(
+                n,
+                starts,
+                images,
+                &working[..plan.cuts],
+                to_starts,
+                to_images,
+                to_holders,
+            );
+            plans::clear(d, starts.len(), working);
+            answer
+        }
     }
 }

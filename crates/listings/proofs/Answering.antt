@@ -5,20 +5,20 @@ use mathlib.Core.Path.{_≡_, refl, sym, ap, subst, _∙_}
 use mathlib.Core.Bool.{Bool, true, false}
 use native.Mathlib.Omega.{arith}
 use native.Mathlib.Nat.{div-le-of-le-mul}
-use Rattle.outcomes.specs.Outcome.{Outcome, done, refused, mapDone, andThen}
+use Rattle.outcomes.specs.Outcome.{Outcome, done, refused, Long, mapDone, andThen}
 use Rattle.outcomes.specs.Refusal.{numberOf, placeOf}
 use Rattle.runs.specs.Runs.{Runs, countOf}
 use Rattle.runs.specs.Check.{checkOf}
 use Rattle.outcomes.specs.declared.Refusal.{Refusal}
-use Rattle.outcomes.proofs.Judging.{done-refused, map-then}
+use Rattle.outcomes.proofs.Judging.{done-refused, long-less}
 use Rattle.outcomes.specs.Degree.{noDegree}
 use Rattle.outcomes.proofs.Degrees.{degree-in}
 use Rattle.runs.proofs.Accepted.{accepted-legal}
 use Rattle.tables.specs.Tables.{Tables, tablesOf, sizeOf}
 use Rattle.cuts.specs.Balance.{balanced, boundOf}
-use Rattle.balance.specs.Lent.{Lent, Room, tableSize, firstOf, balancedSays, balanceOf, Balances}
-use Rattle.balance.specs.Plan.{sizesOf, sizedOf, plannedOf}
-use Rattle.balance.proofs.Outcomes.{room-passes, room-less, sized-degree, sized-done, balance-planned}
+use Rattle.balance.specs.Lent.{Lent, lentColumns, Room, firstOf, balancedSays, balanceOf, Balances}
+use Rattle.plans.proofs.Outcomes.{sized-degree, planned-refused, planned-accepted}
+use Rattle.balance.proofs.Outcomes.{balance-refused, balance-done, room-in-bound}
 use Rattle.balance.specs.declared.Balanced.{Balanced}
 use Rattle.balance.specs.declared.Balanced.the-variants.{Intervals, Refused}
 use Rattle.cuts.proofs.Balancing.{balanced-legal, balanced-cuts}
@@ -37,35 +37,32 @@ bound-twice (suc (suc f)) k h =
     let z : suc (suc f) - 1 ≡ suc f = omega arith in
     rw z (div-le-of-le-mul (suc f) {m = suc (suc f) * k} {n = 2 * k} (omega arith))
 
-module _ (h : Header) (r : Runs) (few : countOf r ≤ maxListed) (entry : Lent) (s : Room maxTabled entry) where
+module _ (h : Header) (r : Runs) (few : countOf r ≤ maxListed) (entry : Lent) (s : Long maxTabled (lentColumns entry)) where
   -- the tables that balancing is to leave
   abbrev goal : Tables
   goal = tablesOf (h .n) (balanced (h .d) (h .n) r)
 
-  -- there is room at any degree, so that of 7 and 8 only 7 is left
-  room : 2 ≤ h .d → Room (tableSize (h .d) (countOf r)) entry
-  room a =
-      let m = bound-twice (h .d) (countOf r) a in
-      room-less maxTabled entry (tableSize (h .d) (countOf r)) (omega arith) s
-
-  degrees : mapDone (λ u. goal) (sizedOf (h .d) (countOf r) (sizesOf entry)) ≡ mapDone (λ g. goal) (degreeOf h)
-  unfolding mapDone
-  degrees = go (noDegree (h .d)) refl
-    where
-      go : (b : Bool) → noDegree (h .d) ≡ b
-          → mapDone (λ u. goal) (sizedOf (h .d) (countOf r) (sizesOf entry)) ≡ mapDone (λ g. goal) (degreeOf h)
-      go true e = rw (sized-degree (h .d) (countOf r) (sizesOf entry) e, ← degree-refused h e)
-      go false e =
-          let f = room-passes (tableSize (h .d) (countOf r)) entry (room (degree-in (h .d) e .0)) in
-          rw (sized-done (h .d) (countOf r) (sizesOf entry) e f, ← degree-passed h e)
-
+  -- there is room at any degree, so that of the tests behind the check only 7 is left
   balance-listed : balanceOf (h .n) r (h .d) entry ≡ mapDone (λ g. goal) (listedOf h r)
-  unfolding plannedOf listedOf
-  balance-listed =
-      balance-planned (h .n) r (h .d) entry
-      ∙ map-then (λ u. goal) (checkOf (h .n) r) (λ u. sizedOf (h .d) (countOf r) (sizesOf entry))
-      ∙ ap (λ (o : Outcome Tables). andThen (checkOf (h .n) r) (λ u. o)) degrees
-      ∙ sym (map-then (λ g. goal) (checkOf (h .n) r) (λ u. degreeOf h))
+  unfolding listedOf andThen mapDone
+  balance-listed = go (checkOf (h .n) r) refl
+    where
+      room : checkOf (h .n) r ≡ done tt → 2 ≤ h .d → Room (h .n) r (h .d) entry
+      room a m = room-in-bound (h .n) r (h .d) entry (accepted-legal (h .n) r a .0) m
+          (long-less (boundOf (h .d) (countOf r)) maxTabled (lentColumns entry)
+          (omega (arith, bound-twice (h .d) (countOf r) m)) s)
+
+      degrees : checkOf (h .n) r ≡ done tt → (b : Bool) → noDegree (h .d) ≡ b
+          → balanceOf (h .n) r (h .d) entry ≡ mapDone (λ g. goal) (degreeOf h)
+      degrees a true e = balance-refused (h .n) r (h .d) entry 7 (h .d)
+          (planned-accepted (h .n) r (h .d) _ a ∙ sized-degree (h .d) (countOf r) _ e) ∙ rw (← degree-refused h e)
+      degrees a false e = let i = degree-in (h .d) e in
+          balance-done (h .n) r (h .d) entry a (i .0) (i .1) (room a (i .0)) ∙ rw (← degree-passed h e)
+
+      go : (o : Outcome (Unit {0})) → checkOf (h .n) r ≡ o
+          → balanceOf (h .n) r (h .d) entry ≡ mapDone (λ g. goal) (andThen o (λ u. degreeOf h))
+      go (done _) a = degrees a (noDegree (h .d)) refl
+      go (refused k p) a = balance-refused (h .n) r (h .d) entry k p (sym (planned-refused (h .n) r (h .d) _ k p (sym a)))
 
   module _ (exit : Lent) (answer : Balanced) (b : Balances (h .n) r (h .d) entry exit answer) where
     says : balancedSays answer ≡ mapDone (λ g. sizeOf goal) (listedOf h r)
@@ -129,7 +126,7 @@ module _ (h : Header) (r : Runs) (few : countOf r ≤ maxListed) (entry : Lent) 
         go (Refused f) q = refused-text f q
 
 module _ (h : Header) (r : Runs) (few : countOf r ≤ maxListed) (entry exit : Lent) (answer : Balanced)
-    (b : Balances (h .n) r (h .d) entry exit answer) (s : Room maxTabled entry) where
+    (b : Balances (h .n) r (h .d) entry exit answer) (s : Long maxTabled (lentColumns entry)) where
   pub answered : Answered (h .n) answer (exit .tables)
   answered k q = heads h r few entry s exit answer b k q .0
 

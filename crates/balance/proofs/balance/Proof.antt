@@ -1,27 +1,32 @@
--- `balance` meets its contract: the refusal of its plan, or the tables of the list after the planned cuts.
+-- `balance` meets its contract: the refusal of its plan, or what becomes of the tables after the planned cuts.
 use borrow.Author.Needs.{needs}
-use mathlib.Core.Path.{_≡_, subst}
-use native.Mathlib.Omega.{arith}
+use mathlib.Core.Path.{_≡_, sym, subst}
+use lib.Seq.{length-take-le}
 use Rattle.runs.specs.Runs.{Runs, runs}
+use Rattle.plans.specs.Plan.{noLimit, Plans, CutsFound}
+use Rattle.plans.specs.declared.Planned.{Planned}
+use Rattle.plans.proofs.Outcomes.{clearable}
+use Rattle.plans.proofs.Fitted.{found-planned}
 use Rattle.balance.specs.Lent.{Lent, lent}
-use Rattle.balance.specs.Plan.{sizesOf, Plans}
-use Rattle.balance.specs.declared.Planned.{Planned}
 use Rattle.balance.proofs.Outcomes.{plan-refused, plan-fillable, plan-filled}
 use Rattle.balance.proofs.balance.Statement.{statement}
 use Rattle.balance.proofs.balance.Tie as tie
 
--- the places: the call, after its plan, and after the tables are filled
+-- the places: the call, after its plan, with the cuts known, after the tables are filled, and after the working table is cleared
 abbrev start : tie.After-plan → tie.Start
 start c = c .before .before .before .before .before .before .before .before
 
 abbrev planned : tie.After-slice-known5 → tie.After-plan
 planned c = c .before .before
 
-abbrev cut : tie.After-fill-tables-arg4 → tie.After-known-told2
-cut c = c .before .before .before .before
+abbrev plan-of : tie.After-known-told2 → tie.After-plan
+plan-of c = planned (c .before .before .before)
 
-abbrev filled : tie.After-slice-known9 → tie.After-fill-tables
-filled c = c .before .before .before .before .before .before .before .before
+abbrev filled : tie.After-slice-known8 → tie.After-fill-tables
+filled c = c .before .before .before .before .before .before
+
+abbrev cut : tie.After-fill-tables → tie.After-known-told2
+cut c = c .before .before .before .before .before
 
 abbrev list-of : tie.Start → Runs
 list-of a = runs (a .args .starts .now) (a .args .images .now)
@@ -31,9 +36,9 @@ lent-of a = lent (a .args .to-starts .now) (a .args .to-images .now) (a .args .t
 
 -- what a plan promises, where it is known which
 promised : (c : tie.After-plan) (p : Planned) → c .plan .result ≡ p → let a = start c in
-    Plans (a .args .n) (list-of a) (a .args .d) (sizesOf (lent-of a)) (a .args .working .now) (c .plan .last .1 .1 .1 .1 .1 .0) p
+    Plans (a .args .n) (list-of a) noLimit (a .args .d) (a .args .working .now) (c .plan .last .1 .1 .1 .1 .1 .0) p
 promised c p e = let a = start c in
-    subst (λ (q : Planned). Plans (a .args .n) (list-of a) (a .args .d) (sizesOf (lent-of a)) (a .args .working .now)
+    subst (λ (q : Planned). Plans (a .args .n) (list-of a) noLimit (a .args .d) (a .args .working .now)
     (c .plan .last .1 .1 .1 .1 .1 .0) q) e (c .plan .ensures)
 
 plan-requires : tie.Need-plan-requires
@@ -45,13 +50,31 @@ enum-known-planned c = search needs
 enum-known-planned-2 : tie.Need-enum-known-planned-2
 enum-known-planned-2 c = search needs
 
+-- the cuts that were found
+found : (c : tie.After-known-told2) → let a = start (plan-of c) in
+    CutsFound (a .args .n) (list-of a) noLimit (a .args .d) (a .args .working .now) (plan-of c .plan .last .1 .1 .1 .1 .1 .0)
+    (c .before .planned2 .given .0 .0)
+found c = promised (plan-of c) _ (c .before .planned2 .given .1)
+
+slice-reshare-prefix-fill-tables : tie.Need-slice-reshare-prefix-fill-tables
+slice-reshare-prefix-fill-tables c = found c .cuts .fits
+
+slice-aggregate-fill-tables : tie.Need-slice-aggregate-fill-tables
+slice-aggregate-fill-tables c =
+    sym (length-take-le (c .before .before .planned2 .given .0 .0 .cuts) _ (found (c .before) .cuts .fits))
+
 fill-tables-requires : tie.Need-fill-tables-requires
 fill-tables-requires c κs =
-    let k = cut c .before in
-    let g = planned (k .before .before) in
+    let k = c .before .before .before .before in
+    let a = start (plan-of k) in
+    plan-fillable _ (list-of a) _ (lent-of a) _ _ (found k)
+
+clear-requires : tie.Need-clear-requires
+clear-requires c κs =
+    let k = cut (filled (c .before)) in
+    let g = plan-of k in
     let a = start g in
-    let p = promised g _ (k .planned2 .given .1) in
-    plan-fillable _ (list-of a) _ (lent-of a) (p .0) _ _ (p .1) (g .plan .kept .1 .1 .1 .1 .1 .0)
+    clearable _ (list-of a) _ _ (found-planned _ (list-of a) _ _ _ _ (found k)) _ (g .plan .kept .1 .1 .1 .1 .1 .0)
 
 same-length : tie.Need-same-length
 same-length c = search needs
@@ -76,12 +99,11 @@ same-length-5 c = search needs
 
 returns-2 : tie.Need-returns-2
 returns-2 c =
-    let f = filled c in
-    let k = cut (f .before) .before in
-    let g = planned (k .before .before) in
-    let a = start g in
-    let p = promised g _ (k .planned2 .given .1) in
-    plan-filled _ (list-of a) _ (lent-of a) (p .0) _ _ (p .1) _ _ (f .fill-tables .ensures)
+    let w = c .before .before in
+    let f = filled (w .before .before) in
+    let k = cut f in
+    let a = start (plan-of k) in
+    plan-filled _ (list-of a) _ (lent-of a) _ _ (found k) _ _ _ (f .fill-tables .ensures) (w .clear .ensures)
 
 pub balance-spec : {M : Type 1} → statement M
 balance-spec =
@@ -90,7 +112,10 @@ balance-spec =
     plan-requires
     enum-known-planned
     enum-known-planned-2
+    slice-reshare-prefix-fill-tables
+    slice-aggregate-fill-tables
     fill-tables-requires
+    clear-requires
     same-length
     returns
     same-length-2

@@ -1,20 +1,15 @@
 -- `decide` meets its contract: a law for each way to return (proofs/Outcomes).
 use borrow.Author.Needs.{needs}
 use mathlib.Core.Path.{_≡_, sym, ap, _∙_}
-use Prim.Native.Nat.{ℕ}
 use mathlib.Core.Bool.{Bool, true, false, not}
+use native.Mathlib.Omega.{arith}
 use borrow.Author.Tests.{not-true, not-false}
 use Rattle.outcomes.specs.Outcome.{refused}
 use Rattle.outcomes.specs.Degree.{noDegree}
 use Rattle.outcomes.proofs.Degrees.{degree-in}
-use Rattle.balance.specs.Plan.{shortSizes}
-use Rattle.balance.proofs.Outcomes.{sized-degree, sized-short, sized-done}
-use Rattle.balance.proofs.plan.decide.Statement.{statement}
-use Rattle.balance.proofs.plan.decide.Tie as tie
-
--- the call that a test belongs to
-abbrev start : tie.After-is-short → tie.Start
-start c = c .before .before .before .before
+use Rattle.plans.proofs.Outcomes.{sized-degree, sized-short, sized-done}
+use Rattle.plans.proofs.deciding.decide.Statement.{statement}
+use Rattle.plans.proofs.deciding.decide.Tie as tie
 
 -- what a test on an answer of `is_degree` says of the degree
 refused-by : {d r : Bool} → r ≡ not d → not r ≡ true → d ≡ true
@@ -36,26 +31,17 @@ passes c = passed-by (c .before .is-degree .ensures) (c .if1 .left)
 bound-of-requires : tie.Need-bound-of-requires
 bound-of-requires c κs = let i = degree-in _ (passes c) in (i .0, i .1, c .before .before .pre)
 
-is-short-requires : tie.Need-is-short-requires
-is-short-requires c κs = search needs
-
-cast-t9 : tie.Need-cast-t9
-cast-t9 c = search needs
+cast-t8 : tie.Need-cast-t8
+cast-t8 c = search needs
 
 returns-2 : tie.Need-returns-2
 returns-2 c =
-    let a = start (c .before) .args in
-    let b = c .before .before .bound-of .ensures .0 in
-    ap (refused 8) b
-    ∙ sym (sized-short _ _ _ (passes (c .before .before .before))
-    (ap (λ (k : ℕ). shortSizes k (a .sizes)) (sym b) ∙ sym (c .before .is-short .ensures) ∙ c .if2 .taken))
+    let b = c .before .bound-of .ensures .0 in
+    ap (refused 8) b ∙ sym (sized-short _ _ _ (passes (c .before .before)) (omega (arith, b, c .if2 .taken)))
 
 returns-3 : tie.Need-returns-3
 returns-3 c =
-    let a = start (c .before) .args in
-    sym (sized-done _ _ _ (passes (c .before .before .before))
-    (ap (λ (k : ℕ). shortSizes k (a .sizes)) (sym (c .before .before .bound-of .ensures .0))
-    ∙ sym (c .before .is-short .ensures) ∙ c .if2 .left))
+    sym (sized-done _ _ _ (passes (c .before .before)) (omega (arith, c .before .bound-of .ensures .0, c .if2 .left)))
 
 pub decide-spec : {M : Type 1} → statement M
 decide-spec =
@@ -64,7 +50,6 @@ decide-spec =
     is-degree-requires
     returns
     bound-of-requires
-    is-short-requires
-    cast-t9
+    cast-t8
     returns-2
     returns-3)

@@ -4,8 +4,8 @@ use Prim.Native.Nat.{_*_, _-_, _≤_}
 use mathlib.Core.Path.{refl}
 use native.Mathlib.Nat.{mul-le-mul, div-le-self, le-trans}
 use native.Mathlib.Omega.{arith}
-use Rattle.balance.proofs.plan.bound_of.Statement.{statement}
-use Rattle.balance.proofs.plan.bound_of.Tie as tie
+use Rattle.plans.proofs.deciding.bound_of.Statement.{statement}
+use Rattle.plans.proofs.deciding.bound_of.Tie as tie
 
 small : (c : tie.Start) → c .args .d * c .args .k ≤ 1048576
 small c = mul-le-mul (c .pre .1) (c .pre .2)

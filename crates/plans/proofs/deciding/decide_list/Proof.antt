@@ -6,9 +6,9 @@ use Rattle.outcomes.specs.Refusal.{checkedSays}
 use Rattle.runs.specs.Check.{checkOf}
 use Rattle.runs.specs.Runs.{Runs, runs}
 use Rattle.runs.proofs.Accepted.{accepted-legal}
-use Rattle.balance.proofs.Outcomes.{planned-refused, planned-accepted, planned-passed}
-use Rattle.balance.proofs.plan.decide_list.Statement.{statement}
-use Rattle.balance.proofs.plan.decide_list.Tie as tie
+use Rattle.plans.proofs.Outcomes.{planned-refused, planned-accepted, planned-passed}
+use Rattle.plans.proofs.deciding.decide_list.Statement.{statement}
+use Rattle.plans.proofs.deciding.decide_list.Tie as tie
 
 -- the places: the call, and after the check
 abbrev start : tie.After-check-order → tie.Start

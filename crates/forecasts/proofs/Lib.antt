@@ -1,0 +1,2 @@
+-- What the calls come to, by their plans.
+pub mod Outcomes
