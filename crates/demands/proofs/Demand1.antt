@@ -1,8 +1,9 @@
 -- Demand 1. The order of conditions of each operation is read off its definition; what `judge` gives is proved once for
--- all of them; and a refusal leaves what was lent, since `filled`, `filledTables`, `markAfter` and `recordsAfter` do.
+-- all of them; and a refusal leaves what was lent, since `filled`, `filledTables`, `clearedBy`, `markAfter` and `recordsAfter` do.
 use Prim.Native.Nat.{ℕ, zero, suc, suc-le-suc}
 use mathlib.Core.Path.{_≡_, refl, sym, ap, _∙_}
 use mathlib.Core.Bool.{Bool, true, false}
+use mathlib.Core.Logic.{inl, inr}
 use mathlib.Core.List.{List, [], _∷_, map}
 use native.Mathlib.Nat.{not-suc-le-zero, le-of-suc-le-suc}
 use native.Mathlib.Omega.{arith}
@@ -14,7 +15,7 @@ use Rattle.runs.specs.Check.{listTests, testsUpTo}
 use Rattle.runs.proofs.Written.{writes-kept}
 use Rattle.lists.specs.Inverse.{inverseListOf}
 use Rattle.permutations.specs.Next.{nextOf, nextSays}
-use Rattle.outcomes.proofs.Judging.{done-refused, map-refused, filled-refused}
+use Rattle.outcomes.proofs.Judging.{done-refused, map-refused}
 use Rattle.tables.specs.Tables.{Tables, sizeOf}
 use Rattle.walks.specs.Move.{findOf, moveOf, movesOf}
 use Rattle.preimages.specs.Inverse.{inverseOf}
@@ -28,10 +29,21 @@ use Rattle.questions.specs.declared.Question.{Question}
 use Rattle.questions.specs.declared.Answered.{Answered}
 use Rattle.balance.specs.Lent.{Lent, balancedSays, balanceOf, Balances}
 use Rattle.balance.specs.declared.Balanced.{Balanced}
+use Rattle.balance.proofs.Outcomes.{fill-refused, balance-passed, balance-refused}
 use Rattle.balance.proofs.Heads.{tables-kept}
+use Rattle.cuts.specs.Balance.{sizeAt}
+use Rattle.plans.specs.Working.{plannedOf}
+use Rattle.plans.specs.Plan.{soughtOf}
+use Rattle.plans.proofs.Outcomes.{sought-refused, fitting-refused}
+use Rattle.plans.proofs.Clearing.{working-kept, working-cleared}
+use Rattle.forecasts.specs.Sizing.{forecastedSays, forecastOf, Forecasts}
+use Rattle.forecasts.specs.Seeking.{soughtSays, leastDegreeOf, Seeks}
+use Rattle.forecasts.specs.declared.Forecasted.{Forecasted}
+use Rattle.forecasts.specs.declared.Sought.{Sought}
+use Rattle.forecasts.proofs.Outcomes.{forecast-planned, degree-sought}
 use Rattle.files.specs.File.{countTests, layoutTests, headerTests, bodyTests, fileTests, fileOf}
 use Rattle.demands.specs.Judged.{NoneOf, RefusedBy, Judged}
-use Rattle.demands.specs.Demands.{Demand1}
+use Rattle.demands.specs.Demands.{KeptUnless, Demand1}
 
 -- the first test decides, or the others do
 none-first : (t : Test) (ts : List Test) (i : ℕ) → t .applies ≡ false → NoneOf i ts → NoneOf (suc i) (t ∷ ts)
@@ -72,14 +84,47 @@ module _ {A : Type 0} (a : A) where
       }
       go false q e rest = refused-first t ts k p q (rest e)
 
--- a refusal goes through to the lent tables
+-- balancing: a refusal goes through to the three tables, and to the working table unless the plan's tests pass
 balance-kept : (n : ℕ) (r : Runs) (d : ℕ) (entry exit : Lent) (o : Balanced) → Balances n r d entry exit o
-    → (k p : ℕ) → balancedSays o ≡ refused k p → exit ≡ entry
+    → (k p : ℕ) → balancedSays o ≡ refused k p
+    → (exit .tables ≡ entry .tables) × KeptUnless 8 (sizeAt n r d) n r d (entry .working) (exit .working) k p
 balance-kept n r d entry exit o c k p e =
-    let q = map-refused sizeOf (balanceOf n r d entry) k p (sym (c .says) ∙ e) in
-    let t = c .written ∙ tables-kept _ k p (entry .tables) q in
-    let w = c .working ∙ filled-refused _ _ k p (entry .working) q in
-    λ j. record { tables = t j; working = w j }
+    (c .written ∙ tables-kept _ k p (entry .tables) q, go (plannedOf n r d (length (entry .working))) refl)
+  where
+    q : balanceOf n r d entry ≡ refused k p
+    q = map-refused sizeOf (balanceOf n r d entry) k p (sym (c .says) ∙ e)
+
+    go : (u : Outcome (Unit {0})) → plannedOf n r d (length (entry .working)) ≡ u
+        → KeptUnless 8 (sizeAt n r d) n r d (entry .working) (exit .working) k p
+    go (refused k′ p′) f =
+        let same : _≡_ {A = Outcome Tables} (refused k′ p′) (refused k p) = sym (balance-refused n r d entry k′ p′ f) ∙ q in
+        let u : k′ ≡ k = cc in
+        let v : p′ ≡ p = cc in
+        let g = f ∙ (λ i. refused (u i) (v i)) in
+        inl (g, c .working ∙ working-kept n r d (entry .working) k p g)
+    go (done _) f = let s = fill-refused _ _ (entry .tables) k p (sym (balance-passed n r d entry f) ∙ q) in
+        inr (f, s .0, s .1, c .working ∙ working-cleared n r d (entry .working) f)
+
+-- the forecast: each refusal is by the plan's tests
+forecast-kept : (n : ℕ) (r : Runs) (d : ℕ) (entry exit : List ℕ) (o : Forecasted) → Forecasts n r d entry exit o
+    → (k p : ℕ) → forecastedSays o ≡ refused k p → exit ≡ entry
+forecast-kept n r d entry exit o c k p e =
+    c .working ∙ working-kept n r d entry k p
+    (map-refused _ _ k p (sym (forecast-planned n r d entry (length entry)) ∙ sym (c .says) ∙ e))
+
+-- the search: so is each but 19
+least-degree-kept : (n : ℕ) (r : Runs) (entries : ℕ) (entry exit : List ℕ) (o : Sought) → Seeks n r entries entry exit o
+    → (k p : ℕ) → soughtSays o ≡ refused k p → KeptUnless 19 entries n r 2 entry exit k p
+least-degree-kept n r entries entry exit o c k p e = go (plannedOf n r 2 (length entry)) refl
+  where
+    q : soughtOf n r entries 2 (length entry) ≡ refused k p
+    q = map-refused _ _ k p (sym (degree-sought n r entries entry (length entry)) ∙ sym (c .says) ∙ e)
+
+    go : (u : Outcome (Unit {0})) → plannedOf n r 2 (length entry) ≡ u → KeptUnless 19 entries n r 2 entry exit k p
+    go (refused k′ p′) f = let g = f ∙ sym (sought-refused n r entries 2 (length entry) k′ p′ f) ∙ q in
+        inl (g, c .working ∙ working-kept n r 2 entry k p g)
+    go (done _) f = let s = fitting-refused n r entries 2 (length entry) k p f q in
+        inr (f, s .0, s .1, c .working ∙ working-cleared n r 2 entry f)
 
 questions-kept : (n : ℕ) (t : Tables) (qs : List Question) (a : Answered) (left : List Question) → Answers n t qs a left
     → (k p : ℕ) → answeredSays a ≡ refused k p → left ≡ qs
@@ -92,11 +137,13 @@ judged : {A : Type 0} (order : List ℕ) (ts : List Test) (a : A) → map (λ t.
 judged order ts a e = record { in-order = e; when-done = judge-passes a ts; when-refused = judge-refuses a ts }
 
 pub demand1 : Demand1
-unfolding listTests testsUpTo countTests layoutTests headerTests bodyTests fileTests inverseListOf balanceOf findOf moveOf movesOf inverseOf weightOf bookmarkOf answersOf nextOf fileOf
+unfolding listTests testsUpTo countTests layoutTests headerTests bodyTests fileTests inverseListOf balanceOf forecastOf leastDegreeOf findOf moveOf movesOf inverseOf weightOf bookmarkOf answersOf nextOf fileOf
 demand1 = record {
   check = λ n r. judged _ _ _ refl;
   inverse-list = λ n r a b. judged _ _ _ refl;
   balance = λ n r d l. judged _ _ _ refl;
+  forecast = λ n r d room. judged _ _ _ refl;
+  least-degree = λ n r entries room. judged _ _ _ refl;
   find = λ n t i. judged _ _ _ refl;
   move = λ n t x i. judged _ _ _ refl;
   no-move = λ n t x i. judged _ _ _ refl;
@@ -111,6 +158,8 @@ demand1 = record {
   file = λ most bytes. judged _ _ _ refl;
   inverse-list-kept = λ n r a b a′ b′ o c. writes-kept checkedSays _ (inverseListOf n r a b) a b o a′ b′ c;
   balance-kept = balance-kept;
+  forecast-kept = forecast-kept;
+  least-degree-kept = least-degree-kept;
   bookmark-kept = bookmark-kept;
   next-list-kept = λ n r a b a′ b′ x c. writes-kept nextSays countOf (nextOf n r a b) a b x a′ b′ c;
   questions-kept = questions-kept;

@@ -23,14 +23,15 @@ use Rattle.walks.proofs.LegalTables.{legal-find-beyond}
 use Rattle.walks.specs.Move.{findOf}
 use Rattle.cuts.specs.Balance.{balanced}
 use Rattle.balance.proofs.Heads.{answer-is, head-is}
-use Rattle.balance.proofs.Outcomes.{balance-done}
+use Rattle.balance.specs.Lent.{Room}
+use Rattle.balance.proofs.Outcomes.{balance-done, room-in-bound}
 use Rattle.cuts.proofs.Balancing.{balanced-legal, balanced-map, balanced-light, balanced-count}
 use Rattle.demands.specs.Calls.{Call, total, countIn, Bounded}
 use Rattle.walks.specs.Plain.{maxCount, plainMove, plainMoves}
 use Rattle.walks.proofs.LegalCounts.{count-most}
 use Rattle.demands.specs.PlainWalk.{walkCounts, plainTrail}
 use Rattle.demands.specs.Served.{served, servedTrail}
-use Rattle.demands.specs.Demands.{Through, Serves, Demand3}
+use Rattle.demands.specs.Demands.{Through, Serves, BalancesFor, Demand3}
 use Rattle.demands.proofs.Demand2.{balanced-few, through-balanced}
 use Rattle.demands.proofs.Serving.{same-replies}
 use Rattle.demands.proofs.Counting.{counts-length, counts-sum, counts-most, bounded-total, records-total, all-most}
@@ -125,12 +126,19 @@ module _ (n : ℕ) (r : Runs) (d : ℕ) (c : Legal n r) (k : countOf r ≤ maxRu
       }
 
 pub demand3 : Demand3
-demand3 n r d entry exit answer b a many few room =
-    let l = accepted-legal n r a in
-    let e = balance-done n r d entry a many few room in
-    let paired = balanced-legal d n many r (l .0) .paired in (
-      countOf (balanced d n r),
-      answer-is n r d entry exit answer b e paired,
-      balanced-count d n many r (l .0),
-      rw (head-is n r d entry exit answer b e paired) (tables-serve n r d (l .0) (l .1) many few),
-    )
+demand3 = (
+  served-in-room,
+  λ n r d entry exit answer b a many few long. served-in-room n r d entry exit answer b a many few
+      (room-in-bound n r d entry (accepted-legal n r a .0) many long),
+)
+  where
+    served-in-room : BalancesFor Room
+    served-in-room n r d entry exit answer b a many few room =
+        let l = accepted-legal n r a in
+        let e = balance-done n r d entry a many few room in
+        let paired = balanced-legal d n many r (l .0) .paired in (
+          countOf (balanced d n r),
+          answer-is n r d entry exit answer b e paired,
+          balanced-count d n many r (l .0),
+          rw (head-is n r d entry exit answer b e paired) (tables-serve n r d (l .0) (l .1) many few),
+        )

@@ -1,4 +1,4 @@
--- The proofs of the three demands.
+-- The proofs of the three demands, and of what is foretold.
 mod Counting
 mod Serving
 mod Marking
@@ -6,3 +6,4 @@ mod Through
 pub mod Demand1
 pub mod Demand2
 pub mod Demand3
+pub mod Foretelling

@@ -1,13 +1,14 @@
--- The three demands, in our words. Their proofs are in proofs/, apart from what they say. That every call stays in bounds
--- and ends is what the checker proves of each function; here stands what its contract's definitions come to. What is promised of
--- small lists beside demand 1 stands in permutations/specs/SmallLists.
+-- The three demands, in our words, and what is promised of the forecast beside them. Their proofs are in proofs/, apart from what
+-- they say. That every call stays in bounds and ends is what the checker proves of each function; here stands what its contract's
+-- definitions come to. What is promised of small lists beside demand 1 stands in permutations/specs/SmallLists.
 use Prim.Native.Nat.{ℕ, suc, _+_, _*_, _^_, _≤_, _<_}
 use mathlib.Core.Path.{_≡_}
+use mathlib.Core.Bool.{true}
 use mathlib.Core.Logic.{_↔_, _⊎_}
 use mathlib.Core.List.{List, [], _∷_, _++_, map}
-use lib.ListN.{length}
+use lib.ListN.{length, replicate}
 use Rattle.order.specs.Lists.{All}
-use Rattle.outcomes.specs.Outcome.{done, refused}
+use Rattle.outcomes.specs.Outcome.{done, refused, anyShort, Long, over}
 use Rattle.outcomes.specs.Refusal.{checkedSays}
 use Rattle.runs.specs.Runs.{Runs, countOf, runAt, mapOf, powerOf, carryBack}
 use Rattle.runs.specs.Legal.{DisjointIntervals, IntervalSequence}
@@ -16,7 +17,7 @@ use Rattle.lists.specs.Inverse.{inverseRuns, inverseListOf, InverseListed}
 use Rattle.outcomes.specs.declared.Checked.{Checked}
 use Rattle.permutations.specs.Next.{nextTests, nextRuns, nextOf, nextSays, NextListed}
 use Rattle.permutations.specs.declared.Next.{Next}
-use Rattle.tables.specs.Tables.{Tables, tablesOf}
+use Rattle.tables.specs.Tables.{Tables, tablesOf, allColumns}
 use Rattle.walks.specs.Move.{movedSays, findTests, locateTests, moveTests, foundAt, stepOf, stayAt, findOf, moveOf, movesOf, Stopped, ReadsTo, LiesIn}
 use Rattle.preimages.specs.Inverse.{sourceOf, inverseTests, inverseOf}
 use Rattle.weights.specs.Under.{underTests, underCount, weightOf, startsUnderOf}
@@ -30,9 +31,16 @@ use Rattle.questions.specs.Agree.{Agrees, OnePass}
 use Rattle.questions.specs.Plain.{plainAnswers, plainQuestion}
 use Rattle.questions.specs.declared.Question.{Question}
 use Rattle.questions.specs.declared.Answered.{Answered}
-use Rattle.cuts.specs.Balance.{balanced, boundOf}
-use Rattle.balance.specs.Lent.{Lent, Room, firstOf, balancedSays, balanceTests, balanceOf, Balances}
+use Rattle.cuts.specs.Balance.{balanced, boundOf, sizeAt}
+use Rattle.plans.specs.Working.{workingSize, planTests, plannedOf}
+use Rattle.balance.specs.Lent.{Lent, lentColumns, Room, firstOf, balancedSays, balanceTests, balanceOf, Balances}
 use Rattle.balance.specs.declared.Balanced.{Balanced}
+use Rattle.forecasts.specs.Sizing.{forecastedSays, forecastAt, forecastOf, Forecasts}
+use Rattle.forecasts.specs.declared.BalancedSize.{BalancedSize}
+use Rattle.forecasts.specs.declared.Forecasted.{Forecasted}
+use Rattle.forecasts.specs.Seeking.{soughtSays, leastAt, degreeTests, leastDegreeOf, Seeks}
+use Rattle.forecasts.specs.declared.LeastDegree.{LeastDegree}
+use Rattle.forecasts.specs.declared.Sought.{Sought}
 use Rattle.files.specs.Words.{headerOf}
 use Rattle.files.specs.File.{fileTests, fileOf}
 use Rattle.files.specs.Right.{RightFile}
@@ -45,13 +53,27 @@ use Rattle.demands.specs.Served.{served, servedTrail, Advancing}
 
 -- DEMAND 1. Whatever numbers stand in a list, a file, tables, a bookmark or questions, a call does its work or gives the
 -- number of the first condition that applies, in an order that is fixed; and a refused call leaves all that was lent as it
--- was. The numbers are 1 to 15, 16 for questions, and 17 and 18 for the next list.
+-- was, but for the working table after two refusals, 8 with K in balancing and 19 in the search for a degree. The numbers are 1
+-- to 15, 16 for questions, 17 and 18 for the next list, and 19 for that search.
+
+-- A working table after a call at degree d that was refused. Where the tests up to its own refuse the list, the degree or this
+-- table, it is as it was. Where they pass, the refusal is the one named, `number` with `place`, and its first B entries are 0.
+abbrev pub KeptUnless : ℕ → ℕ → ℕ → Runs → ℕ → List ℕ → List ℕ → (given at : ℕ) → Type 0
+KeptUnless number place n r d entry exit given at =
+    ((plannedOf n r d (length entry) ≡ refused given at) × (exit ≡ entry))
+    ⊎ ((plannedOf n r d (length entry) ≡ done tt) × (given ≡ number) × (at ≡ place)
+    × (exit ≡ over (replicate (workingSize d (countOf r)) 0) entry))
+
 pub record Demand1 : Type 0 where
   pub check : (n : ℕ) (r : Runs) → Judged (1 ∷ 2 ∷ 3 ∷ 4 ∷ 5 ∷ 6 ∷ []) (checkTests n r) tt (checkOf n r)
   pub inverse-list : (n : ℕ) (r : Runs) (a b : List ℕ)
       → Judged (1 ∷ 2 ∷ 3 ∷ 4 ∷ 5 ∷ 6 ∷ 8 ∷ []) (writeTests n r (a ∷ b ∷ [])) (inverseRuns r) (inverseListOf n r a b)
   pub balance : (n : ℕ) (r : Runs) (d : ℕ) (l : Lent)
-      → Judged (1 ∷ 2 ∷ 3 ∷ 4 ∷ 5 ∷ 6 ∷ 7 ∷ 8 ∷ []) (balanceTests n r d l) (tablesOf n (balanced d n r)) (balanceOf n r d l)
+      → Judged (1 ∷ 2 ∷ 3 ∷ 4 ∷ 5 ∷ 6 ∷ 7 ∷ 8 ∷ 8 ∷ []) (balanceTests n r d l) (tablesOf n (balanced d n r)) (balanceOf n r d l)
+  pub forecast : (n : ℕ) (r : Runs) (d room : ℕ)
+      → Judged (1 ∷ 2 ∷ 3 ∷ 4 ∷ 5 ∷ 6 ∷ 7 ∷ 8 ∷ []) (planTests n r d room) (forecastAt n r d) (forecastOf n r d room)
+  pub least-degree : (n : ℕ) (r : Runs) (entries room : ℕ)
+      → Judged (1 ∷ 2 ∷ 3 ∷ 4 ∷ 5 ∷ 6 ∷ 8 ∷ 19 ∷ []) (degreeTests n r entries room) (leastAt n r entries) (leastDegreeOf n r entries room)
   pub find : (n : ℕ) (t : Tables) (i : ℕ)
       → Judged (9 ∷ 11 ∷ []) (findTests n t i) (foundAt t i) (findOf n t i)
   pub move : (n : ℕ) (t : Tables) (x i : ℕ)
@@ -84,8 +106,15 @@ pub record Demand1 : Type 0 where
   -- what is lent, after a refusal
   pub inverse-list-kept : (n : ℕ) (r : Runs) (a b a′ b′ : List ℕ) (o : Checked) → InverseListed n r a b a′ b′ o
       → (k p : ℕ) → checkedSays o ≡ refused k p → (a′ ≡ a) × (b′ ≡ b)
+  -- of balancing: the three tables, always; the working table unless the refusal is 8 with K
   pub balance-kept : (n : ℕ) (r : Runs) (d : ℕ) (entry exit : Lent) (o : Balanced) → Balances n r d entry exit o
-      → (k p : ℕ) → balancedSays o ≡ refused k p → exit ≡ entry
+      → (k p : ℕ) → balancedSays o ≡ refused k p
+      → (exit .tables ≡ entry .tables) × KeptUnless 8 (sizeAt n r d) n r d (entry .working) (exit .working) k p
+  pub forecast-kept : (n : ℕ) (r : Runs) (d : ℕ) (entry exit : List ℕ) (o : Forecasted) → Forecasts n r d entry exit o
+      → (k p : ℕ) → forecastedSays o ≡ refused k p → exit ≡ entry
+  -- of the search, whose working table is that of degree 2: the same unless it is 19
+  pub least-degree-kept : (n : ℕ) (r : Runs) (entries : ℕ) (entry exit : List ℕ) (o : Sought) → Seeks n r entries entry exit o
+      → (k p : ℕ) → soughtSays o ≡ refused k p → KeptUnless 19 entries n r 2 entry exit k p
   pub bookmark-kept : (n : ℕ) (t : Tables) (b : Bookmark) (m : Moved) (left : Bookmark) → Advances n t b m left
       → (k p : ℕ) → movedSays m ≡ refused k p → left ≡ b
   pub next-list-kept : (n : ℕ) (r : Runs) (a b a′ b′ : List ℕ) (x : Next) → NextListed n r a b a′ b′ x
@@ -182,9 +211,10 @@ pub record Demand2 : Type 0 where
   pub questions-pass : (n : ℕ) (t : Tables) (qs : List Question) (a : Answered) (left : List Question) → Answers n t qs a left
       → (c : ℕ) → answeredSays a ≡ done c → OnePass t (placesOf qs) left c
 
--- DEMAND 3. An accepted list of k runs, a degree from 2 to 64 and lent tables of at least B entries: balancing fits in B
--- and leaves the same permutation. Any list of calls through the filled entries, refused ones included, is answered as the
--- plain walk answers it, each move reading at most 2d starts; and so for the moves of one bookmark, and for questions together.
+-- DEMAND 3. An accepted list of k runs, a degree from 2 to 64, a working table of at least B entries and other tables of at least
+-- K, which is at most B: balancing fits and leaves the same permutation. Any list of calls through the filled entries, refused
+-- ones included, is answered as the plain walk answers it, each move reading at most 2d starts; and so for the moves of one
+-- bookmark, and for questions together.
 
 -- The tables τ serve, at degree d, the plain walk over the list r and the balanced list t, from any place p and the
 -- interval of t that has it.
@@ -225,9 +255,37 @@ pub record Serves (n : ℕ) (r t : Runs) (d : ℕ) (τ : Tables) : Type 0 where
   pub question-total : (qs : List Question) (a : Answered) (left : List Question) → Answers n τ qs a left
       → (c : ℕ) → answeredSays a ≡ done c → total (map (λ q. q .count) left) ≤ length left * maxCount d
 
-abbrev pub Demand3 : Type 0
-Demand3 =
+-- balancing into lent tables with this much room, and what is promised of the tables that it fills
+abbrev pub BalancesFor : (ℕ → Runs → ℕ → Lent → Type 0) → Type 0
+BalancesFor Enough =
     (n : ℕ) (r : Runs) (d : ℕ) (entry exit : Lent) (answer : Balanced)
     → Balances n r d entry exit answer
-    → checkOf n r ≡ done tt → 2 ≤ d → d ≤ 64 → Room (boundOf d (countOf r)) entry
+    → checkOf n r ≡ done tt → 2 ≤ d → d ≤ 64 → Enough n r d entry
     → (k : ℕ) × (balancedSays answer ≡ done k) × (k ≤ boundOf d (countOf r)) × Serves n r (balanced d n r) d (firstOf k exit)
+
+-- K entries are enough; and so are B in all that is lent, which is document 01's own form
+abbrev pub Demand3 : Type 0
+Demand3 = BalancesFor Room × BalancesFor (λ n r d l. Long (boundOf d (countOf r)) (lentColumns l))
+
+-- THE FORECAST of what balancing does, and the search for a degree. On each list that they accept the forecast is right: balancing
+-- at that degree takes tables of K entries and no shorter ones, and what it fills has K intervals. The degree that is answered
+-- fits and no lower one does; one is answered wherever one fits, and 19 is given exactly where none does.
+pub record Foretold : Type 0 where
+  pub forecast : (n : ℕ) (r : Runs) (d room : ℕ) → checkOf n r ≡ done tt → 2 ≤ d → d ≤ 64 → workingSize d (countOf r) ≤ room
+      → forecastOf n r d room ≡ done (forecastAt n r d)
+  -- each cut adds an interval
+  pub cuts : (n : ℕ) (r : Runs) (d room : ℕ) (f : BalancedSize) → forecastOf n r d room ≡ done f → f .intervals ≡ countOf r + f .cuts
+  -- balancing with a working table of B entries, into tables of as many as were forecast, or of which one has fewer
+  pub balancing : (n : ℕ) (r : Runs) (d room : ℕ) (f : BalancedSize) → forecastOf n r d room ≡ done f
+      → (entry exit : Lent) (answer : Balanced) → Balances n r d entry exit answer
+      → workingSize d (countOf r) ≤ length (entry .working)
+      → (Long (f .intervals) (allColumns (entry .tables)) → balancedSays answer ≡ done (f .intervals))
+      × (anyShort (f .intervals) (allColumns (entry .tables)) ≡ true → balancedSays answer ≡ refused 8 (f .intervals))
+  pub least : (n : ℕ) (r : Runs) (entries room : ℕ) (a : LeastDegree) → leastDegreeOf n r entries room ≡ done a
+      → (2 ≤ a .degree) × (a .degree ≤ 64) × (a .intervals ≡ sizeAt n r (a .degree)) × (a .intervals ≤ entries)
+      × ((e : ℕ) → 2 ≤ e → e < a .degree → entries < sizeAt n r e)
+  pub answered : (n : ℕ) (r : Runs) (entries room e : ℕ) → checkOf n r ≡ done tt → workingSize 2 (countOf r) ≤ room
+      → 2 ≤ e → e ≤ 64 → sizeAt n r e ≤ entries → leastDegreeOf n r entries room ≡ done (leastAt n r entries)
+  pub none : (n : ℕ) (r : Runs) (entries room p : ℕ) → (leastDegreeOf n r entries room ≡ refused 19 p)
+      ↔ ((checkOf n r ≡ done tt) × (workingSize 2 (countOf r) ≤ room) × (p ≡ entries)
+      × ((e : ℕ) → 2 ≤ e → e ≤ 64 → entries < sizeAt n r e))

@@ -1,8 +1,8 @@
 -- The keys that are proved about the definitions: one table, one statement. Its rows are written from document 01: the keys
 -- that it marks to be proved, the example's listing, ψ, and both ends of a shift; and from document 02, what its text comes
--- to for questions together (A.1), the distance (A.2), the next list (A.3) and the starts read (A.4), which every move here
--- counts; what questions answer is still the starts passed in finding. On the left stands what is asked of a definition, on the
--- right the numbers that the document gives, or that were worked out from it by hand.
+-- to for questions together (A.1), the distance (A.2), the next list (A.3), the starts read (A.4), which every move here
+-- counts (what questions answer is still the starts passed in finding), and how large a list will be (A.5). On the left stands
+-- what is asked of a definition, on the right the numbers that the document gives, or that were worked out from it by hand.
 use Prim.Native.Nat.{ℕ, suc}
 use mathlib.Core.Path.{_≡_, refl}
 use mathlib.Core.List.{List, [], _∷_, _++_, map}
@@ -11,7 +11,7 @@ use lib.ListN.{replicate}
 use Rattle.outcomes.specs.Outcome.{Outcome, done, refused, judge, mapDone, andThen, filled}
 use Rattle.runs.specs.Runs.{Runs, runs, countOf, startOf, imageOf, shiftOf}
 use Rattle.runs.specs.Check.{unmatched, unordered, outOfRange, overlap, overlaps, listTests, testsUpTo, checkOf}
-use Rattle.tables.specs.Tables.{Tables, tables, tablesOf, holderOf, misshapen, outside, unheld, broken}
+use Rattle.tables.specs.Tables.{Tables, tables, tablesOf, sizeOf, holderOf, misshapen, outside, unheld, broken}
 use Rattle.walks.specs.Move.{passed, foundAt, unfindable, startsRead, walkCount, stepTo, stepOf, moveOf, onwards, movesOf}
 use Rattle.walks.specs.Plain.{plainMove, plainMoves}
 use Rattle.preimages.specs.Inverse.{sends, sourceOf, inverseOf}
@@ -23,6 +23,10 @@ use Rattle.bookmarks.specs.declared.Bookmark.{Bookmark}
 use Rattle.questions.specs.Questions.{fallsAt, unfindableAt, brokenAt, answersOf, filledIn, recordsAfter}
 use Rattle.questions.specs.declared.Question.{Question}
 use Rattle.cuts.specs.Balance.{cutting, balanced}
+use Rattle.plans.specs.Working.{plannedOf, clearedBy}
+use Rattle.balance.specs.Lent.{lent, balanceOf, filledTables}
+use Rattle.forecasts.specs.Sizing.{forecastOf}
+use Rattle.forecasts.specs.Seeking.{leastDegreeOf}
 use Rattle.folds.specs.Fold.{breaks, maximalRuns}
 use Rattle.permutations.specs.Values.{valuesOf}
 use Rattle.permutations.specs.Next.{lastAscent, lastAbove, changed, successor, falls, nextRuns, nextOf}
@@ -75,6 +79,25 @@ nextRow n r a b =
 
 abbrev pub nines : ℕ → List ℕ
 nines k = replicate k 9
+
+-- a working table of nines after a call: b zeros, and m nines behind them
+abbrev pub zeros : ℕ → ℕ → List ℕ
+zeros b m = replicate b 0 ++ nines m
+
+-- the size that is forecast, or the least degree and its K, and a working table of w nines after the call
+abbrev pub forecastRow : ℕ → Runs → ℕ → ℕ → List ℕ
+forecastRow n r d w = rowFrom (λ f. f .intervals ∷ f .cuts ∷ []) (forecastOf n r d w) ++ clearedBy n r d (nines w)
+
+abbrev pub degreeRow : ℕ → Runs → ℕ → ℕ → List ℕ
+degreeRow n r entries w = rowFrom (λ a. a .degree ∷ a .intervals ∷ []) (leastDegreeOf n r entries w) ++ clearedBy n r 2 (nines w)
+
+-- K, and three tables of a, b and c nines and a working table of w after balancing
+abbrev pub balanceRow : ℕ → Runs → ℕ → ℕ → ℕ → ℕ → ℕ → List ℕ
+balanceRow n r d a b c w =
+    let l = lent (nines a) (nines b) (nines c) (nines w) in
+    let t = filledTables (balanceOf n r d l) (l .tables) in
+    rowFrom (λ q. sizeOf q ∷ []) (balanceOf n r d l)
+    ++ (t .list .starts ++ (t .list .images ++ (t .holders ++ clearedBy n r d (nines w))))
 
 -- starts and images, list after list
 abbrev pub listsRow : List Runs → List ℕ
@@ -248,8 +271,23 @@ keys =
     (nextRow 4294967295 furthestDown [] [] is 17 ∷ 4294967295 ∷ []) ∷
     (nextRow 2 (runs (0 ∷ 1 ∷ []) (1 ∷ 0 ∷ [])) (nines 1) (nines 2) is 8 ∷ 2 ∷ 9 ∷ 9 ∷ 9 ∷ []) ∷
     (nextRow 3 single (nines 3) (nines 2) is 8 ∷ 3 ∷ 9 ∷ 9 ∷ 9 ∷ 9 ∷ 9 ∷ []) ∷
+    -- how large the example will be: K and the cuts; 8 with B, and nothing changed
+    (forecastRow 16 example 2 12 is 0 ∷ 6 ∷ 1 ∷ zeros 10 2) ∷
+    (forecastRow 16 example 2 9 is 8 ∷ 10 ∷ nines 9) ∷
+    -- the least degree for 6, 5 and 4 entries; as many zeros as d 2 asks for
+    (degreeRow 16 example 6 12 is 0 ∷ 2 ∷ 6 ∷ zeros 10 2) ∷
+    (degreeRow 16 example 5 12 is 0 ∷ 3 ∷ 5 ∷ zeros 10 2) ∷
+    (degreeRow 16 example 4 12 is 19 ∷ 4 ∷ zeros 10 2) ∷
+    -- balancing into tables of 9 with a working table of 10; into one table too short for K; and a short working table first
+    (balanceRow 16 example 2 9 9 9 10 is
+    0 ∷ 6 ∷ 0 ∷ 2 ∷ 4 ∷ 6 ∷ 8 ∷ 12 ∷ 9 ∷ 9 ∷ 9 ∷ 14 ∷ 12 ∷ 10 ∷ 8 ∷ 0 ∷ 4 ∷ 9 ∷ 9 ∷ 9 ∷ 5 ∷ 5 ∷ 4 ∷ 4 ∷ 0 ∷ 2 ∷ 9 ∷ 9 ∷ 9 ∷ zeros 10 0) ∷
+    (balanceRow 16 example 2 6 6 5 12 is 8 ∷ 6 ∷ (nines 17 ++ zeros 10 2)) ∷
+    (balanceRow 16 example 2 5 5 5 9 is 8 ∷ 10 ∷ nines 24) ∷
+    -- at d 64 B and K are both 5: the two refusals look alike, and only that by K clears the working table
+    (balanceRow 16 example 64 5 5 4 6 is 8 ∷ 5 ∷ (nines 14 ++ zeros 5 1)) ∷
+    (balanceRow 16 example 64 5 5 4 4 is 8 ∷ 5 ∷ nines 18) ∷
     []
 
 pub keys-hold : map computed keys ≡ map given keys
-unfolding judge mapDone andThen unmatched unordered outOfRange overlap overlaps listTests testsUpTo misshapen outside unheld broken passed foundAt unfindable startsRead walkCount stepTo stepOf moveOf onwards movesOf plainMove plainMoves sends sourceOf inverseOf overflows bookmarkOf markAfter markingOf markingsOf fallsAt unfindableAt brokenAt answersOf filledIn recordsAfter cutting balanced filled breaks maximalRuns valuesOf lastAscent lastAbove changed successor falls nextRuns nextOf listsFrom
+unfolding judge mapDone andThen unmatched unordered outOfRange overlap overlaps listTests testsUpTo misshapen outside unheld broken passed foundAt unfindable startsRead walkCount stepTo stepOf moveOf onwards movesOf plainMove plainMoves sends sourceOf inverseOf overflows bookmarkOf markAfter markingOf markingsOf fallsAt unfindableAt brokenAt answersOf filledIn recordsAfter cutting balanced filled breaks maximalRuns valuesOf lastAscent lastAbove changed successor falls nextRuns nextOf listsFrom plannedOf clearedBy forecastOf leastDegreeOf balanceOf filledTables
 keys-hold = refl

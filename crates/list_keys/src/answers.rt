@@ -1,6 +1,8 @@
 // What each call answers, as the rest of a line.
 use balance::Balanced;
 use files::FileChecked;
+use forecasts::Forecasted;
+use forecasts::Sought;
 use outcomes::Checked;
 use permutations::Next;
 use rows::out;
@@ -16,6 +18,20 @@ pub(crate) fn balanced(a: Balanced) {
     match a {
         Balanced::Refused(r) => out::refusal(r),
         Balanced::Intervals(k) => out::one(k as u64),
+    }
+}
+
+pub(crate) fn size(a: Forecasted) {
+    match a {
+        Forecasted::Refused(r) => out::refusal(r),
+        Forecasted::Size(s) => out::two(s.intervals as u64, s.cuts as u64),
+    }
+}
+
+pub(crate) fn degree(a: Sought) {
+    match a {
+        Sought::Refused(r) => out::refusal(r),
+        Sought::Degree(d) => out::two(d.degree as u64, d.intervals as u64),
     }
 }
 

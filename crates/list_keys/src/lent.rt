@@ -104,6 +104,31 @@ pub(crate) fn balance(numbers: &[u32], starts: &[u32], images: &[u32]) {
     );
 }
 
+// Asks for the size at a degree.
+fn forecast_into(n: u32, starts: &[u32], images: &[u32], d: u32, working: &mut [u32]) {
+    answers::size(forecasts::forecast(n, starts, images, d, working));
+    out::now(working);
+}
+
+// Asks for the least degree.
+fn degree_into(n: u32, starts: &[u32], images: &[u32], entries: u32, working: &mut [u32]) {
+    answers::degree(forecasts::least_degree(n, starts, images, entries, working));
+    out::now(working);
+}
+
+// forecast n d or least-degree n, how many entries; and the size of the working table
+pub(crate) fn size_up(numbers: &[u32], starts: &[u32], images: &[u32], is_search: bool) {
+    let n = rows::number(numbers, 0);
+    let number = rows::number(numbers, 1);
+    let size = rows::size(numbers, 2);
+    let mut working = [7u32; 256];
+    if is_search {
+        degree_into(n, starts, images, number, &mut working[0..size]);
+        return;
+    }
+    forecast_into(n, starts, images, number, &mut working[0..size]);
+}
+
 // Checks a file, and lists it into the lent text.
 fn list_into(file: &[u8], text: &mut [u8]) {
     answers::file(file_checks::check_file(file));

@@ -6,6 +6,8 @@
 //     balance n d, the sizes of three lent tables and of the working table : starts : images
 //     file, its count of bytes, the size of a lent text : its words
 //     next-list n, the sizes of two lent tables : starts : images
+//     forecast n d, the size of the working table : starts : images
+//     least-degree n, how many entries, the size of the working table : starts : images
 //
 // A file is answered by its check, and then by how many bytes its listing has.
 mod answers;
@@ -24,7 +26,9 @@ fn call(code: usize, numbers: &[u32], a: &[u32], b: &[u32]) {
         262 => lent::balance(numbers, a, b),
         321 => lent::file(numbers, a),
         432 => lent::write_list(numbers, a, b, true),
-        500..=599 => {}
+        532 => lent::size_up(numbers, a, b, false),
+        632 => lent::size_up(numbers, a, b, true),
+        700..=799 => {}
         _ => out::no_call(),
     }
 }
@@ -34,7 +38,11 @@ fn run_row(line: &[u8], entries: &mut [u32]) {
     out::line(line);
     let row = rows::read(line, entries);
     call(
-        rows::code_of(b" check inverse-list balance file next-list #", line, row),
+        rows::code_of(
+            b" check inverse-list balance file next-list forecast least-degree #",
+            line,
+            row,
+        ),
         rows::part(entries, row, 0),
         rows::part(entries, row, 1),
         rows::part(entries, row, 2),
