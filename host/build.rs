@@ -5,7 +5,8 @@ use std::path::{Path, PathBuf};
 use std::process::Command;
 
 /// The crates of exports: each archive has the functions of its crate alone, all other symbols are local to it.
-const ARCHIVES: [&str; 4] = ["export_lists", "export_permutations", "export_walks", "export_questions"];
+const ARCHIVES: [&str; 5] =
+    ["export_lists", "export_forecasts", "export_permutations", "export_walks", "export_questions"];
 
 fn main() {
     let host = env::var("CARGO_MANIFEST_DIR").expect("cargo names the crate's folder");

@@ -12,16 +12,35 @@ use zibewoka::{Question, Refusal, Step};
 
 /// Seconds of a call of the library and of its peer, each by the fastest of many rounds, turn by turn.
 fn seconds<A, B>(mut library: impl FnMut() -> A, mut peer: impl FnMut() -> B) -> [f64; 2] {
-    let mut calls = 1;
-    while time(calls, &mut library) < Duration::from_millis(1) {
-        calls *= 2;
-    }
+    let calls = calls_in_a_round(&mut library);
     let mut fastest = [Duration::MAX; 2];
     for _ in 0..100 {
         fastest[0] = fastest[0].min(time(calls, &mut library));
         fastest[1] = fastest[1].min(time(calls, &mut peer));
     }
     fastest.map(|whole| whole.as_secs_f64() / f64::from(calls))
+}
+
+/// Seconds of each of several calls, by the fastest of so many rounds, turn by turn. Each makes as many calls in a round as it
+/// needs itself, so that one may be far slower than another.
+fn seconds_of<const N: usize>(rounds: u32, mut calls: [&mut dyn FnMut() -> bool; N]) -> [f64; N] {
+    let counts = calls.each_mut().map(calls_in_a_round);
+    let mut fastest = [Duration::MAX; N];
+    for _ in 0..rounds {
+        for ((fastest, call), &count) in fastest.iter_mut().zip(&mut calls).zip(&counts) {
+            *fastest = time(count, call).min(*fastest);
+        }
+    }
+    std::array::from_fn(|x| fastest[x].as_secs_f64() / f64::from(counts[x]))
+}
+
+/// How many calls take a millisecond, doubled until they do.
+fn calls_in_a_round<T>(call: &mut impl FnMut() -> T) -> u32 {
+    let mut calls = 1;
+    while time(calls, call) < Duration::from_millis(1) {
+        calls *= 2;
+    }
+    calls
 }
 
 fn time<T>(calls: u32, call: &mut impl FnMut() -> T) -> Duration {
@@ -65,6 +84,22 @@ fn assert_moved_alike(n: u32, s: &[u32], i: &[u32], h: &[u32], x: u32, place: u3
     assert_eq!(zibewoka::moves(n, s, i, h, x, place, m).expect("moves"), often.expect("moves"));
 }
 
+/// B, how many entries the working table has.
+fn bound(d: u32, k: usize) -> usize {
+    d as usize * k / (d as usize - 1)
+}
+
+/// K, how many entries the tables have.
+fn intervals(List { n, starts, images }: &List, d: u32) -> usize {
+    let mut working = vec![0; bound(d, starts.len())];
+    zibewoka::forecast(*n, starts, images, d, &mut working).expect("legal").intervals as usize
+}
+
+/// What the peer comes to, as the library says it.
+fn refusal<T>(outcome: peer::Outcome<T>) -> Result<T, Refusal> {
+    outcome.map_err(|(number, place)| Refusal { number, place: place.into() })
+}
+
 /// How many lists of a line are checked in turn: one alone would teach the processor where the jumps of a short sort go.
 const LISTS: usize = 16;
 
@@ -73,7 +108,6 @@ fn line(r: &mut Random, shape: &str, k: usize, d: u32) -> String {
     let lists: Vec<List> = (0..LISTS).map(|_| list(r, shape, k)).collect();
     let List { n, starts, images } = &lists[0];
     let n = *n;
-    let b = d as usize * k / (d as usize - 1);
     let mut cells = Vec::new();
     let mut cell =
         |unit: f64, [library, peer]: [f64; 2]| cells.push(format!("{:.1} | {:.2}", library * unit, library / peer));
@@ -84,8 +118,9 @@ fn line(r: &mut Random, shape: &str, k: usize, d: u32) -> String {
     );
     cell(1e6 / LISTS as f64, times);
 
-    let [mut s, mut i, mut h, mut w] = [0; 4].map(|_| vec![0; b]);
-    let [mut peer_s, mut peer_i, mut peer_h, mut peer_w] = [0; 4].map(|_| vec![0; b]);
+    let size = intervals(&lists[0], d);
+    let [mut s, mut i, mut h, mut peer_s, mut peer_i, mut peer_h] = [0; 6].map(|_| vec![0; size]);
+    let [mut w, mut peer_w] = [0; 2].map(|_| vec![0; bound(d, k)]);
     let times = seconds(
         || zibewoka::balance(n, starts, images, d, &mut s, &mut i, &mut h, &mut w),
         || peer::balance(n, starts, images, d, &mut peer_s, &mut peer_i, &mut peer_h, &mut peer_w),
@@ -93,8 +128,7 @@ fn line(r: &mut Random, shape: &str, k: usize, d: u32) -> String {
     assert!(s == peer_s && i == peer_i && h == peer_h && w == peer_w, "the peer balances alike");
     cell(1e6, times);
 
-    let size = zibewoka::balance(n, starts, images, d, &mut s, &mut i, &mut h, &mut w).expect("legal") as usize;
-    let (s, i, h) = (&s[..size], &i[..size], &h[..size]);
+    let (s, i, h) = (&s[..], &i[..], &h[..]);
     let places: Vec<u32> = (0..64).map(|_| r.below(u64::from(n)) as u32).collect();
     let times = seconds(
         || places.iter().map(|&p| zibewoka::find(n, s, i, h, p).expect("a place")).sum::<u32>(),
@@ -156,10 +190,13 @@ fn assert_refused_alike(n: u32, s: &[u32], i: &[u32], h: &[u32], asked: &[Questi
 
 /// One line of the table of questions: the library's time, its ratio to the peer's, and that to find and move one by one.
 fn questions_line(r: &mut Random, shape: &str, k: usize, d: u32) -> String {
-    let List { n, starts, images } = list(r, shape, k);
-    let [mut s, mut i, mut h, mut w] = [0; 4].map(|_| vec![0; d as usize * k / (d as usize - 1)]);
-    let size = zibewoka::balance(n, &starts, &images, d, &mut s, &mut i, &mut h, &mut w).expect("legal") as usize;
-    let (s, i, h) = (&s[..size], &i[..size], &h[..size]);
+    let list = list(r, shape, k);
+    let size = intervals(&list, d);
+    let List { n, starts, images } = list;
+    let [mut s, mut i, mut h] = [0; 3].map(|_| vec![0; size]);
+    let mut w = vec![0; bound(d, k)];
+    zibewoka::balance(n, &starts, &images, d, &mut s, &mut i, &mut h, &mut w).expect("tables of K entries");
+    let (s, i, h) = (&s[..], &i[..], &h[..]);
 
     let mut asked = questions(r, n, k);
     let mut peer_asked = asked.clone();
@@ -243,8 +280,7 @@ fn next_list(list: &List, s: &mut [u32], i: &mut [u32]) -> Result<u32, Refusal> 
 }
 
 fn peer_next_list(list: &List, s: &mut [u32], i: &mut [u32]) -> Result<u32, Refusal> {
-    peer::next_list(list.n, &list.starts, &list.images, s, i)
-        .map_err(|(number, place)| Refusal { number, place: place.into() })
+    refusal(peer::next_list(list.n, &list.starts, &list.images, s, i))
 }
 
 /// One line of the table of next lists: the library's time for a list and its ratio to the peer's, over all lists of n places but
@@ -278,6 +314,164 @@ fn print_next_lists() {
     }
 }
 
+/// The peer forecasts as the library does, and balances so into tables of K entries and of one fewer; working tables of one
+/// entry fewer than B, of B and of more, degrees that are none, and no places at all.
+fn assert_forecast_alike(list: &List, d: u32) {
+    let List { n, starts, images } = list;
+    let k = starts.len();
+    for (n, d) in [(*n, d), (*n, 1), (*n, 65), (0, d)] {
+        let b = bound(d.max(2), k);
+        for working in [b - 1, b, b + 3] {
+            let [mut w, mut peer_w] = [9; 2].map(|nine| vec![nine; working]);
+            let size = zibewoka::forecast(n, starts, images, d, &mut w);
+            assert_eq!(size, refusal(peer::forecast(n, starts, images, d, &mut peer_w)));
+            assert!(w == peer_w, "the peer forecasts alike");
+            let tables = size.map_or(k, |size| size.intervals as usize);
+            for count in [tables - 1, tables] {
+                let [mut s, mut i, mut h, mut peer_s, mut peer_i, mut peer_h] = [9; 6].map(|nine| vec![nine; count]);
+                let [mut w, mut peer_w] = [9; 2].map(|nine| vec![nine; working]);
+                let answer = zibewoka::balance(n, starts, images, d, &mut s, &mut i, &mut h, &mut w);
+                let peer = peer::balance(n, starts, images, d, &mut peer_s, &mut peer_i, &mut peer_h, &mut peer_w);
+                assert_eq!(answer, refusal(peer));
+                assert!(s == peer_s && i == peer_i && h == peer_h && w == peer_w, "the peer balances alike");
+            }
+        }
+    }
+}
+
+/// One line of the table of forecasts: the library's time, its ratio to that of its own balance, and to the peer's.
+fn forecast_line(r: &mut Random, shape: &str, k: usize, d: u32) -> String {
+    let list = list(r, shape, k);
+    assert_forecast_alike(&list, d);
+    let size = intervals(&list, d);
+    let List { n, starts, images } = &list;
+    let [mut s, mut i, mut h] = [0; 3].map(|_| vec![0; size]);
+    let [mut w, mut balance_w, mut peer_w] = [0; 3].map(|_| vec![0; bound(d, k)]);
+    let [library, balance, peer] = seconds_of(
+        100,
+        [
+            &mut || zibewoka::forecast(*n, starts, images, d, &mut w).is_ok(),
+            &mut || zibewoka::balance(*n, starts, images, d, &mut s, &mut i, &mut h, &mut balance_w).is_ok(),
+            &mut || peer::forecast(*n, starts, images, d, &mut peer_w).is_ok(),
+        ],
+    );
+    format!(
+        "| {shape} | {k} | {d} | {size} | {:.1} | {:.2} | {:.2} |",
+        library * 1e6,
+        library / balance,
+        library / peer
+    )
+}
+
+/// Entries to find the least degree for: as many as the list has intervals at degree 2 and at degree 8, one fewer than at degree
+/// 64, and as many as it has runs. Of the lists here those with cuts are cut at every degree, and ever less, so that none fits the
+/// last two; those without have one and the same count of intervals throughout.
+fn stated_entries(list: &List) -> Vec<u32> {
+    let k = list.starts.len();
+    let mut entries = [intervals(list, 2), intervals(list, 8), intervals(list, 64) - 1, k].to_vec();
+    entries.retain(|&entries| entries >= k);
+    entries.dedup();
+    entries.into_iter().map(|entries| entries as u32).collect()
+}
+
+/// The peer finds the degree that the library finds.
+fn assert_least_alike(List { n, starts, images }: &List, entries: u32) {
+    let k = starts.len();
+    for working in [2 * k - 1, 2 * k, 2 * k + 3] {
+        let [mut w, mut peer_w] = [9; 2].map(|nine| vec![nine; working]);
+        let least = zibewoka::least_degree(*n, starts, images, entries, &mut w);
+        assert_eq!(least, refusal(peer::least_degree(*n, starts, images, entries, &mut peer_w)));
+        assert!(w == peer_w, "the peer searches alike");
+    }
+}
+
+/// The degrees up to `highest` that the library sweeps: those that are not ruled out by the cuts that are certain and at which one
+/// is; and all of them where the entries leave room for k/2 cuts, since the weights are not asked then.
+fn swept(List { n, starts, images }: &List, entries: u32, highest: u32) -> Vec<u32> {
+    let (k, entries) = (starts.len(), entries as usize);
+    let below = |place: u32| starts.partition_point(|&start| start < place);
+    let weight = |x: usize| {
+        let length = starts.get(x + 1).unwrap_or(n) - starts[x];
+        below(images[x] + length) - below(images[x])
+    };
+    let certain = |d: u32| (0..k).map(|x| (weight(x) / d as usize).saturating_sub(1)).sum::<usize>();
+    let is_asked = entries < k + k / 2;
+    (2..=highest).filter(|&d| !is_asked || certain(d) > 0 && k + certain(d) <= entries).collect()
+}
+
+/// One line of the table of least degrees: the library's time, its ratio to that of one check and the sweeps that it makes, to that
+/// of one check and the sweeps of all degrees up to the one answered, and to the peer's. A sweep's time is that of the library's
+/// forecast, less that of its check.
+fn least_line(shape: &str, list: &List, entries: u32) -> String {
+    assert_least_alike(list, entries);
+    let List { n, starts, images } = list;
+    let k = starts.len();
+    let [mut w, mut made_w, mut sweeps_w, mut peer_w] = [0; 4].map(|_| vec![0; 2 * k]);
+    let least = zibewoka::least_degree(*n, starts, images, entries, &mut w).ok();
+    let highest = least.map_or(64, |least| least.degree);
+    let made = swept(list, entries, highest);
+    let [library, forecasts_made, forecasts, check, peer] = seconds_of(
+        20,
+        [
+            &mut || zibewoka::least_degree(*n, starts, images, entries, &mut w).is_ok(),
+            &mut || made.iter().all(|&d| zibewoka::forecast(*n, starts, images, d, &mut made_w).is_ok()),
+            &mut || (2..=highest).all(|d| zibewoka::forecast(*n, starts, images, d, &mut sweeps_w).is_ok()),
+            &mut || zibewoka::check(*n, starts, images).is_ok(),
+            &mut || peer::least_degree(*n, starts, images, entries, &mut peer_w).is_ok(),
+        ],
+    );
+    let sweeps_made = forecasts_made - made.len() as f64 * check;
+    let sweeps = forecasts - f64::from(highest - 1) * check;
+    let [degree, size] = match least {
+        Some(least) => [least.degree.to_string(), least.intervals.to_string()],
+        None => ["none", "–"].map(String::from),
+    };
+    format!(
+        "| {shape} | {k} | {entries} | {degree} | {size} | {:.1} | {} | {:.2} | {:.3} | {:.3} |",
+        library * 1e6,
+        made.len(),
+        library / (check + sweeps_made),
+        library / (check + sweeps),
+        library / peer
+    )
+}
+
+fn print_forecasts(r: &mut Random) {
+    println!(
+        "Forecasts: the library's time, as a ratio to that of its own balance, and as a ratio to the peer's forecast."
+    );
+    println!();
+    println!("| list | k | d | K | forecast µs | × balance | × peer |");
+    println!("|---|---|---|---|---|---|---|");
+    for shape in ["shuffled", "cuts"] {
+        for k in [1024, 16384] {
+            for d in [2, 8, 64] {
+                println!("{}", forecast_line(r, shape, k, d));
+            }
+        }
+    }
+}
+
+fn print_least_degrees(r: &mut Random) {
+    println!("The least degree for stated entries, the fastest of twenty rounds: the library's time, how many sweeps it makes,");
+    println!("and the time as a ratio to that of one check and these, to that of one check and the sweeps from degree 2 up to");
+    println!("the one answered (to 64 where none fits), and to the peer's search, which makes all of these. A sweep is timed as");
+    println!("a forecast less a check.");
+    println!();
+    println!(
+        "| list | k | entries | least d | K | search µs | sweeps made | × check and these | × check and all | × peer |"
+    );
+    println!("|---|---|---|---|---|---|---|---|---|---|");
+    for shape in ["shuffled", "cuts"] {
+        for k in [1024, 16384] {
+            let list = list(r, shape, k);
+            for entries in stated_entries(&list) {
+                println!("{}", least_line(shape, &list, entries));
+            }
+        }
+    }
+}
+
 fn main() {
     let r = &mut Random::new(7);
     print_calls(r);
@@ -285,4 +479,8 @@ fn main() {
     print_questions(r);
     println!();
     print_next_lists();
+    println!();
+    print_forecasts(r);
+    println!();
+    print_least_degrees(r);
 }

@@ -25,6 +25,34 @@ pub struct BalanceAnswer {
     pub intervals: u32,
 }
 
+/// The answer of [`forecast`].
+#[repr(C)]
+#[derive(Clone, Copy, Debug, PartialEq, Eq)]
+pub struct ForecastAnswer {
+    /// 0, or the paper's number.
+    pub number: u32,
+    /// The place given with the number; 0 where the call is done.
+    pub place: u32,
+    /// How many intervals the balanced list has.
+    pub intervals: u32,
+    /// How many cuts make it.
+    pub cuts: u32,
+}
+
+/// The answer of [`least_degree`].
+#[repr(C)]
+#[derive(Clone, Copy, Debug, PartialEq, Eq)]
+pub struct DegreeAnswer {
+    /// 0, or the paper's number.
+    pub number: u32,
+    /// The place given with the number; 0 where the call is done.
+    pub place: u32,
+    /// The least degree at which the balanced list has no more intervals than stated.
+    pub degree: u32,
+    /// How many it has at that degree.
+    pub intervals: u32,
+}
+
 /// The answer of [`next_list`].
 #[repr(C)]
 #[derive(Clone, Copy, Debug, PartialEq, Eq)]
@@ -135,6 +163,12 @@ unsafe extern "C" {
         n: u32, starts: Ptr, k: usize, images: Ptr, ki: usize, d: u32,
         to_starts: MutPtr, ls: usize, to_images: MutPtr, li: usize, to_holders: MutPtr, lh: usize, working: MutPtr, lw: usize,
     ) -> BalanceAnswer;
+    fn zibewoka_forecast(
+        n: u32, starts: Ptr, k: usize, images: Ptr, ki: usize, d: u32, working: MutPtr, lw: usize,
+    ) -> ForecastAnswer;
+    fn zibewoka_least_degree(
+        n: u32, starts: Ptr, k: usize, images: Ptr, ki: usize, entries: u32, working: MutPtr, lw: usize,
+    ) -> DegreeAnswer;
     fn zibewoka_inverse_list(
         n: u32, starts: Ptr, k: usize, images: Ptr, ki: usize, to_starts: MutPtr, ls: usize, to_images: MutPtr, li: usize,
     ) -> ListAnswer;
@@ -196,6 +230,18 @@ pub fn balance(
     working: &mut [u32],
 ) -> BalanceAnswer {
     call!(zibewoka_balance, n, [starts, images], [d], [to_starts, to_images, to_holders, working])
+}
+
+/// `zibewoka_forecast`.
+#[inline]
+pub fn forecast(n: u32, starts: &[u32], images: &[u32], d: u32, working: &mut [u32]) -> ForecastAnswer {
+    call!(zibewoka_forecast, n, [starts, images], [d], [working])
+}
+
+/// `zibewoka_least_degree`.
+#[inline]
+pub fn least_degree(n: u32, starts: &[u32], images: &[u32], entries: u32, working: &mut [u32]) -> DegreeAnswer {
+    call!(zibewoka_least_degree, n, [starts, images], [entries], [working])
 }
 
 /// `zibewoka_inverse_list`.

@@ -3,9 +3,13 @@
 //! A run list is a length `n` with two slices of one length: run i sends the places from `starts[i]` up to the next start
 //! (or `n`) to as many places from `images[i]` on. [`check`] says whether a list is a permutation of the places below
 //! `n`; [`next_list`] goes from a list of a few places to the next; [`balance`] writes a list's balanced tables
-//! (starts, images, holders) into lent slices; [`find`], [`move_once`], [`moves`], [`inverse`] and [`weight`] walk through
-//! any tables, and [`questions`] finds and moves for many places in one call. Every function takes any numbers: where it
-//! cannot answer, it says why by a [`Refusal`] and has changed nothing that was lent.
+//! (starts, images, holders) into lent slices; [`forecast`] says beforehand how many entries these need, and
+//! [`least_degree`] at which degree a given number of entries is enough; [`find`], [`move_once`], [`moves`], [`inverse`] and
+//! [`weight`] walk through any tables, and [`questions`] finds and moves for many places in one call.
+//!
+//! Every function takes any numbers: where it cannot answer, it says why by a [`Refusal`] and has changed nothing that was
+//! lent, but for two refusals that leave the first entries of the working table 0, as a call that is done does: that no
+//! degree is enough (19), and that a table is too short for the balanced list (8 with K).
 //!
 //! [`exports`] has the same functions with the answers as they cross the boundary.
 
@@ -36,7 +40,9 @@ struct Readme;
 /// | 5 | an image ends beyond `n` | lowest such run |
 /// | 6 | an image shares a place with another run's | lowest such run |
 /// | 7 | the degree is not 2 to 64 | the degree |
-/// | 8 | a lent table has fewer than B entries (inverse list: than k; next list: than `n`) | B (or k, or `n`) |
+/// | 8 | the working table has fewer than B entries (least degree: than B at degree 2) | B |
+/// | | balance: another lent table has fewer than K entries; tested after the working table | K |
+/// | | a lent table has fewer than k entries (inverse list), or than `n` (next list) | k, or `n` |
 /// | 9 | `n` is 0, or the tables are empty, of unequal count, or above 32,768 entries | 0 |
 /// | 10 | there is no interval of that index | the index |
 /// | 11 | the place is not below `n`, outside the interval, or (find, questions) below the first start | the place |
@@ -45,8 +51,10 @@ struct Readme;
 /// | 16 | a question's place is below that of the one before | the question's index |
 /// | 17 | the next list is asked for of more than 7 places | `n` |
 /// | 18 | the next list is asked for of the last, the decreasing permutation | 0 |
+/// | 19 | at each degree from 2 to 64 the balanced list has more intervals than the stated entries | these entries |
 ///
-/// 13 and 15 are the numbers of bookmarks and of files, which have no export.
+/// k is the number of runs, K the number of intervals of the balanced list, and B, for degree d, the whole part of
+/// d·k/(d−1); K is at most B. 13 and 15 are the numbers of bookmarks and of files, which have no export.
 #[derive(Clone, Copy, Debug, PartialEq, Eq, Hash)]
 pub struct Refusal {
     /// A number of the table.
@@ -63,6 +71,24 @@ impl fmt::Display for Refusal {
 }
 
 impl Error for Refusal {}
+
+/// How large a list becomes when it is balanced.
+#[derive(Clone, Copy, Debug, PartialEq, Eq, Hash)]
+pub struct Forecast {
+    /// K, how many intervals the balanced list has: as many entries as [`balance`] needs in each table that it fills.
+    pub intervals: u32,
+    /// How many cuts make it, which is how many intervals it has more than the list has runs.
+    pub cuts: u32,
+}
+
+/// The least degree at which a balanced list has no more intervals than stated.
+#[derive(Clone, Copy, Debug, PartialEq, Eq, Hash)]
+pub struct LeastDegree {
+    /// The degree, 2 to 64.
+    pub degree: u32,
+    /// K, how many intervals the balanced list has at that degree.
+    pub intervals: u32,
+}
 
 /// A place and the interval that has it.
 #[derive(Clone, Copy, Debug, PartialEq, Eq, Hash)]
@@ -106,11 +132,14 @@ pub fn check(n: u32, starts: &[u32], images: &[u32]) -> Result<(), Refusal> {
 
 /// Balances the list at degree `d`, 2 to 64, and answers K, how many intervals the balanced list has.
 ///
-/// Its tables come to stand in the first K entries of the three lent ones, and the first B entries of `working` are 0
-/// then; B is the whole part of d·k/(d−1), for k runs. All other entries stay.
+/// Its tables come to stand in the first K entries of the three lent ones, which need no more than these ([`forecast`]
+/// gives K), and the first B entries of `working` are 0 then; B is the whole part of d·k/(d−1), for k runs. All other
+/// entries stay.
 ///
 /// # Errors
-/// Numbers 1 to 8; 8 where a lent table has fewer than B entries.
+/// Numbers 1 to 7; then 8 with B where `working` has fewer than B entries; then 8 with K where another table has fewer than
+/// K. The last one leaves the first B entries of `working` 0, and the other tables as they were; B and K may be equal, so
+/// whether `working` was long enough tells the two apart, and not the answer.
 #[allow(clippy::too_many_arguments)] // the paper's own
 #[inline]
 pub fn balance(
@@ -126,6 +155,62 @@ pub fn balance(
     let answer = exports::balance(n, starts, images, d, to_starts, to_images, to_holders, working);
     done(answer.number, answer.place)?;
     Ok(answer.intervals)
+}
+
+/// How large the list becomes when it is balanced at degree `d`, 2 to 64: what [`balance`] does, with only its working table
+/// lent.
+///
+/// The first B entries of `working` are 0 then, B being the whole part of d·k/(d−1), for k runs; all others stay.
+///
+/// ```
+/// let (n, starts, images) = (16, [0, 2, 4, 6, 8], [14, 12, 10, 8, 0]);
+/// let mut working = [0; 10]; // B entries: 2·5/(2 − 1) at degree 2
+/// let size = zibewoka::forecast(n, &starts, &images, 2, &mut working)?;
+/// assert_eq!(size, zibewoka::Forecast { intervals: 6, cuts: 1 });
+/// let [mut s, mut i, mut h] = [0; 3].map(|_| vec![0; size.intervals as usize]);
+/// assert_eq!(zibewoka::balance(n, &starts, &images, 2, &mut s, &mut i, &mut h, &mut working), Ok(6));
+/// # Ok::<(), zibewoka::Refusal>(())
+/// ```
+///
+/// # Errors
+/// Numbers 1 to 8; 8 where `working` has fewer than B entries.
+#[inline]
+pub fn forecast(n: u32, starts: &[u32], images: &[u32], d: u32, working: &mut [u32]) -> Result<Forecast, Refusal> {
+    let answer = exports::forecast(n, starts, images, d, working);
+    done(answer.number, answer.place)?;
+    Ok(Forecast { intervals: answer.intervals, cuts: answer.cuts })
+}
+
+/// The least degree from 2 to 64 at which the balanced list has at most `entries` intervals, and how many it has there. A
+/// higher degree may give a few more again, so not every degree above the least one fits.
+///
+/// The first 2·k entries of `working`, for k runs, are 0 then, whichever degree is the least: B at degree 2. All others
+/// stay.
+///
+/// ```
+/// let (n, starts, images) = (16, [0, 2, 4, 6, 8], [14, 12, 10, 8, 0]);
+/// let mut working = [0; 10]; // 2·5 entries
+/// let least = zibewoka::least_degree(n, &starts, &images, 5, &mut working)?;
+/// assert_eq!(least, zibewoka::LeastDegree { degree: 3, intervals: 5 }); // at degree 2 there are 6
+/// let none = zibewoka::least_degree(n, &starts, &images, 4, &mut working);
+/// assert_eq!(none, Err(zibewoka::Refusal { number: 19, place: 4 }));
+/// # Ok::<(), zibewoka::Refusal>(())
+/// ```
+///
+/// # Errors
+/// Numbers 1 to 6; then 8 where `working` has fewer than 2·k entries; then 19 where no degree fits, which leaves these
+/// entries 0 too.
+#[inline]
+pub fn least_degree(
+    n: u32,
+    starts: &[u32],
+    images: &[u32],
+    entries: u32,
+    working: &mut [u32],
+) -> Result<LeastDegree, Refusal> {
+    let answer = exports::least_degree(n, starts, images, entries, working);
+    done(answer.number, answer.place)?;
+    Ok(LeastDegree { degree: answer.degree, intervals: answer.intervals })
 }
 
 /// Writes the inverse list to the first k entries of the lent tables.

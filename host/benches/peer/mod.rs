@@ -1,6 +1,6 @@
 //! The peers: the same calls in safe Rust, as a careful programmer would write them, with vectors for working room.
 
-use zibewoka::Question;
+use zibewoka::{Forecast, LeastDegree, Question};
 
 pub type Outcome<T, P = u32> = Result<T, (u32, P)>;
 
@@ -108,6 +108,49 @@ fn balancing_cuts(n: u32, starts: &[u32], images: &[u32], order: &[(u32, u32)], 
     list.cuts
 }
 
+/// Tests 1 to 7, and 8 for the working table. Answers the runs in rising order of image, and B.
+fn check_with_room(
+    n: u32,
+    starts: &[u32],
+    images: &[u32],
+    d: u32,
+    working: &[u32],
+) -> Outcome<(Vec<(u32, u32)>, usize)> {
+    let order = check_into_order(n, starts, images)?;
+    if !(2..=64).contains(&d) {
+        return Err((7, d));
+    }
+    let b = d as usize * starts.len() / (d as usize - 1);
+    if working.len() < b {
+        return Err((8, b as u32));
+    }
+    Ok((order, b))
+}
+
+/// The plan that balance makes, without its tables.
+#[inline(never)]
+pub fn forecast(n: u32, starts: &[u32], images: &[u32], d: u32, working: &mut [u32]) -> Outcome<Forecast> {
+    let (order, b) = check_with_room(n, starts, images, d, working)?;
+    let cuts = balancing_cuts(n, starts, images, &order, d).len();
+    working[..b].fill(0);
+    Ok(Forecast { intervals: (starts.len() + cuts) as u32, cuts: cuts as u32 })
+}
+
+/// The list is checked and sorted once. Then it makes every sweep, from degree 2 up to the one that fits, each from its
+/// beginning to its end: it neither looks ahead which degrees cannot fit nor stops a sweep that has too many cuts already.
+#[inline(never)]
+pub fn least_degree(n: u32, starts: &[u32], images: &[u32], entries: u32, working: &mut [u32]) -> Outcome<LeastDegree> {
+    let (order, b) = check_with_room(n, starts, images, 2, working)?;
+    working[..b].fill(0);
+    for degree in 2..=64 {
+        let intervals = (starts.len() + balancing_cuts(n, starts, images, &order, degree).len()) as u32;
+        if intervals <= entries {
+            return Ok(LeastDegree { degree, intervals });
+        }
+    }
+    Err((19, entries))
+}
+
 #[allow(clippy::too_many_arguments)]
 #[inline(never)]
 pub fn balance(
@@ -120,16 +163,13 @@ pub fn balance(
     to_holders: &mut [u32],
     working: &mut [u32],
 ) -> Outcome<u32> {
-    let order = check_into_order(n, starts, images)?;
-    if !(2..=64).contains(&d) {
-        return Err((7, d));
-    }
-    let b = d as usize * starts.len() / (d as usize - 1);
-    if to_starts.len() < b || to_images.len() < b || to_holders.len() < b || working.len() < b {
-        return Err((8, b as u32));
-    }
+    let (order, b) = check_with_room(n, starts, images, d, working)?;
     let cuts = balancing_cuts(n, starts, images, &order, d);
+    working[..b].fill(0);
     let k = starts.len() + cuts.len();
+    if to_starts.len().min(to_images.len()).min(to_holders.len()) < k {
+        return Err((8, k as u32));
+    }
     let mut rest = &cuts[..];
     let mut at = 0;
     for (x, (&start, &image)) in starts.iter().zip(images).enumerate() {
@@ -146,7 +186,6 @@ pub fn balance(
     for (holder, &image) in to_holders[..k].iter_mut().zip(&to_images[..k]) {
         *holder = to_starts.partition_point(|&s| s <= image) as u32 - 1;
     }
-    working[..b].fill(0);
     Ok(k as u32)
 }
 

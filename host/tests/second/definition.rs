@@ -121,13 +121,20 @@ pub fn balanced_literally(n: u32, starts: &[u32], images: &[u32], d: usize) -> (
     }
 }
 
-/// The same for long lists: a cut changes the weights of its two parts and adds one to that of each interval whose image
-/// has the new start. The tests compare this with `balanced_literally`.
-pub fn balanced(n: u32, starts: &[u32], images: &[u32], d: usize) -> (Vec<u32>, Vec<u32>) {
-    let mut runs: Vec<Run> = (0..starts.len()).map(|i| run(n, starts, images, i)).collect();
-    let mut weights: Vec<usize> = (0..runs.len()).map(|x| weight_of(&runs, x)).collect();
+/// The runs of a list and their weights.
+fn weighed(n: u32, starts: &[u32], images: &[u32]) -> (Vec<Run>, Vec<usize>) {
+    let runs: Vec<Run> = (0..starts.len()).map(|i| run(n, starts, images, i)).collect();
+    let weights = (0..runs.len()).map(|x| weight_of(&runs, x)).collect();
+    (runs, weights)
+}
+
+/// The balanced list of these runs and how often they were cut, for long lists: a cut changes the weights of its two parts
+/// and adds one to that of each interval whose image has the new start. The tests compare this with `balanced_literally`.
+fn balanced_runs((mut runs, mut weights): (Vec<Run>, Vec<usize>), d: usize) -> (Vec<Run>, usize) {
+    let mut cuts = 0;
     while let Some(x) = heavy_with_lowest_image(&runs, &weights, d) {
         cut(&mut runs, x, d);
+        cuts += 1;
         weights.insert(x + 1, 0);
         let new = runs[x + 1].start;
         for y in 0..runs.len() {
@@ -138,7 +145,12 @@ pub fn balanced(n: u32, starts: &[u32], images: &[u32], d: usize) -> (Vec<u32>, 
         weights[x] = weight_of(&runs, x);
         weights[x + 1] = weight_of(&runs, x + 1);
     }
-    lists(&runs)
+    (runs, cuts)
+}
+
+/// The balanced list: starts, then images.
+pub fn balanced(n: u32, starts: &[u32], images: &[u32], d: usize) -> (Vec<u32>, Vec<u32>) {
+    lists(&balanced_runs(weighed(n, starts, images), d).0)
 }
 
 fn lists(runs: &[Run]) -> (Vec<u32>, Vec<u32>) {
@@ -150,18 +162,70 @@ pub fn bound(d: u32, k: usize) -> usize {
     d as usize * k / (d as usize - 1)
 }
 
-/// Tests 1 to 8, and the balanced list's tables. `lent` has the lent tables' counts of entries.
-pub fn balance(n: u32, starts: &[u32], images: &[u32], d: u32, lent: [usize; 4]) -> Outcome<Tables> {
+/// What a call comes to that a working table is lent to, and how many of that table's entries, from the first on, are 0
+/// afterwards. All its other entries keep their numbers.
+pub struct Worked<T> {
+    pub outcome: Outcome<T>,
+    pub cleared: usize,
+}
+
+/// A call that has room in its working table, or is refused for want of it: "after 19, or 8 with K", as "after success", the
+/// room's entries are 0, and after a refusal for the list, the degree or the room none is changed.
+fn worked<T>(room: Outcome<usize>, result: impl FnOnce() -> Outcome<T>) -> Worked<T> {
+    match room {
+        Ok(room) => Worked { outcome: result(), cleared: room },
+        Err(refused) => Worked { outcome: Err(refused), cleared: 0 },
+    }
+}
+
+/// Tests 1 to 7, and "a short working table gives 8 with B". `working` is its count of entries; answers B.
+fn room(n: u32, starts: &[u32], images: &[u32], d: u32, working: usize) -> Outcome<usize> {
     check(n, starts, images)?;
     if !(2..=64).contains(&d) {
         return Err((7, d));
     }
     let b = bound(d, starts.len());
-    if lent.iter().any(|&count| count < b) {
+    if working < b {
         return Err((8, b as u32));
     }
-    let (to_starts, to_images) = balanced(n, starts, images, d as usize);
-    Ok(tables(n, &to_starts, &to_images))
+    Ok(b)
+}
+
+/// The balanced list's tables. "A short working table gives 8 with B first; short tables then give 8 with K." `lent` has the
+/// lent tables' counts of entries, that of the working table last.
+pub fn balance(n: u32, starts: &[u32], images: &[u32], d: u32, lent: [usize; 4]) -> Worked<Tables> {
+    let [to_tables @ .., working] = lent;
+    worked(room(n, starts, images, d, working), || {
+        let (to_starts, to_images) = balanced(n, starts, images, d as usize);
+        let k = to_starts.len();
+        if to_tables.iter().any(|&count| count < k) {
+            return Err((8, k as u32));
+        }
+        Ok(tables(n, &to_starts, &to_images))
+    })
+}
+
+/// "K and the number of cuts for a given d, with only the working table lent": the list is balanced, and the cuts are counted.
+pub fn forecast(n: u32, starts: &[u32], images: &[u32], d: u32, working: usize) -> Worked<(u32, u32)> {
+    worked(room(n, starts, images, d, working), || {
+        let (runs, cuts) = balanced_runs(weighed(n, starts, images), d as usize);
+        Ok((runs.len() as u32, cuts as u32))
+    })
+}
+
+/// "The least d from 2 to 64 whose K fits in a stated number of entries", and that K: the list is balanced at each degree in
+/// turn. The working table "is judged at d 2", where 7 cannot apply, and "as many as d 2's B" of its entries are 0 afterwards.
+pub fn least_degree(n: u32, starts: &[u32], images: &[u32], entries: u32, working: usize) -> Worked<(u32, u32)> {
+    worked(room(n, starts, images, 2, working), || {
+        let list = weighed(n, starts, images);
+        for d in 2..=64 {
+            let k = balanced_runs(list.clone(), d as usize).0.len();
+            if k as u64 <= u64::from(entries) {
+                return Ok((d, k as u32));
+            }
+        }
+        Err((19, entries))
+    })
 }
 
 /// Tests 1 to 6 and 8, and the inverse list: starts, then images.
@@ -416,7 +480,7 @@ fn file(bytes: &[u8]) -> Outcome<(u32, u32, usize, Tables)> {
         return Err((15, 20));
     }
     let (starts, images) = (&words[5..5 + k], &words[5 + k..]);
-    let tables = balance(n, starts, images, d, [usize::MAX; 4])?;
+    let tables = balance(n, starts, images, d, [usize::MAX; 4]).outcome?;
     Ok((n, d, k, tables))
 }
 

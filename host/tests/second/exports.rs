@@ -2,17 +2,18 @@
 //!
 //! Bookmarks are not exported, so neither they nor their number, 13, come up here; nor does 15, which is a file's.
 
-use crate::definition::{self as second, Outcome, Reached, Tables};
+use crate::definition::{self as second, Outcome, Reached, Tables, Worked};
 use crate::random::{damage, damaged, legal, list_of, List, Random};
 use std::collections::BTreeMap;
 use zibewoka::exports::{
-    self, BalanceAnswer, IntervalAnswer, ListAnswer, MoveAnswer, MovesAnswer, NextAnswer, QuestionsAnswer, WeightAnswer,
+    self, BalanceAnswer, DegreeAnswer, ForecastAnswer, IntervalAnswer, ListAnswer, MoveAnswer, MovesAnswer, NextAnswer,
+    QuestionsAnswer, WeightAnswer,
 };
-use zibewoka::{Question, Refusal, Step};
+use zibewoka::{Forecast, LeastDegree, Question, Refusal, Step};
 
 /// How often each number was given.
 #[derive(Debug, Default)]
-struct Numbers(BTreeMap<u32, u32>);
+pub struct Numbers(pub BTreeMap<u32, u32>);
 
 impl Numbers {
     fn add(&mut self, number: u32) {
@@ -28,9 +29,13 @@ impl Numbers {
 
 /// The numbers that each export gave.
 #[derive(Default)]
-struct Given {
+pub struct Given {
     check: Numbers,
-    balance: Numbers,
+    pub balance: Numbers,
+    /// How often balance gave 8 with K, which comes after 8 with B.
+    pub fewer_than_intervals: u32,
+    pub forecast: Numbers,
+    pub least_degree: Numbers,
     inverse_list: Numbers,
     next_list: Numbers,
     find: Numbers,
@@ -57,6 +62,14 @@ fn lent_pair(
         after[0][..starts.len()].copy_from_slice(starts);
         after[1][..images.len()].copy_from_slice(images);
     }
+    (before, after)
+}
+
+/// A working table of this count with any numbers in it, and as a call that clears so many of its entries leaves it.
+fn lent_working(r: &mut Random, count: usize, cleared: usize) -> (Vec<u32>, Vec<u32>) {
+    let before = r.words(count);
+    let mut after = before.clone();
+    after[..cleared].fill(0);
     (before, after)
 }
 
@@ -87,32 +100,70 @@ impl Given {
         self.check.add(number);
     }
 
-    /// Balances into tables of these counts, with any numbers in them.
-    fn balance(&mut self, r: &mut Random, list: &List, d: u32, counts: [usize; 4]) -> Option<Tables> {
+    /// Balances into tables of these counts, that of the working table last, with any numbers in them.
+    pub fn balance(&mut self, r: &mut Random, list: &List, d: u32, counts: [usize; 4]) -> Option<Tables> {
         let List { n, starts, images } = list;
-        let wanted = second::balance(*n, starts, images, d, counts);
+        let Worked { outcome: wanted, cleared } = second::balance(*n, starts, images, d, counts);
         let before = counts.map(|count| r.words(count));
-        let [mut s, mut i, mut h, mut w] = before.clone();
-        let answer = exports::balance(*n, starts, images, d, &mut s, &mut i, &mut h, &mut w);
-        let [mut after_s, mut after_i, mut after_h, mut after_w] = before.clone();
+        let mut after = before.clone();
+        after[3][..cleared].fill(0);
         let (number, place) = wanted.as_ref().err().copied().unwrap_or((0, 0));
         let mut intervals = 0;
         if let Ok(tables) = &wanted {
             let k = tables.starts.len();
             intervals = k as u32;
-            after_s[..k].copy_from_slice(&tables.starts);
-            after_i[..k].copy_from_slice(&tables.images);
-            after_h[..k].copy_from_slice(&tables.holders);
-            after_w[..second::bound(d, starts.len())].fill(0);
+            after[0][..k].copy_from_slice(&tables.starts);
+            after[1][..k].copy_from_slice(&tables.images);
+            after[2][..k].copy_from_slice(&tables.holders);
         }
+        let [mut s, mut i, mut h, mut w] = before.clone();
+        let answer = exports::balance(*n, starts, images, d, &mut s, &mut i, &mut h, &mut w);
         assert_eq!(answer, BalanceAnswer { number, place, intervals });
-        assert!(s == after_s && i == after_i && h == after_h && w == after_w, "the lent tables after balancing");
+        assert!([s, i, h, w] == after, "the lent tables after balancing");
         let [mut s, mut i, mut h, mut w] = before;
         let safe = zibewoka::balance(*n, starts, images, d, &mut s, &mut i, &mut h, &mut w);
         assert_eq!(safe, refusal(wanted.as_ref().map(|_| intervals).map_err(|&e| e)));
-        assert!(s == after_s && i == after_i && h == after_h && w == after_w, "the same through the wrapper");
+        assert!([s, i, h, w] == after, "the same through the wrapper");
         self.balance.add(number);
+        self.fewer_than_intervals += u32::from(number == 8 && cleared > 0);
         wanted.ok()
+    }
+
+    /// Forecasts with a working table of this count: K, where it is given.
+    pub fn forecast(&mut self, r: &mut Random, list: &List, d: u32, working: usize) -> Option<u32> {
+        let List { n, starts, images } = list;
+        let Worked { outcome: wanted, cleared } = second::forecast(*n, starts, images, d, working);
+        let (before, after) = lent_working(r, working, cleared);
+        let mut w = before.clone();
+        let answer = exports::forecast(*n, starts, images, d, &mut w);
+        let (number, place) = wanted.err().unwrap_or((0, 0));
+        let (intervals, cuts) = wanted.unwrap_or((0, 0));
+        assert_eq!(answer, ForecastAnswer { number, place, intervals, cuts });
+        assert!(w == after, "the working table after a forecast");
+        let mut w = before;
+        let safe = zibewoka::forecast(*n, starts, images, d, &mut w);
+        assert_eq!(safe, refusal(wanted.map(|(intervals, cuts)| Forecast { intervals, cuts })));
+        assert!(w == after, "the same through the wrapper");
+        self.forecast.add(number);
+        wanted.ok().map(|(intervals, _)| intervals)
+    }
+
+    /// Asks for the least degree with a working table of this count.
+    pub fn least_degree(&mut self, r: &mut Random, list: &List, entries: u32, working: usize) {
+        let List { n, starts, images } = list;
+        let Worked { outcome: wanted, cleared } = second::least_degree(*n, starts, images, entries, working);
+        let (before, after) = lent_working(r, working, cleared);
+        let mut w = before.clone();
+        let answer = exports::least_degree(*n, starts, images, entries, &mut w);
+        let (number, place) = wanted.err().unwrap_or((0, 0));
+        let (degree, intervals) = wanted.unwrap_or((0, 0));
+        assert_eq!(answer, DegreeAnswer { number, place, degree, intervals });
+        assert!(w == after, "the working table after the least degree");
+        let mut w = before;
+        let safe = zibewoka::least_degree(*n, starts, images, entries, &mut w);
+        assert_eq!(safe, refusal(wanted.map(|(degree, intervals)| LeastDegree { degree, intervals })));
+        assert!(w == after, "the same through the wrapper");
+        self.least_degree.add(number);
     }
 
     fn inverse_list(&mut self, r: &mut Random, list: &List, counts: [usize; 2]) {
@@ -239,13 +290,29 @@ impl Given {
         self.questions.add(number);
     }
 
-    /// Every export on a list. Lent tables are long enough, or one of them is not.
-    fn on_list(&mut self, r: &mut Random, list: &List, d: u32) -> Option<Tables> {
+    /// A forecast and a least degree. Working tables are long enough, or not. Answers K, or k where it is not given.
+    fn sizes(&mut self, r: &mut Random, list: &List, d: u32) -> usize {
+        let k = list.starts.len();
+        let bounds = [d.max(2), 2].map(|d| second::bound(d, k));
+        let mut workings = bounds.map(|b| b + r.below(3) as usize);
+        if r.one_in(6) {
+            workings = bounds.map(|b| r.below(b as u64 + 1) as usize);
+        }
+        let size = self.forecast(r, list, d, workings[0]).map_or(k, |intervals| intervals as usize);
+        let entries = entries(r, k, size);
+        self.least_degree(r, list, entries, workings[1]);
+        size
+    }
+
+    /// Every export on a list; where it is not sized, without the forecast and the least degree. Lent tables are long enough,
+    /// or one of them is not.
+    fn on_list(&mut self, r: &mut Random, list: &List, d: u32, sized: bool) -> Option<Tables> {
         let before = list.clone();
         self.check(list);
         let k = list.starts.len();
-        let b = if d < 2 { k } else { second::bound(d, k) };
-        let mut counts = [0; 4].map(|_| b + r.below(3) as usize);
+        let b = second::bound(d.max(2), k);
+        let size = if sized { self.sizes(r, list, d) } else { b };
+        let mut counts = [size, size, size, b].map(|count| count + r.below(3) as usize);
         let mut pair = [0; 2].map(|_| k + r.below(3) as usize);
         let places = list.n.min(8) as usize;
         let mut places_pair = [0; 2].map(|_| places + r.below(3) as usize);
@@ -292,6 +359,9 @@ impl Given {
     fn with(mut self, other: Given) -> Given {
         self.check.add_all(other.check);
         self.balance.add_all(other.balance);
+        self.fewer_than_intervals += other.fewer_than_intervals;
+        self.forecast.add_all(other.forecast);
+        self.least_degree.add_all(other.least_degree);
         self.inverse_list.add_all(other.inverse_list);
         self.next_list.add_all(other.next_list);
         self.find.add_all(other.find);
@@ -305,10 +375,12 @@ impl Given {
 
     /// Each export with the numbers that it can give, and how often each of them is given at least. A list of too many
     /// runs is long, and comes once.
-    fn all(&self) -> [(&'static str, &Numbers, &'static [u32], u32); 10] {
+    fn all(&self) -> [(&'static str, &Numbers, &'static [u32], u32); 12] {
         [
             ("check", &self.check, &[0, 1, 2, 3, 4, 5, 6], 1),
             ("balance", &self.balance, &[0, 1, 2, 3, 4, 5, 6, 7, 8], 1),
+            ("forecast", &self.forecast, &[0, 1, 2, 3, 4, 5, 6, 7, 8], 1),
+            ("least_degree", &self.least_degree, &[0, 1, 2, 3, 4, 5, 6, 8, 19], 1),
             ("inverse_list", &self.inverse_list, &[0, 1, 2, 3, 4, 5, 6, 8], 1),
             ("next_list", &self.next_list, &[0, 1, 2, 3, 4, 5, 6, 8, 17, 18], 1),
             ("find", &self.find, &[0, 9, 11], 10_000),
@@ -327,6 +399,16 @@ fn agrees_alone(n: u32, t: &Tables, record: &Question) {
     assert_eq!(zibewoka::find(n, &t.starts, &t.images, &t.holders, place), Ok(interval));
     let step = Step { place: to_place, interval: to_interval, distance, count: u64::from(count) };
     assert_eq!(zibewoka::move_once(n, &t.starts, &t.images, &t.holders, interval, place), Ok(step));
+}
+
+/// Entries for a least degree: near the count of runs, near that of intervals, between both ends of what cuts may add, or any.
+fn entries(r: &mut Random, k: usize, size: usize) -> u32 {
+    match r.below(4) {
+        0 => r.word(),
+        1 => (k - r.below(2) as usize) as u32,
+        2 => (size - r.below(2) as usize) as u32,
+        _ => r.from(k as u64, 2 * k as u64) as u32,
+    }
 }
 
 /// An interval, or the index after the last, and a place from its start to its end.
@@ -400,9 +482,11 @@ fn degree(r: &mut Random) -> u32 {
 fn try_list(given: &mut Given, r: &mut Random, k: usize, questions: usize) {
     let list = legal(r, k);
     let d = degree(r);
+    // For a least degree the second program balances at each in turn, which takes long on a long list.
+    let sized = k <= 40 || r.one_in(4);
     let plain = second::tables(list.n, &list.starts, &list.images);
     given.on_tables_somewhere(r, list.n, &plain, questions);
-    if let Some(balanced) = given.on_list(r, &list, d) {
+    if let Some(balanced) = given.on_list(r, &list, d, sized) {
         given.on_tables_somewhere(r, list.n, &balanced, questions);
         let (mut n, mut tables) = (list.n, balanced);
         damage_tables(r, &mut n, &mut tables);
@@ -411,7 +495,7 @@ fn try_list(given: &mut Given, r: &mut Random, k: usize, questions: usize) {
     let mut worse = list;
     damage(r, &mut worse);
     let d = degree(r);
-    given.on_list(r, &worse, d);
+    given.on_list(r, &worse, d, sized);
 }
 
 fn short_lists(given: &mut Given, r: &mut Random) {
@@ -457,6 +541,7 @@ fn random_lists_and_tables() {
         assert!(numbers.0.keys().eq(possible), "{export} gave {numbers:?}");
         assert!(numbers.0.values().all(|&times| times >= often), "{export} gave {numbers:?}");
     }
+    assert!(given.fewer_than_intervals >= 1000, "balance gave 8 with K");
 }
 
 /// Lists of 16,384 runs and one more, and tables of 32,768 intervals and one more.
@@ -464,7 +549,7 @@ fn longest_lists(given: &mut Given, r: &mut Random) {
     for k in [16384, 16385] {
         let order: Vec<usize> = (0..k).rev().collect();
         let list = list_of(&vec![3; k], &order);
-        given.on_list(r, &list, 2);
+        given.on_list(r, &list, 2, true);
     }
     for k in [32768, 32769] {
         let entries: Vec<u32> = (0..k).collect();
@@ -474,16 +559,20 @@ fn longest_lists(given: &mut Given, r: &mut Random) {
     }
 }
 
+/// A list's balanced tables: starts, images, holders. They are lent with as many entries as forecast.
+fn tables_at(list: &List, d: u32) -> Result<[Vec<u32>; 3], Refusal> {
+    let List { n, starts, images } = list;
+    let mut w = vec![0; second::bound(d, starts.len())];
+    let size = zibewoka::forecast(*n, starts, images, d, &mut w)?;
+    let [mut s, mut i, mut h] = [0; 3].map(|_| vec![0; size.intervals as usize]);
+    zibewoka::balance(*n, starts, images, d, &mut s, &mut i, &mut h, &mut w)?;
+    Ok([s, i, h])
+}
+
 /// The keys of document 01 that an export can answer.
 #[test]
 fn known_keys() {
     let list = |n: u32, starts: &[u32], images: &[u32]| List { n, starts: starts.to_vec(), images: images.to_vec() };
-    let tables_at = |list: &List, d: u32| {
-        let b = second::bound(d, list.starts.len());
-        let [mut s, mut i, mut h, mut w] = [0; 4].map(|_| vec![0; b]);
-        let k = zibewoka::balance(list.n, &list.starts, &list.images, d, &mut s, &mut i, &mut h, &mut w);
-        k.map(|k| [s, i, h].map(|table| table[..k as usize].to_vec()))
-    };
     let listing = list(16, &[0, 2, 4, 6, 8], &[14, 12, 10, 8, 0]);
     let [s, i, h] = tables_at(&listing, 2).expect("legal");
     assert_eq!((&s[..], &i[..]), (&[0, 2, 4, 6, 8, 12][..], &[14, 12, 10, 8, 0, 4][..]));
@@ -615,8 +704,12 @@ fn all_permutations_of_up_to_six_places() {
             given.inverse_list(r, &list, [k, k + 1]);
             given.next_list(r, &list, [n as usize, n as usize + 1]);
             let b = second::bound(d, k);
-            let tables = given.balance(r, &list, d, [b, b + 1, b, b]).expect("a permutation's list is legal");
             let literally = second::balanced_literally(n, &list.starts, &list.images, d as usize);
+            let size = literally.0.len();
+            assert_eq!(given.forecast(r, &list, d, b), Some(size as u32));
+            given.least_degree(r, &list, size as u32 - 1, 2 * k);
+            assert!(given.balance(r, &list, d, [size, size - 1, size, b]).is_none());
+            let tables = given.balance(r, &list, d, [size, size + 1, size, b]).expect("a permutation's list is legal");
             assert_eq!((&tables.starts, &tables.images), (&literally.0, &literally.1));
             every_place(&mut given, r, &permutation, &tables, d);
         }
@@ -698,11 +791,7 @@ fn a_walk_of_millions_of_moves() {
         let m = 4_000_000;
         let list = legal(r, 2000);
         let List { n, starts, images } = &list;
-        let b = second::bound(d, starts.len());
-        let [mut s, mut i, mut h, mut w] = [0; 4].map(|_| vec![0; b]);
-        let k =
-            zibewoka::balance(*n, starts, images, d, &mut s, &mut i, &mut h, &mut w).expect("a legal list") as usize;
-        let (s, i, h) = (&s[..k], &i[..k], &h[..k]);
+        let [s, i, h] = &tables_at(&list, d).expect("a legal list");
         let first = r.below(u64::from(*n)) as u32;
         let first_interval = zibewoka::find(*n, s, i, h, first).expect("a place");
         let (mut place, mut interval, mut distance, mut count) = (first, first_interval, 0, 0);

@@ -2,5 +2,6 @@
 
 mod definition;
 mod exports;
+mod forecasts;
 mod listing;
 mod random;

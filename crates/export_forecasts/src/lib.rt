@@ -1,0 +1,58 @@
+// The forecast and the search for a degree as C functions on numbers and slices, for a host program in Rust or C: thin above the
+// proved operations.
+//
+// A slice passes as pointer and length. Each answer is a struct by value: `number` 0 means done; else it is the paper's
+// number, `place` is the place given with it, and the other fields are 0. specs/Answers.antt says which answer each
+// outcome is.
+mod answers;
+
+ghost use Rattle.runs.specs.Runs.{runs};
+ghost use Rattle.export_forecasts.specs.Answers.{ForecastAnswered, DegreeAnswered};
+
+// The answer of the forecast: how many intervals the balanced list has, and how many cuts make them.
+#[repr(C)]
+pub struct ForecastAnswer {
+    pub number: u32,
+    pub place: u32,
+    pub intervals: u32,
+    pub cuts: u32,
+}
+
+// The answer of the search: a degree, and how many intervals the list balanced at it has.
+#[repr(C)]
+pub struct DegreeAnswer {
+    pub number: u32,
+    pub place: u32,
+    pub degree: u32,
+    pub intervals: u32,
+}
+
+// How large a list will be at a degree, over a lent working table.
+#[no_mangle]
+pub extern "C" fn zibewoka_forecast(
+    n: u32,
+    starts: &[u32],
+    images: &[u32],
+    d: u32,
+    working: &mut [u32],
+) -> ForecastAnswer
+    ensures { λ r. ⌜ ForecastAnswered n (runs (now (starts .entry)) (now (images .entry))) d
+        (now (working .entry)) (now (working .exit)) r ⌝ }
+{
+    answers::of_size(forecasts::forecast(n, starts, images, d, working))
+}
+
+// The least degree at which a list is small enough, over a lent working table.
+#[no_mangle]
+pub extern "C" fn zibewoka_least_degree(
+    n: u32,
+    starts: &[u32],
+    images: &[u32],
+    entries: u32,
+    working: &mut [u32],
+) -> DegreeAnswer
+    ensures { λ r. ⌜ DegreeAnswered n (runs (now (starts .entry)) (now (images .entry))) entries
+        (now (working .entry)) (now (working .exit)) r ⌝ }
+{
+    answers::of_degree(forecasts::least_degree(n, starts, images, entries, working))
+}
