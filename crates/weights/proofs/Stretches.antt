@@ -2,12 +2,11 @@
 use Prim.Native.Nat.{ℕ, _+_, _-_, _≤_, _<_}
 use mathlib.Core.Path.{_≡_, refl, sym, ap, _∙_}
 use mathlib.Core.Bool.{Bool, true, false}
-use mathlib.Core.Logic.{_≢_}
 use mathlib.Core.List.{[]}
 use native.Mathlib.Omega.{arith}
 use lib.ListN.{length, take, drop, length-take, length-drop}
 use lib.Dec.{ltb, leb, eqb}
-use borrow.Author.Tests.{lt-ltb, le-ltb, le-leb, lt-leb, leb-false, eq-eqb, ne-eqb}
+use borrow.Author.Tests.{lt-ltb, le-ltb, le-leb, lt-leb, leb-false}
 use Rattle.order.proofs.Laws.{or-false}
 use Rattle.outcomes.specs.Outcome.{done, refused, test, judge, _then_else_}
 use Rattle.order.specs.Lists.{leading}
@@ -22,14 +21,11 @@ use Rattle.order.proofs.Leading.{leading-within}
 use Rattle.tables.proofs.Passing.{shaped, held-is}
 
 module _ (t : Tables) (x : ℕ) where
-  -- the two ways to begin
-  pub first-at-holder : startOf (t .list) (holderOf t x) ≡ imageOf (t .list) x → holderOf t x ≡ underFirst t x
+  -- where the stretch begins
+  pub first-is : (u : ℕ) → u ≡ (eqb (startOf (t .list) (holderOf t x)) (imageOf (t .list) x) then 0 else 1)
+      → holderOf t x + u ≡ underFirst t x
   unfolding underFirst
-  first-at-holder e = simp (eq-eqb _ _ e) (omega arith)
-
-  pub first-after-holder : startOf (t .list) (holderOf t x) ≢ imageOf (t .list) x → holderOf t x + 1 ≡ underFirst t x
-  unfolding underFirst
-  first-after-holder e = simp (ne-eqb _ _ e)
+  first-is u e = rw e
 
   first-near : underFirst t x ≤ holderOf t x + 1
   unfolding underFirst
@@ -101,18 +97,18 @@ module _ (n : ℕ) (t : Tables) (x : ℕ) where
         let i : Indexed n t x = record { shape = shaped n t _ refl (f .0); index = leb-false _ _ (g .0) } in
         (i, h .0, sym (judge-done [] _ w (sym (h .1))))
 
-    pub weight-held : holderOf t x < sizeOf t
+    pub weight-held : unheld t x ≡ false
     unfolding unplaced
-    weight-held = held-is t x (or-false (unheld t x) _ (passes .1) .0) .0
+    weight-held = or-false (unheld t x) _ (passes .1) .0
 
     pub weight-entered : Entered t x
     weight-entered =
         let i = passes .0 in record { index = i .index; full = i .shape .full }
 
     pub stretch-within : (f : ℕ) → f ≡ underFirst t x → f + w ≤ sizeOf t
-    unfolding underCount unplaced
+    unfolding underCount
     stretch-within f p =
-        let h = first-within t x (underFirst t x) refl (or-false (unheld t x) _ (passes .1) .0) in
+        let h = first-within t x (underFirst t x) refl weight-held in
         let l = leading-within (λ s. ltb s (imageEnd n (t .list) x)) (t .list .starts) (underFirst t x) h in
         omega (arith, p, passes .2)
 

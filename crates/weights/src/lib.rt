@@ -1,13 +1,15 @@
 // The starts under an image, in a move table with any numbers in it: how many they are, and the part of the table itself.
 //
-// Each contract is one equation with its definition in specs/. On the tables of a legal list the weight is that of the
-// list (proofs/LegalWeights).
+// Each contract on tables is one equation with its definition in specs/. On the tables of a legal list the weight is that of
+// the list (proofs/LegalWeights).
 use order::wide;
 use outcomes::Refusal;
 ghost use mathlib.Core.Path.{_≡_};
-ghost use Prim.Native.Nat.{_<_};
-ghost use lib.ListN.{length};
-ghost use Rattle.tables.specs.Tables.{tables, holderOf};
+ghost use Prim.Native.Nat.{_≤_};
+ghost use mathlib.Core.Bool.{false};
+ghost use lib.Dec.{eqb};
+ghost use Rattle.outcomes.specs.Outcome.{_then_else_};
+ghost use Rattle.tables.specs.Tables.{tables, unheld};
 ghost use Rattle.tables.specs.Parts.{Indexed, Entered};
 ghost use Rattle.weights.specs.Under.{weighedSays, underFirst, weightOf, startsUnderOf};
 ghost use Rattle.weights.specs.Parts.{stretchOf};
@@ -17,18 +19,24 @@ pub enum Weighed {
     Refused(Refusal),
 }
 
-// Where the stretch under x's image begins.
+// The difference of the two divided by 2^32 and rounded up, which is 1 unless they are equal. Nothing is compared, so that there
+// is no jump to foresee. The bound is for the sum that it stands in.
+fn one_unless_equal(start: u32, image: u32) -> usize
+    requires { ⌜ start ≤ image ⌝ }
+    ensures { λ r. ⌜ (r ≡ (eqb start image then 0 else 1)) × (r ≤ 1) ⌝ }
+{
+    ((wide(image - start) + 4294967295) >> 32) as usize
+}
+
+// Where the stretch under x's image begins, which may be the table's end.
 fn first(starts: &[u32], images: &[u32], holders: &[u32], x: u32) -> usize
     requires { ⌜ Entered (tables (now starts) (now images) (now holders)) x ⌝ }
-    requires { ⌜ holderOf (tables (now starts) (now images) (now holders)) x < length (now starts) ⌝ }
+    requires { ⌜ unheld (tables (now starts) (now images) (now holders)) x ≡ false ⌝ }
     ensures { λ r. ⌜ r ≡ underFirst (tables (now (starts .entry)) (now (images .entry)) (now (holders .entry))) x ⌝ }
 {
     let at = x as usize;
     let h = holders[at] as usize;
-    if starts[h] == images[at] {
-        return h;
-    }
-    h + 1
+    h + one_unless_equal(starts[h], images[at])
 }
 
 // Test 12 and the stretch's size.

@@ -1,7 +1,6 @@
 -- `size` meets its contract: an outcome law for each way to return. The stretch ends below image + length, so up to the
 -- place before.
 use Rattle.weights.proofs.Stretches.{first-within, unplaced-unheld, unplaced-empty, unplaced-far, placed, stretch-broken, stretch-to}
-use Rattle.tables.proofs.Passing.{held-is}
 use Rattle.order.proofs.Laws.{entry-after}
 use native.Mathlib.Omega.{arith}
 use mathlib.Core.Path.{sym, _∙_}
@@ -66,7 +65,7 @@ returns-3 c =
 first-requires : tie.Need-first-requires
 first-requires c κs =
     let e = c .before .before .before .before .before .before .before .before in
-    let h = held-is _ _ (sym (e .before .is-unheld .ensures) ∙ e .if1 .left) in
+    let f = sym (e .before .is-unheld .ensures) ∙ e .if1 .left in
     search needs
 
 sub-stretch-length : tie.Need-sub-stretch-length
