@@ -1,4 +1,4 @@
-//! Each export beside a peer in safe Rust: the same lists, in one run. Prints a table of times and ratios.
+//! Exports beside a peer in safe Rust: the same lists, in one run. Prints tables of times and ratios.
 
 mod peer;
 #[path = "../tests/second/random.rs"]
@@ -53,14 +53,15 @@ fn time<T>(calls: u32, call: &mut impl FnMut() -> T) -> Duration {
 
 const SHAPES: [&str; 3] = ["shuffled", "reversed", "cuts"];
 
-/// A list of k runs of about 1,000 places each, by the order of their images; "cuts" has three runs as long as all the
-/// others together: the image of the first lies over the others' starts, and that of each next over the one before it,
-/// which is cut.
+/// A list of k runs, by the order of their images; they have about 1,000 places each, in "tiny" 1 to 3, so that half of the
+/// places are starts. "cuts" has three runs as long as all the others together: the image of the first lies over the others'
+/// starts, and that of each next over the one before it, which is cut.
 fn list(r: &mut Random, shape: &str, k: usize) -> List {
-    let mut lengths: Vec<u64> = (0..k).map(|_| r.from(500, 1500)).collect();
+    let (least, most) = if shape == "tiny" { (1, 3) } else { (500, 1500) };
+    let mut lengths: Vec<u64> = (0..k).map(|_| r.from(least, most)).collect();
     let mut order: Vec<usize> = (0..k).collect();
     match shape {
-        "shuffled" => r.shuffle(&mut order),
+        "shuffled" | "tiny" => r.shuffle(&mut order),
         "reversed" => order.reverse(),
         _ => {
             let whole = lengths[..k - 3].iter().sum();
@@ -93,6 +94,16 @@ fn bound(d: u32, k: usize) -> usize {
 fn intervals(List { n, starts, images }: &List, d: u32) -> usize {
     let mut working = vec![0; bound(d, starts.len())];
     zibewoka::forecast(*n, starts, images, d, &mut working).expect("legal").intervals as usize
+}
+
+/// Starts, images and holders of the list as it is balanced.
+fn tables(list: &List, d: u32) -> [Vec<u32>; 3] {
+    let size = intervals(list, d);
+    let List { n, starts, images } = list;
+    let [mut s, mut i, mut h] = [0; 3].map(|_| vec![0; size]);
+    let mut w = vec![0; bound(d, starts.len())];
+    zibewoka::balance(*n, starts, images, d, &mut s, &mut i, &mut h, &mut w).expect("tables of K entries");
+    [s, i, h]
 }
 
 /// What the peer comes to, as the library says it.
@@ -191,12 +202,9 @@ fn assert_refused_alike(n: u32, s: &[u32], i: &[u32], h: &[u32], asked: &[Questi
 /// One line of the table of questions: the library's time, its ratio to the peer's, and that to find and move one by one.
 fn questions_line(r: &mut Random, shape: &str, k: usize, d: u32) -> String {
     let list = list(r, shape, k);
-    let size = intervals(&list, d);
-    let List { n, starts, images } = list;
-    let [mut s, mut i, mut h] = [0; 3].map(|_| vec![0; size]);
-    let mut w = vec![0; bound(d, k)];
-    zibewoka::balance(n, &starts, &images, d, &mut s, &mut i, &mut h, &mut w).expect("tables of K entries");
-    let (s, i, h) = (&s[..], &i[..], &h[..]);
+    let n = list.n;
+    let [s, i, h] = &tables(&list, d);
+    let size = s.len();
 
     let mut asked = questions(r, n, k);
     let mut peer_asked = asked.clone();
@@ -224,6 +232,57 @@ fn questions_line(r: &mut Random, shape: &str, k: usize, d: u32) -> String {
         each(library),
         library / peer,
         each(again) / alone
+    )
+}
+
+/// How many orders a table's intervals are weighed in, in turn, so that a million calls and more are made before the first comes
+/// again. One order alone has some tens of thousands of jumps, which some processors might learn.
+const ORDERS: usize = 64;
+
+/// All intervals, in an order at random.
+fn shuffled(r: &mut Random, size: usize) -> Vec<u32> {
+    let mut order: Vec<u32> = (0..size as u32).collect();
+    r.shuffle(&mut order);
+    order
+}
+
+/// The weights of all intervals in the next such order, added up.
+fn total<'a>(orders: &mut impl Iterator<Item = &'a Vec<u32>>, weight: impl Fn(u32) -> u32) -> u32 {
+    orders.next().expect("they go round").iter().map(|&x| weight(x)).sum()
+}
+
+/// The peer weighs as the library does: every interval and one that there is not; no places at all; too few, so that images end
+/// beyond them; intervals without a holder, and with the last one for a holder, whose start is above most images.
+fn assert_weighed_alike(n: u32, s: &[u32], i: &[u32], h: &[u32]) {
+    let [none, last] = [u32::MAX, h.len() as u32 - 1].map(|holder| vec![holder; h.len()]);
+    for (n, h) in [(n, h), (0, h), (n / 2, h), (n, &none), (n, &last)] {
+        for x in 0..=h.len() as u32 {
+            assert_eq!(zibewoka::weight(n, s, i, h, x), refusal(peer::weight(n, s, i, h, x)));
+        }
+    }
+}
+
+/// One line of the table of weights: the share of the images that are starts, the library's time, and its ratio to the peer's.
+fn weights_line(r: &mut Random, shape: &str, k: usize, d: u32) -> String {
+    let list = list(r, shape, k);
+    let n = list.n;
+    let [s, i, h] = &tables(&list, d);
+    let size = s.len();
+    assert_weighed_alike(n, s, i, h);
+    let at_a_start = i.iter().zip(h).filter(|&(&image, &holder)| s[holder as usize] == image).count();
+
+    let orders: Vec<Vec<u32>> = (0..ORDERS).map(|_| shuffled(r, size)).collect();
+    let mut turns = orders.iter().cycle();
+    let mut peer_turns = turns.clone();
+    let [library, peer] = seconds(
+        || total(&mut turns, |x| zibewoka::weight(n, s, i, h, x).expect("whole")),
+        || total(&mut peer_turns, |x| peer::weight(n, s, i, h, x).expect("whole")),
+    );
+    format!(
+        "| {shape} | {k} | {d} | {size} | {:.2} | {:.1} | {:.2} |",
+        at_a_start as f64 / size as f64,
+        library * 1e9 / size as f64,
+        library / peer
     )
 }
 
@@ -261,6 +320,17 @@ fn print_questions(r: &mut Random) {
                 println!("{}", questions_line(r, shape, k, d));
             }
         }
+    }
+}
+
+fn print_weights(r: &mut Random) {
+    println!("Weights of all intervals, in {ORDERS} orders at random in turn: the share of the images that are starts, the library's");
+    println!("time, and its ratio to the peer's.");
+    println!();
+    println!("| list | k | d | K | images at a start | ns a weight | × peer |");
+    println!("|---|---|---|---|---|---|---|");
+    for (shape, d) in [("tiny", 2), ("shuffled", 2), ("reversed", 2), ("cuts", 2), ("cuts", 8), ("cuts", 64)] {
+        println!("{}", weights_line(r, shape, 16384, d));
     }
 }
 
@@ -483,4 +553,6 @@ fn main() {
     print_forecasts(r);
     println!();
     print_least_degrees(r);
+    println!();
+    print_weights(r);
 }

@@ -248,6 +248,26 @@ fn located(n: u32, starts: &[u32], images: &[u32], holders: &[u32], x: u32, i: u
     Ok(())
 }
 
+/// Tests 9, 10 and 12, and how many starts lie under x's image.
+#[inline(never)]
+pub fn weight(n: u32, starts: &[u32], images: &[u32], holders: &[u32], x: u32) -> Outcome<u32> {
+    fits(n, starts, images, holders)?;
+    let at = x as usize;
+    if starts.len() <= at {
+        return Err((10, x));
+    }
+    let (image, h) = (images[at], holders[at] as usize);
+    let end = starts.get(at + 1).copied().unwrap_or(n);
+    let image_end = u64::from(image) + u64::from(end.saturating_sub(starts[at]));
+    match starts.get(h) {
+        Some(&start) if start <= image && starts[at] < end && image_end <= u64::from(n) => {
+            let first = if start == image { h } else { h + 1 };
+            Ok(starts[first..].iter().take_while(|&&s| u64::from(s) < image_end).count() as u32)
+        }
+        _ => Err((12, x)),
+    }
+}
+
 /// The place that a move reaches from a place that its interval has, and the holder to go on from; or nothing where the
 /// interval is broken.
 #[inline(always)]
