@@ -1,7 +1,7 @@
 -- Laws of specs/Search.antt: what a search finds, and the entries of a list with one more. By induction along the search.
 use Prim.Native.Nat.{ℕ, zero, suc, _+_, _≤_, _<_}
 use mathlib.Core.Path.{_≡_, refl, sym, ap, _∙_}
-use mathlib.Core.Bool.{Bool, true, false, false≢true}
+use mathlib.Core.Bool.{Bool, true, false, false≢true, _||_}
 use mathlib.Core.Logic.{_⊎_, inl, inr}
 use mathlib.Core.List.{List, [], _∷_}
 use native.Mathlib.Nat.{not-suc-le-zero, le-of-suc-le-suc}
@@ -115,6 +115,15 @@ module _ (p : ℕ → Bool) (k : ℕ) where
       go : (x : ℕ) → (x < k) ⊎ (k ≤ x) → x < suc k → p x ≡ true → ⊥
       go x (inl m) l t = false≢true (sym (any-false p k x e m) ∙ t)
       go x (inr m) l t = let q : x ≡ k = omega arith in false≢true (sym h ∙ ap p (sym q) ∙ t)
+
+  -- so by the index before and the new one
+  pub any-more : anyBelow p (suc k) ≡ (anyBelow p k || p k)
+  any-more = go (anyBelow p k) refl (p k) refl
+    where
+      go : (a : Bool) → anyBelow p k ≡ a → (b : Bool) → p k ≡ b → anyBelow p (suc k) ≡ (a || b)
+      go true e b f = any-old e .0
+      go false e true f = any-here e f .0
+      go false e false f = any-not e f
 
 pub length-insert : (x v : ℕ) (l : List ℕ) → x ≤ length l → length (insertAt x v l) ≡ suc (length l)
 length-insert zero v l h = refl

@@ -12,6 +12,7 @@ use Rattle.order.specs.Lists.{Strict, bit, countBelow}
 use Rattle.order.proofs.Laws.{lt-or-le, at-all, strict-length, pairwise-at, pairwise-steps, strict-sorted, count-le-length, count-lt, count-gt, getD-default}
 use Rattle.runs.specs.Legal.{Legal}
 use Rattle.runs.specs.Runs.{Runs, countOf, startOf, imageOf, endOf, lengthOf, imageEnd, has, runAt, carry, mapOf}
+use Rattle.runs.specs.Parts.{Lasts}
 use Rattle.runs.proofs.Sums.{inside, inside-true, inside-is, sumTo, sum-swap, sum-same, sum-full, tally, tally-one, tally-inside, tally-some}
 use Rattle.outcomes.proofs.Searches.{first-only}
 
@@ -31,7 +32,7 @@ pub record Parted (n : ℕ) (r : Runs) : Type 0 where
   pub some : 0 < countOf r
   pub first : startOf r 0 ≡ 0
   pub up : Strict (r .starts)
-  pub lasting : (x : ℕ) → x < countOf r → startOf r x < endOf n r x
+  pub lasting : Lasts n (r .starts)
   pub ending : (x : ℕ) → x < countOf r → endOf n r x ≤ n
 
 pub parted : (n : ℕ) (r : Runs) → 0 < countOf r → startOf r 0 ≡ 0
@@ -104,7 +105,7 @@ module _ (n : ℕ) (r : Runs) (c : Legal n r) where
       rw (run-at n r (homes n r c) (x .0) p (x .1) (x .2) (x .3)) (x .1, x .2, x .3)
 
 -- the lengths add up to n
-lengths : (n : ℕ) (l : List ℕ) → ((x : ℕ) → x < length l → getD l x 0 < getD l (suc x) n) → sumTo (length l) (λ x. getD l (suc x) n - getD l x 0) + getD l 0 n ≡ n
+lengths : (n : ℕ) (l : List ℕ) → Lasts n l → sumTo (length l) (λ x. getD l (suc x) n - getD l x 0) + getD l 0 n ≡ n
 lengths n [] h = omega arith
 lengths n (s ∷ ss) h = omega (arith, h 0 (omega arith), lengths n ss (λ x l. h (suc x) (suc-le-suc l)))
 

@@ -19,7 +19,7 @@ use Rattle.runs.specs.Runs.{Runs, countOf, startOf, imageOf, endOf, imag
 use Rattle.runs.specs.Weight.{under, weight}
 use Rattle.runs.proofs.Legality.{Parted, homes, home, run-at, end-next}
 
-up-to : (j : ℕ) → _≡_ {A = ℕ → Bool} (λ s. leb s j) (λ s. ltb s (suc j))
+pub up-to : (j : ℕ) → _≡_ {A = ℕ → Bool} (λ s. leb s j) (λ s. ltb s (suc j))
 up-to j = fun-ext (λ s. sym (leb·suc-suc s j))
 
 -- below an end is up to the place before it

@@ -9,7 +9,7 @@ use Rattle.order.specs.Order.{orderOf}
 use Rattle.outcomes.specs.Outcome.{done}
 use Rattle.outcomes.specs.Refusal.{checkedSays}
 use Rattle.outcomes.specs.Search.{firstBelow}
-use Rattle.runs.specs.Runs.{Runs, countOf, startOf, imageOf, endOf}
+use Rattle.runs.specs.Runs.{Runs, countOf, imageOf}
 use Rattle.runs.specs.Check.{overlaps, checkUpTo}
 use Rattle.outcomes.specs.declared.Checked.{Checked}
 
@@ -21,10 +21,14 @@ lowestOf p r = firstBelow (p r) (countOf r)
 abbrev pub ranked : Runs → ℕ → ℕ
 ranked r j = getD (orderOf (r .images)) j 0
 
--- each run has a length, and an image
+-- each start lies below the next one, and the last one below n, so that each run has a length
+abbrev pub Lasts : ℕ → List ℕ → Type 0
+Lasts n starts = (x : ℕ) → x < length starts → getD starts x 0 < getD starts (suc x) n
+
+-- so, and each run has an image
 pub record Lasting (n : ℕ) (r : Runs) : Type 0 where
   pub paired : length (r .images) ≡ countOf r
-  pub lasting : (x : ℕ) → x < countOf r → startOf r x < endOf n r x
+  pub lasting : Lasts n (r .starts)
 
 -- a table has an entry for each run of a list that is not refused for its many runs
 abbrev pub HoldsRuns : ℕ → List ℕ → List ℕ → Type 0
