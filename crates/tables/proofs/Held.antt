@@ -24,8 +24,8 @@ Number n = u32 .own n (vint w32 n ∷ [])
 abbrev pub Slice : ℕ → Lft → Xs → Fml
 Slice i κ s = ShrSlice (named i) κ u32 .own s (v s ∷ [])
 
--- the places of the number and of the slices in a signature with the three references to the tables, which are its first, and
--- l more
+-- the places of the number and of the slices in a signature whose first references are those to the links, or to the tables, and
+-- that has l more
 abbrev pub num : (l : ℕ) → Slot (suc (suc (suc l)))
 num l = plain (λ _. u32)
 
@@ -37,3 +37,6 @@ list₂ l = shrSliceOf (1 ∷ []) tt (num l)
 
 abbrev pub list₃ : (l : ℕ) → Slot (suc (suc (suc l)))
 list₃ l = shrSliceOf (2 ∷ []) tt (num l)
+
+abbrev pub list₄ : (l : ℕ) → Slot (suc (suc (suc (suc l))))
+list₄ l = shrSliceOf (3 ∷ []) tt (num (suc l))

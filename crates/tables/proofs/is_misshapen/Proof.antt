@@ -28,9 +28,20 @@ returns-4 c =
 returns-5 : tie.Need-returns-5
 unfolding misshapen
 returns-5 c =
-    let e = c .before .before in
-    let k = eq-eqb _ _ (c .before .if3 .left) in
-    simp (ne-eqb _ _ (e .before .if1 .left), ne-eqb _ _ (e .if2 .left), k, eq-eqb _ _ (c .if4 .left))
+    let h = c .before in
+    let e = h .before .before in
+    let k = eq-eqb _ _ (h .before .if3 .left) in
+    let l = eq-eqb _ _ (h .if4 .left) in
+    simp (ne-eqb _ _ (e .before .if1 .left), ne-eqb _ _ (e .if2 .left), k, l, ne-eqb _ _ (c .if5 .taken))
+
+returns-6 : tie.Need-returns-6
+unfolding misshapen
+returns-6 c =
+    let h = c .before in
+    let e = h .before .before in
+    let k = eq-eqb _ _ (h .before .if3 .left) in
+    let l = eq-eqb _ _ (h .if4 .left) in
+    simp (ne-eqb _ _ (e .before .if1 .left), ne-eqb _ _ (e .if2 .left), k, l, eq-eqb _ _ (c .if5 .left))
 
 pub is-misshapen-spec : {M : Type 1} → statement M
-is-misshapen-spec = tie.close (tie.spec returns returns-2 returns-3 returns-4 returns-5)
+is-misshapen-spec = tie.close (tie.spec returns returns-2 returns-3 returns-4 returns-5 returns-6)
