@@ -1,20 +1,25 @@
 -- Find goes on: for a place that is not below, it passes what it passed before. And a move from the interval found is
 -- refused with 12 alone: 10, and 11 by the interval, can't arise.
-use Prim.Native.Nat.{ℕ, suc, _+_, _≤_, _<_}
+use Prim.Native.Nat.{ℕ, suc, _+_, _-_, _≤_, _<_}
 use mathlib.Core.Path.{_≡_, refl, subst}
 use mathlib.Core.Bool.{Bool, true, false}
 use mathlib.Core.List.{List, [], _∷_}
+use native.Mathlib.Numerals.{add-one}
 use native.Mathlib.Omega.{arith}
 use lib.ListN.{drop}
 use lib.Dec.{leb}
 use borrow.Author.Tests.{le-leb, leb-true}
-use Rattle.order.specs.Lists.{leading}
+use Rattle.order.specs.Lists.{Strict, countBelow, leading}
+use Rattle.order.proofs.Laws.{strict-sorted, count-gt}
 use Rattle.order.proofs.Leading.{leading-more}
 use Rattle.outcomes.specs.Outcome.{done, refused}
+use Rattle.outcomes.proofs.Searches.{any-false}
 use Rattle.runs.specs.Runs.{startOf, endOf}
-use Rattle.tables.specs.Tables.{Tables, sizeOf, broken}
-use Rattle.tables.specs.Parts.{Shaped, Located}
+use Rattle.runs.proofs.Walks.{up-to, leading-drop}
+use Rattle.tables.specs.Tables.{Links, Tables, sizeOf, wrongAt, broken}
+use Rattle.tables.specs.Parts.{ShapedLinks, Shaped, Measured, Located}
 use Rattle.walks.specs.Move.{passed, foundAt, unfindable, stepOf, moveOf}
+use Rattle.walks.specs.Parts.{Starting}
 use Rattle.walks.proofs.Steps.{findable-is, move-located, advance-broken, advance-on}
 use Rattle.walks.proofs.Reached.{reached-index, reached-low, reached-high}
 
@@ -39,32 +44,58 @@ passed-on [] i j h = refl
 passed-on (s ∷ ss) i j h = leading-on ss i j h
 
 -- on any tables the walk for j goes on from the interval found for a place i that is not above
-pub found-on : (t : Tables) (i j : ℕ) → i ≤ j → foundAt t i + passed (t .list .starts) (foundAt t i) j ≡ foundAt t j
+pub found-on : (k : Links) (i j : ℕ) → i ≤ j → foundAt k i + passed (k .list .starts) (foundAt k i) j ≡ foundAt k j
 unfolding foundAt
-found-on t i j h = passed-on (t .list .starts) i j h
+found-on k i j h = passed-on (k .list .starts) i j h
 
-pub found-first : (t : Tables) (j : ℕ) → 0 + passed (t .list .starts) 0 j ≡ foundAt t j
+pub found-first : (k : Links) (j : ℕ) → 0 + passed (k .list .starts) 0 j ≡ foundAt k j
 unfolding foundAt
-found-first t j = omega arith
+found-first k j = omega arith
 
-module _ (n : ℕ) (t : Tables) (i : ℕ) (s : Shaped n t) where
-  pub found-below : foundAt t i < sizeOf t
-  found-below = subst (λ (y : ℕ). y < sizeOf t) (found-first t i) (reached-index (t .list .starts) 0 i (s .some))
+-- where the starts rise and the first one is not above i, as many of them are not above i as the walk passes, and the first one
+pub found-counted : (k : Links) (i c : ℕ) → Strict (k .list .starts) → 0 < sizeOf k → startOf (k .list) 0 ≤ i
+    → c ≡ countBelow (i + 1) (k .list .starts) → (0 < c) × (c - 1 ≡ foundAt k i)
+unfolding foundAt passed
+found-counted k i c up some low e =
+    let l = k .list .starts in
+    let h = count-gt (suc i) l (strict-sorted l up) 0 some (omega arith) in
+    let d = rw add-one at e in
+    rw (up-to i) (omega (arith, h, leading-drop l (suc i) 1 up h, d))
 
-  module _ (f : unfindable n (t .list .starts) i ≡ false) where
-    pub found-located : Located n t (foundAt t i) i
-    found-located =
-        let p = findable-is n (t .list .starts) i f in
-        let e = found-first t i in
-        record {
-          at = record { shape = s; index = found-below };
-          place = p .0;
-          low = subst (λ (y : ℕ). startOf (t .list) y ≤ i) e (reached-low (t .list .starts) 0 i (s .some) (p .1));
-          high = subst (λ (y : ℕ). i < endOf n (t .list) y) e (reached-high (t .list .starts) 0 i (s .some) n (p .0));
-        }
+module _ (n : ℕ) (k : Links) (i : ℕ) (s : ShapedLinks k) where
+  pub found-below : foundAt k i < sizeOf k
+  found-below = subst (λ (y : ℕ). y < sizeOf k) (found-first k i) (reached-index (k .list .starts) 0 i (s .some))
 
-    pub move-broken : broken n t (foundAt t i) i ≡ true → refused 12 (foundAt t i) ≡ moveOf n t (foundAt t i) i
-    move-broken b = rw (move-located n t (foundAt t i) i found-located) (advance-broken n t (foundAt t i) i b)
+  pub found-located : unfindable n (k .list .starts) i ≡ false → Located n k (foundAt k i) i
+  found-located f =
+      let p = findable-is n (k .list .starts) i f in
+      let e = found-first k i in
+      record {
+        entered = record { index = found-below; full = s .full };
+        few = s .few;
+        place = p .0;
+        low = subst (λ (y : ℕ). startOf (k .list) y ≤ i) e (reached-low (k .list .starts) 0 i (s .some) (p .1));
+        high = subst (λ (y : ℕ). i < endOf n (k .list) y) e (reached-high (k .list .starts) 0 i (s .some) n (p .0));
+      }
 
-    pub move-on : broken n t (foundAt t i) i ≡ false → done (stepOf t (foundAt t i) i) ≡ moveOf n t (foundAt t i) i
-    move-on b = rw (move-located n t (foundAt t i) i found-located) (advance-on n t (foundAt t i) i b)
+-- so a move from the interval found begins there where all lengths are right
+module _ (n : ℕ) (t : Tables) (i : ℕ) (s : Shaped n t) (right : Measured n t)
+    (f : unfindable n (t .links .list .starts) i ≡ false) where
+  found-starting : Starting n t (foundAt (t .links) i) i
+  found-starting =
+      record {
+        stands = record { shape = s; at = found-located n (t .links) i (s .linked) f };
+        right = any-false (wrongAt n t) (sizeOf (t .links)) (foundAt (t .links) i) right (found-below n (t .links) i (s .linked));
+      }
+
+  pub move-broken : broken n (t .links) (foundAt (t .links) i) i ≡ true
+      → refused 12 (foundAt (t .links) i) ≡ moveOf n t (foundAt (t .links) i) i
+  move-broken b =
+      let x = foundAt (t .links) i in
+      rw (move-located n t x i found-starting) (advance-broken n (t .links) x i b)
+
+  pub move-on : broken n (t .links) (foundAt (t .links) i) i ≡ false
+      → done (stepOf (t .links) (foundAt (t .links) i) i) ≡ moveOf n t (foundAt (t .links) i) i
+  move-on b =
+      let x = foundAt (t .links) i in
+      rw (move-located n t x i found-starting) (advance-on n (t .links) x i b)

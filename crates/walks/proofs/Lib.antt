@@ -5,6 +5,7 @@ pub mod Steps
 pub mod Moves
 pub mod Distances
 pub mod Finding
+pub mod Linked
 pub mod PlainMoves
 pub mod LegalCounts
 pub mod LegalTables

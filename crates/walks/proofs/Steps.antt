@@ -7,18 +7,19 @@ use mathlib.Core.List.{List, [], _∷_}
 use native.Mathlib.Omega.{arith}
 use lib.ListN.{getD}
 use lib.Dec.{leb, ltb}
-use borrow.Author.Tests.{le-ltb, le-leb, lt-leb, leb-false, ltb-false}
+use borrow.Author.Tests.{lt-ltb, le-ltb, le-leb, lt-leb, leb-false, ltb-false}
 use Rattle.outcomes.specs.Outcome.{done, refused, judge, andThen}
+use Rattle.outcomes.specs.Search.{firstBelow}
 use Rattle.runs.specs.Runs.{startOf, carry}
-use Rattle.tables.specs.Tables.{Tables, sizeOf, holderOf, misshapen, outside, broken, shapeTest, indexTest, placeTest, brokenTest}
+use Rattle.tables.specs.Tables.{Links, Tables, sizeOf, holderOf, endAt, wrongAt, misshapen, outside, broken, shapeTest, indexTest, lengthTest, placeTest, brokenTest}
 use Rattle.order.proofs.Laws.{or-false}
 use Rattle.walks.specs.Move.{walkedTo, standAt, stepTo, stayAt, foundAt, unfindable, findOf, stepOf, moveOf, movesOf, locateTests}
-use Rattle.tables.specs.Parts.{Shaped, Indexed, Located}
-use Rattle.walks.specs.Parts.{advanceOf, Movable}
+use Rattle.tables.specs.Parts.{Shaped, Measured, Located, Stands}
+use Rattle.walks.specs.Parts.{advanceOf, leaveOf, Starting, Movable}
 use Rattle.walks.specs.declared.reaching.Walked.{Walked}
 use Rattle.walks.specs.declared.Step.{Step}
 use Rattle.outcomes.proofs.Judging.{judge-append, judge-first}
-use Rattle.tables.proofs.Passing.{shaped, inside, inside-is, whole-is, held-is}
+use Rattle.tables.proofs.Passing.{shaped, matching-is, inside, inside-is, whole-is, held-is}
 use Rattle.walks.proofs.Reached.{reached-index, reached-low}
 
 -- 11 for find
@@ -38,6 +39,24 @@ module _ (n : ℕ) (l : List ℕ) (i : ℕ) where
   unfolding unfindable
   findable-is e = let a = or-false (leb n i) _ e in (leb-false n i (a .0), ltb-false i _ (a .1))
 
+-- the facts that the tests before 12 of a move show
+pub starting : (n : ℕ) (t : Tables) (x i : ℕ) → Shaped n t → x < sizeOf (t .links) → wrongAt n t x ≡ false
+    → (i < n) × (startOf (t .links .list) x ≤ i) × (i < endAt t x) → Starting n t x i
+starting n t x i s h w p =
+    record {
+      stands = record {
+        shape = s;
+        at = record {
+          entered = record { index = h; full = s .linked .full };
+          few = s .linked .few;
+          place = p .0;
+          low = p .1;
+          high = omega (arith, p .2, matching-is _ _ _ w);
+        };
+      };
+      right = w;
+    }
+
 -- find
 module _ (n : ℕ) (t : Tables) (i : ℕ) where
   pub find-shape : (b : Bool) → b ≡ misshapen n t → b ≡ true → refused 9 0 ≡ findOf n t i
@@ -45,89 +64,120 @@ module _ (n : ℕ) (t : Tables) (i : ℕ) where
   find-shape b q e = simp (sym q ∙ e)
 
   module _ (s : Shaped n t) where
-    pub find-out : unfindable n (t .list .starts) i ≡ true → refused 11 i ≡ findOf n t i
+    pub find-length : (x : ℕ) → x ≡ firstBelow (wrongAt n t) (sizeOf (t .links)) → x < sizeOf (t .links) → refused 12 x ≡ findOf n t i
     unfolding findOf judge
-    find-out b = simp (s .fits, b)
+    find-length x e h = simp (s .fits, lt-ltb _ _ (rw e at h), e)
 
-    pub find-at : unfindable n (t .list .starts) i ≡ false → (x : ℕ) → x ≡ foundAt t i → done x ≡ findOf n t i
-    unfolding findOf judge
-    find-at b x e = simp (s .fits, b, e)
+    module _ (right : Measured n t) where
+      pub find-out : unfindable n (t .links .list .starts) i ≡ true → refused 11 i ≡ findOf n t i
+      unfolding findOf judge
+      find-out b = simp (s .fits, right, b)
+
+      pub find-at : unfindable n (t .links .list .starts) i ≡ false → (x : ℕ) → x ≡ foundAt (t .links) i → done x ≡ findOf n t i
+      unfolding findOf judge
+      find-at b x e = simp (s .fits, right, b, e)
 
 module _ (n : ℕ) (t : Tables) (x i : ℕ) where
-  -- 9 to 11 on their own
+  -- the tests before 12 of a move
   pub locate-shape : (b : Bool) → b ≡ misshapen n t → b ≡ true → refused 9 0 ≡ movesOf n t 0 x i
   unfolding movesOf judge
   locate-shape b q e = simp (sym q ∙ e)
 
-  pub locate-index : Shaped n t → sizeOf t ≤ x → refused 10 x ≡ movesOf n t 0 x i
+  pub locate-index : Shaped n t → sizeOf (t .links) ≤ x → refused 10 x ≡ movesOf n t 0 x i
   unfolding movesOf judge
   locate-index s h = simp (s .fits, le-leb _ _ h)
 
-  pub locate-place : Shaped n t → x < sizeOf t → outside n t x i ≡ true → refused 11 i ≡ movesOf n t 0 x i
+  pub locate-length : Shaped n t → x < sizeOf (t .links) → wrongAt n t x ≡ true → refused 12 x ≡ movesOf n t 0 x i
   unfolding movesOf judge
-  locate-place s h o = simp (s .fits, lt-leb _ _ h, o)
+  locate-length s h w = simp (s .fits, lt-leb _ _ h, w)
 
-  pub locate-in : Located n t x i → done (stayAt (t .list .starts) x i) ≡ movesOf n t 0 x i
+  pub locate-place : Shaped n t → x < sizeOf (t .links) → wrongAt n t x ≡ false → outside n t x i ≡ true
+      → refused 11 i ≡ movesOf n t 0 x i
   unfolding movesOf judge
-  locate-in l = simp (l .at .shape .fits, lt-leb _ _ (l .at .index), inside n t x i (l .place) (l .low) (l .high))
+  locate-place s h w o = simp (s .fits, lt-leb _ _ h, w, o)
 
-  pub located : (s : Step) → done s ≡ movesOf n t 0 x i → Located n t x i
+  -- where the place lies in x by the starts, and the length is right, it does not lie outside
+  inside-by : Starting n t x i → outside n t x i ≡ false
+  inside-by l =
+      let at = l .stands .at in
+      inside n t x i (at .place) (at .low) (omega (arith, at .high, matching-is _ _ _ (l .right)))
+
+  pub locate-in : Starting n t x i → done (stayAt (t .links .list .starts) x i) ≡ movesOf n t 0 x i
+  unfolding movesOf judge
+  locate-in l = simp (l .stands .shape .fits, lt-leb _ _ (l .stands .at .entered .index), l .right, inside-by l)
+
+  pub located : (s : Step) → done s ≡ movesOf n t 0 x i → Starting n t x i
   unfolding movesOf
   located s e =
       let f = judge-first (shapeTest n t) _ _ s e in
-      let g = judge-first (indexTest t x) _ _ s (f .1) in
-      let h = judge-first (placeTest n t x i) _ _ s (g .1) in
-      let p = inside-is n t x i (h .0) in
-      let a : Indexed n t x = record { shape = shaped n t _ refl (f .0); index = leb-false _ _ (g .0) } in
-      record { at = a; place = p .0; low = p .1; high = p .2 }
+      let g = judge-first (indexTest (t .links) x) _ _ s (f .1) in
+      let w = judge-first (lengthTest n t x) _ _ s (g .1) in
+      let h = judge-first (placeTest n t x i) _ _ s (w .1) in
+      starting n t x i (shaped n t _ refl (f .0)) (leb-false _ _ (g .0)) (w .0) (inside-is n t x i (h .0))
 
-  -- a move is 9 to 11, and what is left
-  pub move-is : moveOf n t x i ≡ andThen (movesOf n t 0 x i) (λ _. advanceOf n t x i)
+  -- a move is these, and what is left
+  pub move-is : moveOf n t x i ≡ andThen (movesOf n t 0 x i) (λ _. advanceOf n (t .links) x i)
   unfolding moveOf movesOf advanceOf
-  move-is = judge-append (locateTests n t x i) (brokenTest n t x i ∷ []) _ (stepOf t x i)
+  move-is = judge-append (locateTests n t x i) (brokenTest n (t .links) x i ∷ []) _ (stepOf (t .links) x i)
 
   pub move-refused : (k p : ℕ) → refused k p ≡ movesOf n t 0 x i → refused k p ≡ moveOf n t x i
   unfolding andThen
   move-refused k p e = rw (move-is, ← e)
 
-  pub move-located : Located n t x i → moveOf n t x i ≡ advanceOf n t x i
+  pub move-located : Starting n t x i → moveOf n t x i ≡ advanceOf n (t .links) x i
   unfolding andThen
   move-located l = rw (move-is, ← locate-in l)
 
+  -- from where another move has led, the length of x is still to be tested
+  pub leave-wrong : wrongAt n t x ≡ true → refused 12 x ≡ leaveOf n t x i
+  unfolding leaveOf judge
+  leave-wrong w = simp w
+
+  pub leave-on : wrongAt n t x ≡ false → advanceOf n (t .links) x i ≡ leaveOf n t x i
+  unfolding leaveOf advanceOf judge
+  leave-on w = simp w
+
+  pub move-leaves : Stands n t x i → moveOf n t x i ≡ leaveOf n t x i
+  unfolding moveOf judge
+  move-leaves l = go (wrongAt n t x) refl
+    where
+      go : (b : Bool) → wrongAt n t x ≡ b → moveOf n t x i ≡ leaveOf n t x i
+      go true w = simp (l .shape .fits, lt-leb _ _ (l .at .entered .index), w) (leave-wrong w)
+      go false w = move-located (record { stands = l; right = w }) ∙ leave-on w
+
+  pub leave-made : (s : Step) → done s ≡ leaveOf n t x i → done s ≡ advanceOf n (t .links) x i
+  unfolding leaveOf advanceOf
+  leave-made s e = judge-first (lengthTest n t x) _ _ s e .1
+
+module _ (n : ℕ) (k : Links) (x i : ℕ) where
   -- what is left: 12 and the step
-  pub advance-broken : broken n t x i ≡ true → refused 12 x ≡ advanceOf n t x i
+  pub advance-broken : broken n k x i ≡ true → refused 12 x ≡ advanceOf n k x i
   unfolding advanceOf judge
   advance-broken b = simp b
 
-  pub advance-on : broken n t x i ≡ false → done (stepOf t x i) ≡ advanceOf n t x i
+  pub advance-on : broken n k x i ≡ false → done (stepOf k x i) ≡ advanceOf n k x i
   unfolding advanceOf judge
   advance-on b = simp b
 
   -- a move that no test refuses can be made
-  pub movable : n < 2 ^ 32 → Located n t x i → broken n t x i ≡ false → Movable t x i
+  pub movable : n < 2 ^ 32 → Located n k x i → broken n k x i ≡ false → Movable k x i
   movable m l b =
-      let w = whole-is n t x i b in
-      record {
-        entered = record { index = l .at .index; full = l .at .shape .full };
-        few = l .at .shape .few;
-        low = l .low;
-        held = w .0;
-        fits = omega (arith, w .1);
-      }
+      let w = whole-is n k x i b in
+      record { entered = l .entered; few = l .few; low = l .low; held = w .0; fits = omega (arith, w .1) }
 
 -- such a move reaches an interval that does not start above the place reached
-module _ (t : Tables) (x i : ℕ) (w : Walked) (m : Movable t x i)
-    (e : w ≡ walkedTo (t .list .starts) (holderOf t x) (carry (t .list) x i)) where
-  pub step-index : w .interval < sizeOf t
-  step-index = rw e (reached-index (t .list .starts) (holderOf t x) (carry (t .list) x i) (held-is t x (m .held) .0))
+module _ (k : Links) (x i : ℕ) (w : Walked) (m : Movable k x i)
+    (e : w ≡ walkedTo (k .list .starts) (holderOf k x) (carry (k .list) x i)) where
+  pub step-index : w .interval < sizeOf k
+  step-index = rw e (reached-index (k .list .starts) (holderOf k x) (carry (k .list) x i) (held-is k x (m .held) .0))
 
-  pub step-low : startOf (t .list) (w .interval) ≤ carry (t .list) x i
+  pub step-low : startOf (k .list) (w .interval) ≤ carry (k .list) x i
   step-low =
-      let h = held-is t x (m .held) in
-      rw e (reached-low (t .list .starts) (holderOf t x) (carry (t .list) x i) (h .0) (omega (arith, h .1)))
+      let h = held-is k x (m .held) in
+      rw e (reached-low (k .list .starts) (holderOf k x) (carry (k .list) x i) (h .0) (omega (arith, h .1)))
 
 -- the step by its numbers: the place reached, and the walk to there from the holder
-pub step-by : (t : Tables) (x i j : ℕ) (w : Walked) → j ≡ carry (t .list) x i → w ≡ walkedTo (t .list .starts) (holderOf t x) j
-    → standAt (t .list .starts) (w .interval) j (w .count) ≡ stepOf t x i
+pub step-by : (k : Links) (x i j : ℕ) (w : Walked) → j ≡ carry (k .list) x i → w ≡ walkedTo (k .list .starts) (holderOf k x) j
+    → standAt (k .list .starts) (w .interval) j (w .count) ≡ stepOf k x i
 unfolding stepOf stepTo
-step-by t x i j w q e = rw (e, q)
+step-by k x i j w q e = rw (e, q)

@@ -1,5 +1,5 @@
--- Find, move and repeated move (document 01, "Walking"), on any tables, with the distance of document 02, A.2, and its count of
--- the starts read, A.4.
+-- Find, move and repeated move (document 01, "Walking"), on any tables, with the distance of document 02, A.2, its count of the
+-- starts read, A.4, and its tests of lengths, A.7.
 use Prim.Native.Nat.{ℕ, zero, suc, _+_, _-_, _≤_, _<_}
 use mathlib.Core.Path.{_≡_}
 use mathlib.Core.Bool.{Bool, _||_}
@@ -10,7 +10,7 @@ use Rattle.outcomes.specs.Outcome.{Outcome, done, refused, Test, test, judge, m
 use Rattle.outcomes.specs.Refusal.{refusalSays}
 use Rattle.order.specs.Lists.{leading, bit}
 use Rattle.runs.specs.Runs.{startOf, lengthOf, distanceIn, carry}
-use Rattle.tables.specs.Tables.{Tables, sizeOf, holderOf, shapeTest, indexTest, placeTest, brokenTest}
+use Rattle.tables.specs.Tables.{Links, Tables, sizeOf, holderOf, shapeTest, indexTest, lengthTest, allLengths, placeTest, brokenTest}
 use Rattle.walks.specs.declared.Step.{Step}
 use Rattle.walks.specs.declared.reaching.Walked.{Walked}
 use Rattle.walks.specs.declared.Found.{Found}
@@ -32,18 +32,19 @@ unfoldable pub passed : List ℕ → ℕ → ℕ → ℕ
 passed starts h j = leading (λ s. leb s j) (drop (suc h) starts)
 
 -- Find: the walk from interval 0 for place i reaches as many intervals further as it passes starts.
-unfoldable pub foundAt : Tables → ℕ → ℕ
-foundAt t i = passed (t .list .starts) 0 i
+unfoldable pub foundAt : Links → ℕ → ℕ
+foundAt k i = passed (k .list .starts) 0 i
 
 -- 11 for find: i is not below n, or below the first start
 unfoldable pub unfindable : ℕ → List ℕ → ℕ → Bool
 unfindable n starts i = leb n i || ltb i (getD starts 0 0)
 
+-- all lengths are tested before the place
 abbrev pub findTests : ℕ → Tables → ℕ → List Test
-findTests n t i = shapeTest n t ∷ test 11 (unfindable n (t .list .starts) i) i ∷ []
+findTests n t i = shapeTest n t ∷ allLengths n t ∷ test 11 (unfindable n (t .links .list .starts) i) i ∷ []
 
 unfoldable pub findOf : ℕ → Tables → ℕ → Outcome ℕ
-findOf n t i = judge (findTests n t i) (foundAt t i)
+findOf n t i = judge (findTests n t i) (foundAt (t .links) i)
 
 -- The starts read for place j, which are those compared with it: one after the other, until none is left or one lies above
 -- j. That one is read too, and ends the walk.
@@ -73,21 +74,23 @@ unfoldable pub stepTo : List ℕ → ℕ → ℕ → Step
 stepTo starts h j = let w = walkedTo starts h j in standAt starts (w .interval) j (w .count)
 
 -- Move: the step from the holder to the place reached.
-unfoldable pub stepOf : Tables → ℕ → ℕ → Step
-stepOf t x i = stepTo (t .list .starts) (holderOf t x) (carry (t .list) x i)
+unfoldable pub stepOf : Links → ℕ → ℕ → Step
+stepOf k x i = stepTo (k .list .starts) (holderOf k x) (carry (k .list) x i)
 
 -- no move, at place i of interval x
 abbrev pub stayAt : List ℕ → ℕ → ℕ → Step
 stayAt starts x i = standAt starts x i 0
 
+-- the length of x alone is tested, and before the place; that of the interval reached is not
 abbrev pub locateTests : ℕ → Tables → ℕ → ℕ → List Test
-locateTests n t x i = shapeTest n t ∷ indexTest t x ∷ placeTest n t x i ∷ []
+locateTests n t x i = shapeTest n t ∷ indexTest (t .links) x ∷ lengthTest n t x ∷ placeTest n t x i ∷ []
 
 abbrev pub moveTests : ℕ → Tables → ℕ → ℕ → List Test
-moveTests n t x i = shapeTest n t ∷ indexTest t x ∷ placeTest n t x i ∷ brokenTest n t x i ∷ []
+moveTests n t x i =
+    shapeTest n t ∷ indexTest (t .links) x ∷ lengthTest n t x ∷ placeTest n t x i ∷ brokenTest n (t .links) x i ∷ []
 
 unfoldable pub moveOf : ℕ → Tables → ℕ → ℕ → Outcome Step
-moveOf n t x i = judge (moveTests n t x i) (stepOf t x i)
+moveOf n t x i = judge (moveTests n t x i) (stepOf (t .links) x i)
 
 -- a step with what was counted before it
 abbrev pub countedAfter : ℕ → Step → Step
@@ -98,9 +101,9 @@ unfoldable pub onwards : ℕ → Tables → Step → Outcome Step
 onwards n t s = mapDone (countedAfter (s .count)) (moveOf n t (s .interval) (s .place))
 
 -- Repeated move: m moves, each from where the one before led, and the sum of their counts. With no moves it stays, after
--- tests 9, 10 and 11.
+-- all tests but the last.
 unfoldable pub movesOf : ℕ → Tables → ℕ → ℕ → ℕ → Outcome Step
-movesOf n t zero x i = judge (locateTests n t x i) (stayAt (t .list .starts) x i)
+movesOf n t zero x i = judge (locateTests n t x i) (stayAt (t .links .list .starts) x i)
 movesOf n t (suc m) x i = andThen (movesOf n t m x i) (onwards n t)
 
 -- Where a repeated move stopped on the way: after fewer moves than it was asked for, it stood in an interval that it
@@ -116,13 +119,13 @@ pub record Stopped (n : ℕ) (t : Tables) (m x i number place : ℕ) : Type 0 wh
 
 -- What a count promises on any tables, where a move from interval x has reached interval y: y is not below the holder, and the count
 -- goes by the indexes.
-pub record ReadsTo (t : Tables) (x y c : ℕ) : Type 0 where
-  pub onward : holderOf t x ≤ y
-  pub exact : c ≡ readTo (sizeOf t) (holderOf t x) y
+pub record ReadsTo (k : Links) (x y c : ℕ) : Type 0 where
+  pub onward : holderOf k x ≤ y
+  pub exact : c ≡ readTo (sizeOf k) (holderOf k x) y
 
 -- What a distance promises on any tables: x is the index of an interval, place i lies exactly g places beyond its start, which is
--- then not above i, and g is below the interval's length.
-pub record LiesIn (n : ℕ) (t : Tables) (x i g : ℕ) : Type 0 where
-  pub index : x < sizeOf t
-  pub exact : startOf (t .list) x + g ≡ i
-  pub short : g < lengthOf n (t .list) x
+-- then not above i, and g is below the interval's length as the starts tell it.
+pub record LiesIn (n : ℕ) (k : Links) (x i g : ℕ) : Type 0 where
+  pub index : x < sizeOf k
+  pub exact : startOf (k .list) x + g ≡ i
+  pub short : g < lengthOf n (k .list) x

@@ -1,8 +1,8 @@
 // Walks through move tables with any numbers in them: find, move and repeated move.
 //
 // Each operation's contract is one equation with its definition in specs/, for every input. On the tables of a legal
-// list these are the list's function and its powers (proofs/LegalTables). The parts of find and of a move that questions share
-// with them stand last, and ask for what the tests before them show.
+// list these are the list's function and its powers (proofs/LegalTables). What questions share with them stands last, and asks for
+// what the tests before it show: find's test 11, the walk that its definition speaks of, and the step of a move.
 mod locating;
 mod reaching;
 mod walk;
@@ -11,7 +11,7 @@ use outcomes::Refusal;
 ghost use mathlib.Core.Path.{_≡_};
 ghost use Prim.Native.Nat.{_+_, _≤_, _<_};
 ghost use lib.ListN.{length};
-ghost use Rattle.tables.specs.Tables.{tables, maxIntervals};
+ghost use Rattle.tables.specs.Tables.{links, tables, maxIntervals};
 ghost use Rattle.walks.specs.Move.{foundSays, movedSays, passed, unfindable, findOf, moveOf, movesOf, stepOf};
 ghost use Rattle.walks.specs.Parts.{Movable};
 
@@ -34,24 +34,44 @@ pub enum Moved {
     Refused(Refusal),
 }
 
-// The interval that a walk from the first one reaches for place i.
-pub fn find(n: u32, starts: &[u32], images: &[u32], holders: &[u32], i: u32) -> Found
-    ensures { λ r. ⌜ foundSays r ≡ findOf n (tables (now (starts .entry)) (now (images .entry)) (now (holders .entry))) i ⌝ }
+// The interval that a walk from the first one reaches for place i. Where all lengths are right the starts rise, so that a search
+// leads there too.
+pub fn find(
+    n: u32,
+    starts: &[u32],
+    images: &[u32],
+    holders: &[u32],
+    lengths: &[u32],
+    i: u32,
+) -> Found
+    ensures { λ r. ⌜ foundSays r ≡ findOf n (tables (now (starts .entry)) (now (images .entry)) (now (holders .entry)) (now (lengths .entry))) i ⌝ }
 {
-    if tables::is_misshapen(n, starts, images, holders) {
+    if tables::is_misshapen(n, starts, images, holders, lengths) {
         return Found::Refused(Refusal::TableShape);
+    }
+    let wrong = tables::first_wrong_length(n, starts, lengths);
+    if wrong < starts.len() {
+        return Found::Refused(Refusal::BrokenInterval(wrong as u32));
     }
     if is_unfindable(n, starts, i) {
         return Found::Refused(Refusal::PlaceRange(i));
     }
-    Found::At(reach_from(starts, 0, i))
+    Found::At((searching::count_below(starts, i + 1) - 1) as u32)
 }
 
 // One move from place i of interval x.
-pub fn move_query(n: u32, starts: &[u32], images: &[u32], holders: &[u32], x: u32, i: u32) -> Moved
-    ensures { λ r. ⌜ movedSays r ≡ moveOf n (tables (now (starts .entry)) (now (images .entry)) (now (holders .entry))) x i ⌝ }
+pub fn move_query(
+    n: u32,
+    starts: &[u32],
+    images: &[u32],
+    holders: &[u32],
+    lengths: &[u32],
+    x: u32,
+    i: u32,
+) -> Moved
+    ensures { λ r. ⌜ movedSays r ≡ moveOf n (tables (now (starts .entry)) (now (images .entry)) (now (holders .entry)) (now (lengths .entry))) x i ⌝ }
 {
-    match locating::locate(n, starts, images, holders, x, i) {
+    match locating::locate(n, starts, images, holders, lengths, x, i) {
         Moved::Refused(r) => Moved::Refused(r),
         Moved::To(_) => walk::advance(n, starts, images, holders, x, i),
     }
@@ -63,15 +83,16 @@ pub fn repeated_moves(
     starts: &[u32],
     images: &[u32],
     holders: &[u32],
+    lengths: &[u32],
     x: u32,
     i: u32,
     m: u32,
 ) -> Moved
-    ensures { λ r. ⌜ movedSays r ≡ movesOf n (tables (now (starts .entry)) (now (images .entry)) (now (holders .entry))) m x i ⌝ }
+    ensures { λ r. ⌜ movedSays r ≡ movesOf n (tables (now (starts .entry)) (now (images .entry)) (now (holders .entry)) (now (lengths .entry))) m x i ⌝ }
 {
-    match locating::locate(n, starts, images, holders, x, i) {
+    match locating::locate(n, starts, images, holders, lengths, x, i) {
         Moved::Refused(r) => Moved::Refused(r),
-        Moved::To(_) => walk::moves_from(n, starts, images, holders, x, i, m),
+        Moved::To(_) => walk::moves_from(n, starts, images, holders, lengths, x, i, m),
     }
 }
 
@@ -97,8 +118,8 @@ pub fn reach_from(starts: &[u32], x: u32, i: u32) -> u32
 
 // The step from place i of interval x where no test refuses it, for our own crates.
 pub fn step_from(starts: &[u32], images: &[u32], holders: &[u32], x: u32, i: u32) -> Step
-    requires { ⌜ Movable (tables (now starts) (now images) (now holders)) x i ⌝ }
-    ensures { λ r. ⌜ r ≡ stepOf (tables (now (starts .entry)) (now (images .entry)) (now (holders .entry))) x i ⌝ }
+    requires { ⌜ Movable (links (now starts) (now images) (now holders)) x i ⌝ }
+    ensures { λ r. ⌜ r ≡ stepOf (links (now (starts .entry)) (now (images .entry)) (now (holders .entry))) x i ⌝ }
 {
     let at = x as usize;
     let j = images[at] + (i - starts[at]);

@@ -1,4 +1,4 @@
-// The tests of 9 to 11 that a move begins with, and the step that stands at a place.
+// The tests that a move begins with, and the step that stands at a place.
 use super::Moved;
 use super::Step;
 use outcomes::Refusal;
@@ -21,23 +21,27 @@ pub(crate) fn stand(starts: &[u32], x: u32, i: u32, count: u64) -> Step
     }
 }
 
-// Tests 9 to 11, and no move.
+// Tests 9, 10, 12 of the length of x, and 11, and no move.
 pub(crate) fn locate(
     n: u32,
     starts: &[u32],
     images: &[u32],
     holders: &[u32],
+    lengths: &[u32],
     x: u32,
     i: u32,
 ) -> Moved
-    ensures { λ r. ⌜ movedSays r ≡ movesOf n (tables (now (starts .entry)) (now (images .entry)) (now (holders .entry))) 0 x i ⌝ }
+    ensures { λ r. ⌜ movedSays r ≡ movesOf n (tables (now (starts .entry)) (now (images .entry)) (now (holders .entry)) (now (lengths .entry))) 0 x i ⌝ }
 {
-    if tables::is_misshapen(n, starts, images, holders) {
+    if tables::is_misshapen(n, starts, images, holders, lengths) {
         return Moved::Refused(Refusal::TableShape);
     }
     let at = x as usize;
     if starts.len() <= at {
         return Moved::Refused(Refusal::IntervalIndex(x));
+    }
+    if tables::is_wrong_length(n, starts, lengths, at) {
+        return Moved::Refused(Refusal::BrokenInterval(x));
     }
     if n <= i {
         return Moved::Refused(Refusal::PlaceRange(i)); // not below n
@@ -45,7 +49,7 @@ pub(crate) fn locate(
     if i < starts[at] {
         return Moved::Refused(Refusal::PlaceRange(i)); // below x's start
     }
-    if order::entry_or(starts, at + 1, n) <= i {
+    if lengths[at] <= i - starts[at] {
         return Moved::Refused(Refusal::PlaceRange(i)); // not below x's end
     }
     Moved::To(stand(starts, x, i, 0))

@@ -1,4 +1,4 @@
--- `move_query` meets its contract: tests 9 to 11, and what is left of a move where they pass.
+-- `move_query` meets its contract: the tests before 12, and what is left of a move where they pass.
 use Rattle.walks.proofs.Steps.{located, move-refused, move-located}
 use Rattle.walks.specs.Move.{movedSays}
 use mathlib.Core.Path.{sym, ap, _∙_}
@@ -17,7 +17,7 @@ enum-told c = search needs
 
 advance-requires : tie.Need-advance-requires
 advance-requires c κs =
-    located _ _ _ _ _ (ap movedSays (sym (c .enum-told .given .1)) ∙ c .before .before .locate .ensures)
+    located _ _ _ _ _ (ap movedSays (sym (c .enum-told .given .1)) ∙ c .before .before .locate .ensures) .stands .at
 
 returns : tie.Need-returns
 returns c =

@@ -1,4 +1,4 @@
--- `repeated_moves` meets its contract: tests 9 to 11 once, and the moves where they pass.
+-- `repeated_moves` meets its contract: the tests before 12 once, and the moves where they pass.
 use Rattle.walks.proofs.Moves.{moves-refused}
 use Rattle.walks.proofs.Steps.{located}
 use Rattle.walks.specs.Move.{movedSays}

@@ -1,8 +1,7 @@
 -- `locate` meets its contract: an outcome law for each way to return.
-use Rattle.walks.proofs.Steps.{locate-shape, locate-index, locate-place, locate-in}
+use Rattle.walks.proofs.Steps.{starting, locate-shape, locate-index, locate-length, locate-place, locate-in}
 use Rattle.tables.proofs.Passing.{shaped, outside-far, outside-low, outside-high}
-use Rattle.order.proofs.Laws.{entry-after}
-use mathlib.Core.Path.{ap, _∙_}
+use mathlib.Core.Path.{sym, ap, _∙_}
 use native.Mathlib.Omega.{arith}
 use Rattle.outcomes.specs.Outcome.{done}
 use borrow.Author.Needs.{needs}
@@ -20,55 +19,77 @@ returns-2 c =
     let e = c .before in
     locate-index _ _ _ _ (shaped _ _ _ (e .before .is-misshapen .ensures) (e .if1 .left)) (omega arith)
 
+is-wrong-length-requires : tie.Need-is-wrong-length-requires
+is-wrong-length-requires c κs =
+    let e = c .before in
+    let s = shaped _ _ _ (e .before .is-misshapen .ensures) (e .if1 .left) in
+    omega arith
+
 returns-3 : tie.Need-returns-3
 returns-3 c =
-    let e = c .before .before in
+    let e = c .before .before .before in
     let s = shaped _ _ _ (e .before .is-misshapen .ensures) (e .if1 .left) in
-    locate-place _ _ _ _ s (omega arith) (outside-far _ _ _ _ (omega arith))
-
-mul-if4 : tie.Need-mul-if4
-mul-if4 c = search needs
-
-shared-slice-read-if4 : tie.Need-shared-slice-read-if4
-shared-slice-read-if4 c = search needs
+    locate-length _ _ _ _ s (omega arith) (sym (c .before .is-wrong-length .ensures) ∙ c .if3 .taken)
 
 returns-4 : tie.Need-returns-4
 returns-4 c =
-    let e = c .before .before .before .before in
+    let w = c .before in
+    let e = w .before .before .before in
     let s = shaped _ _ _ (e .before .is-misshapen .ensures) (e .if1 .left) in
-    locate-place _ _ _ _ s (omega arith) (outside-low _ _ _ _ (omega arith) (omega arith))
+    let right = sym (w .before .is-wrong-length .ensures) ∙ w .if3 .left in
+    locate-place _ _ _ _ s (omega arith) right (outside-far _ _ _ _ (omega arith))
 
-add-entry-or : tie.Need-add-entry-or
-add-entry-or c = search needs
+mul-if5 : tie.Need-mul-if5
+mul-if5 c = search needs
 
-entry-or-requires : tie.Need-entry-or-requires
-entry-or-requires c κs = search needs
+shared-slice-read-if5 : tie.Need-shared-slice-read-if5
+shared-slice-read-if5 c = search needs
 
 returns-5 : tie.Need-returns-5
 returns-5 c =
-    let e = c .before .before .before .before .before .before in
+    let w = c .before .before .before in
+    let e = w .before .before .before in
     let s = shaped _ _ _ (e .before .is-misshapen .ensures) (e .if1 .left) in
-    let a = e .before .before .before .before .before .args in
-    let end = entry-after (a .starts .now) (a .x) (a .n) in
-    locate-place _ _ _ _ s (omega arith) (outside-high _ _ _ _ (omega arith) (omega arith) (omega (arith, end)))
+    let right = sym (w .before .is-wrong-length .ensures) ∙ w .if3 .left in
+    locate-place _ _ _ _ s (omega arith) right (outside-low _ _ _ _ (omega arith) (omega arith))
+
+mul-if6 : tie.Need-mul-if6
+mul-if6 c = search needs
+
+shared-slice-read-if6 : tie.Need-shared-slice-read-if6
+shared-slice-read-if6 c =
+    let e = c .before .before .before .before .before .before .before in
+    let s = shaped _ _ _ (e .before .is-misshapen .ensures) (e .if1 .left) in
+    omega arith
+
+mul-if6-2 : tie.Need-mul-if6-2
+mul-if6-2 c = search needs
+
+shared-slice-read-if6-2 : tie.Need-shared-slice-read-if6-2
+shared-slice-read-if6-2 c = search needs
+
+sub-if6 : tie.Need-sub-if6
+sub-if6 c = search needs
+
+returns-6 : tie.Need-returns-6
+returns-6 c =
+    let w = c .before .before .before .before .before .before in
+    let e = w .before .before .before in
+    let s = shaped _ _ _ (e .before .is-misshapen .ensures) (e .if1 .left) in
+    let right = sym (w .before .is-wrong-length .ensures) ∙ w .if3 .left in
+    locate-place _ _ _ _ s (omega arith) right (outside-high _ _ _ _ (omega arith) (omega arith) (omega arith))
 
 stand-requires : tie.Need-stand-requires
 stand-requires c κs = search needs
 
-returns-6 : tie.Need-returns-6
-returns-6 c =
-    let e = c .before .before .before .before .before .before .before in
+returns-7 : tie.Need-returns-7
+returns-7 c =
+    let w = c .before .before .before .before .before .before .before in
+    let e = w .before .before .before in
     let s = shaped _ _ _ (e .before .is-misshapen .ensures) (e .if1 .left) in
-    let a = e .before .before .before .before .before .args in
-    let end = entry-after (a .starts .now) (a .x) (a .n) in
+    let right = sym (w .before .is-wrong-length .ensures) ∙ w .if3 .left in
     ap done (c .stand .ensures)
-    ∙ locate-in _ _ _ _
-    (record {
-      at = record { shape = s; index = omega arith };
-      place = omega arith;
-      low = omega arith;
-      high = omega (arith, end);
-    })
+    ∙ locate-in _ _ _ _ (starting _ _ _ _ s (omega arith) right (omega arith, omega arith, omega arith))
 
 pub locate-spec : {M : Type 1} → statement M
 locate-spec =
@@ -77,12 +98,17 @@ locate-spec =
     is-misshapen-requires
     returns
     returns-2
+    is-wrong-length-requires
     returns-3
-    mul-if4
-    shared-slice-read-if4
     returns-4
-    add-entry-or
-    entry-or-requires
+    mul-if5
+    shared-slice-read-if5
     returns-5
+    mul-if6
+    shared-slice-read-if6
+    mul-if6-2
+    shared-slice-read-if6-2
+    sub-if6
+    returns-6
     stand-requires
-    returns-6)
+    returns-7)

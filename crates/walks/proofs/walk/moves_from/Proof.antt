@@ -12,17 +12,17 @@ use Rattle.walks.proofs.walk.moves_from.Statement.{statement}
 use Rattle.walks.proofs.walk.moves_from.Tie as tie
 
 abbrev Inv-loop : tie.InvT-loop
-Inv-loop n starts images holders x i m place₀ interval₀ count₀ made₀ place interval count made =
-    Walking n (tables starts images holders) x i m (standAt starts interval place count) made
+Inv-loop n starts images holders lengths x i m place₀ interval₀ count₀ made₀ place interval count made =
+    Walking n (tables starts images holders lengths) x i m (standAt starts interval place count) made
 
 abbrev μ-loop : tie.MeasureT-loop
-μ-loop n starts images holders x i m place₀ interval₀ count₀ made₀ place interval count made = m - made
+μ-loop n starts images holders lengths x i m place₀ interval₀ count₀ made₀ place interval count made = m - made
 
 loop-holds : tie.Need-loop-holds Inv-loop μ-loop
 loop-holds c = walking-start _ _ _ _ _ (search needs)
 
-advance-requires : tie.Need-advance-requires Inv-loop μ-loop
-advance-requires c κs = c .before .loop .inv .here
+leave-requires : tie.Need-leave-requires Inv-loop μ-loop
+leave-requires c κs = c .before .loop .inv .here
 
 enum-known-r : tie.Need-enum-known-r Inv-loop μ-loop
 enum-known-r c = search needs
@@ -31,7 +31,7 @@ returns : tie.Need-returns Inv-loop μ-loop
 returns c =
     let a = c .before .before .before in
     let l = a .before .before in
-    let e = ap movedSays (sym (c .before .r .given .1)) ∙ a .advance .ensures in
+    let e = ap movedSays (sym (c .before .r .given .1)) ∙ a .leave .ensures in
     walking-refused _ _ _ _ _ _ _ (l .loop .inv) _ _ e (omega arith)
 
 enum-known-next : tie.Need-enum-known-next Inv-loop μ-loop
@@ -42,7 +42,8 @@ add-count c =
     let s = c .before .before in
     let a = s .before .before in
     let l = a .before .before in
-    let e = ap movedSays (sym (s .next .given .1)) ∙ a .advance .ensures in
+    let e = ap movedSays (sym (s .next .given .1)) ∙ a .leave .ensures in
+    let m = l .before .before .before .before .before .fits .m in
     omega (arith, walking-fits _ _ _ _ _ _ _ (l .loop .inv) _ e (a .before .loop-test .taken) (omega arith))
 
 add-made : tie.Need-add-made Inv-loop μ-loop
@@ -56,13 +57,13 @@ loop-again c =
     let s = c .before .before in
     let a = s .before .before in
     let l = a .before .before in
-    let e = ap movedSays (sym (s .next .given .1)) ∙ a .advance .ensures in
+    let e = ap movedSays (sym (s .next .given .1)) ∙ a .leave .ensures in
     walking-more _ _ _ _ _ _ _ (l .loop .inv) _ e (a .before .loop-test .taken)
 
 stand-requires : tie.Need-stand-requires Inv-loop μ-loop
 stand-requires c κs =
     let here = c .before .loop .inv .here in
-    (here .at .index, here .low)
+    (here .at .entered .index, here .at .low)
 
 returns-2 : tie.Need-returns-2 Inv-loop μ-loop
 returns-2 c = ap done (c .stand .ensures) ∙ walking-end _ _ _ _ _ _ _ (c .before .before .loop .inv) (omega arith)
@@ -74,7 +75,7 @@ moves-from-spec =
     Inv-loop
     μ-loop
     loop-holds
-    advance-requires
+    leave-requires
     enum-known-r
     returns
     enum-known-next
