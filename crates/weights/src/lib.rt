@@ -9,7 +9,7 @@ ghost use Prim.Native.Nat.{_≤_};
 ghost use mathlib.Core.Bool.{false};
 ghost use lib.Dec.{eqb};
 ghost use Rattle.outcomes.specs.Outcome.{_then_else_};
-ghost use Rattle.tables.specs.Tables.{tables, unheld};
+ghost use Rattle.tables.specs.Tables.{links, tables, unheld};
 ghost use Rattle.tables.specs.Parts.{Indexed, Entered};
 ghost use Rattle.weights.specs.Under.{weighedSays, underFirst, weightOf, startsUnderOf};
 ghost use Rattle.weights.specs.Parts.{stretchOf};
@@ -30,9 +30,9 @@ fn one_unless_equal(start: u32, image: u32) -> usize
 
 // Where the stretch under x's image begins, which may be the table's end.
 fn first(starts: &[u32], images: &[u32], holders: &[u32], x: u32) -> usize
-    requires { ⌜ Entered (tables (now starts) (now images) (now holders)) x ⌝ }
-    requires { ⌜ unheld (tables (now starts) (now images) (now holders)) x ≡ false ⌝ }
-    ensures { λ r. ⌜ r ≡ underFirst (tables (now (starts .entry)) (now (images .entry)) (now (holders .entry))) x ⌝ }
+    requires { ⌜ Entered (links (now starts) (now images) (now holders)) x ⌝ }
+    requires { ⌜ unheld (links (now starts) (now images) (now holders)) x ≡ false ⌝ }
+    ensures { λ r. ⌜ r ≡ underFirst (links (now (starts .entry)) (now (images .entry)) (now (holders .entry))) x ⌝ }
 {
     let at = x as usize;
     let h = holders[at] as usize;
@@ -40,38 +40,45 @@ fn first(starts: &[u32], images: &[u32], holders: &[u32], x: u32) -> usize
 }
 
 // Test 12 and the stretch's size.
-fn size(n: u32, starts: &[u32], images: &[u32], holders: &[u32], x: u32) -> Weighed
-    requires { ⌜ Indexed n (tables (now starts) (now images) (now holders)) x ⌝ }
-    ensures { λ r. ⌜ weighedSays r ≡ stretchOf n (tables (now (starts .entry)) (now (images .entry)) (now (holders .entry))) x ⌝ }
+fn size(n: u32, starts: &[u32], images: &[u32], holders: &[u32], lengths: &[u32], x: u32) -> Weighed
+    requires { ⌜ Indexed n (tables (now starts) (now images) (now holders) (now lengths)) x ⌝ }
+    ensures { λ r. ⌜ weighedSays r ≡ stretchOf n
+        (tables (now (starts .entry)) (now (images .entry)) (now (holders .entry)) (now (lengths .entry))) x ⌝ }
 {
+    let at = x as usize;
+    if tables::is_wrong_length(n, starts, lengths, at) {
+        return Weighed::Refused(Refusal::BrokenInterval(x));
+    }
     if tables::is_unheld(starts, images, holders, x) {
         return Weighed::Refused(Refusal::BrokenInterval(x));
     }
-    let at = x as usize;
-    let start = starts[at];
-    let end = order::entry_or(starts, at + 1, n);
-    if end <= start {
-        return Weighed::Refused(Refusal::BrokenInterval(x));
-    }
-    let past = wide(images[at]) + wide(end - start);
-    if wide(n) < past {
+    let image_end = wide(images[at]) + wide(lengths[at]);
+    if wide(n) < image_end {
         return Weighed::Refused(Refusal::BrokenInterval(x));
     }
     let from = first(starts, images, holders, x);
-    Weighed::Weight(order::stretch_length(starts, from, (past - 1) as u32) as u32)
+    Weighed::Weight(order::stretch_length(starts, from, (image_end - 1) as u32) as u32)
 }
 
 // How many starts lie under x's image.
-pub fn weight(n: u32, starts: &[u32], images: &[u32], holders: &[u32], x: u32) -> Weighed
-    ensures { λ r. ⌜ weighedSays r ≡ weightOf n (tables (now (starts .entry)) (now (images .entry)) (now (holders .entry))) x ⌝ }
+pub fn weight(
+    n: u32,
+    starts: &[u32],
+    images: &[u32],
+    holders: &[u32],
+    lengths: &[u32],
+    x: u32,
+) -> Weighed
+    ensures { λ r. ⌜ weighedSays r ≡ weightOf n
+        (tables (now (starts .entry)) (now (images .entry)) (now (holders .entry)) (now (lengths .entry))) x ⌝ }
 {
-    if tables::is_misshapen(n, starts, images, holders) {
+    if tables::is_misshapen(n, starts, images, holders, lengths) {
         return Weighed::Refused(Refusal::TableShape);
     }
     if starts.len() <= x as usize {
         return Weighed::Refused(Refusal::IntervalIndex(x));
     }
-    size(n, starts, images, holders, x)
+    size(n, starts, images, holders, lengths, x)
 }
 
 // The starts under x's image, as the part of `starts` that they are; empty where `weight` refuses.
@@ -80,11 +87,13 @@ pub fn starts_under<'a>(
     starts: &'a [u32],
     images: &[u32],
     holders: &[u32],
+    lengths: &[u32],
     x: u32,
 ) -> &'a [u32]
-    ensures { λ r. ⌜ now r ≡ startsUnderOf n (tables (now (starts .entry)) (now (images .entry)) (now (holders .entry))) x ⌝ }
+    ensures { λ r. ⌜ now r ≡ startsUnderOf n
+        (tables (now (starts .entry)) (now (images .entry)) (now (holders .entry)) (now (lengths .entry))) x ⌝ }
 {
-    match weight(n, starts, images, holders, x) {
+    match weight(n, starts, images, holders, lengths, x) {
         Weighed::Refused(_) => &starts[0..0],
         Weighed::Weight(w) => {
             let from = first(starts, images, holders, x);
