@@ -1,1 +1,3 @@
+-- The inverse on any tables.
 pub mod Inverse
+pub mod Parts

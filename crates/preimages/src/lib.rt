@@ -2,14 +2,14 @@
 //
 // The contract is one equation with the definition in specs/. On the tables of a legal list it is the inverse of the
 // list's function (proofs/LegalPreimages).
-use order::wide;
 use outcomes::Refusal;
 ghost use mathlib.Core.Path.{_≡_};
 ghost use Prim.Native.Nat.{_<_};
 ghost use lib.ListN.{length};
-ghost use Rattle.runs.specs.Runs.{runs};
+ghost use Rattle.outcomes.specs.Search.{firstBelow};
 ghost use Rattle.tables.specs.Tables.{tables};
-ghost use Rattle.preimages.specs.Inverse.{invertedSays, sends, sourceOf, inverseOf};
+ghost use Rattle.preimages.specs.Inverse.{invertedSays, inverseOf};
+ghost use Rattle.preimages.specs.Parts.{imageHas};
 
 // A place and the interval that has it.
 pub struct Source {
@@ -22,26 +22,27 @@ pub enum Inverted {
     Refused(Refusal),
 }
 
-// Whether interval x sends a place to j.
-fn is_source(n: u32, starts: &[u32], images: &[u32], x: usize, j: u32) -> bool
-    requires { ⌜ (x < length (now starts)) × (x < length (now images)) ⌝ }
-    ensures { λ r. ⌜ r ≡ sends n (runs (now (starts .entry)) (now (images .entry))) j x ⌝ }
+// Whether interval x sends a place to j. The place that j would come from is as far above x's start as j is above its image, so
+// that it is below x's end where that distance is below the length: no start is read, and there is no sum to overflow.
+fn is_source(images: &[u32], lengths: &[u32], x: usize, j: u32) -> bool
+    requires { ⌜ (x < length (now images)) × (x < length (now lengths)) ⌝ }
+    ensures { λ r. ⌜ r ≡ imageHas (now (images .entry)) (now (lengths .entry)) j x ⌝ }
 {
     let image = images[x];
     if j < image {
         return false;
     }
-    wide(starts[x]) + wide(j - image) < wide(order::entry_or(starts, x + 1, n))
+    j - image < lengths[x]
 }
 
 // The lowest interval that sends a place to j, or their number.
-fn first_source(n: u32, starts: &[u32], images: &[u32], j: u32) -> usize
-    requires { ⌜ length (now images) ≡ length (now starts) ⌝ }
-    ensures { λ r. ⌜ r ≡ sourceOf n (runs (now (starts .entry)) (now (images .entry))) j ⌝ }
+fn first_source(images: &[u32], lengths: &[u32], j: u32) -> usize
+    requires { ⌜ length (now lengths) ≡ length (now images) ⌝ }
+    ensures { λ r. ⌜ r ≡ firstBelow (imageHas (now (images .entry)) (now (lengths .entry)) j) (length (now (images .entry))) ⌝ }
 {
     let mut x: usize = 0;
-    while x < starts.len() {
-        if is_source(n, starts, images, x, j) {
+    while x < images.len() {
+        if is_source(images, lengths, x, j) {
             return x;
         }
         x += 1;
@@ -50,16 +51,28 @@ fn first_source(n: u32, starts: &[u32], images: &[u32], j: u32) -> usize
 }
 
 // The place that j is reached from, and its interval.
-pub fn inverse(n: u32, starts: &[u32], images: &[u32], holders: &[u32], j: u32) -> Inverted
-    ensures { λ r. ⌜ invertedSays r ≡ inverseOf n (tables (now (starts .entry)) (now (images .entry)) (now (holders .entry))) j ⌝ }
+pub fn inverse(
+    n: u32,
+    starts: &[u32],
+    images: &[u32],
+    holders: &[u32],
+    lengths: &[u32],
+    j: u32,
+) -> Inverted
+    ensures { λ r. ⌜ invertedSays r ≡ inverseOf n
+        (tables (now (starts .entry)) (now (images .entry)) (now (holders .entry)) (now (lengths .entry))) j ⌝ }
 {
-    if tables::is_misshapen(n, starts, images, holders) {
+    if tables::is_misshapen(n, starts, images, holders, lengths) {
         return Inverted::Refused(Refusal::TableShape);
+    }
+    let wrong = tables::first_wrong_length(n, starts, lengths);
+    if wrong < starts.len() {
+        return Inverted::Refused(Refusal::BrokenInterval(wrong as u32));
     }
     if n <= j {
         return Inverted::Refused(Refusal::PlaceRange(j));
     }
-    let x = first_source(n, starts, images, j);
+    let x = first_source(images, lengths, j);
     if starts.len() <= x {
         return Inverted::Refused(Refusal::NoPreimage(j));
     }

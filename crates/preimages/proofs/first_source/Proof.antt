@@ -4,16 +4,15 @@ use mathlib.Core.Path.{sym, _∙_}
 use native.Mathlib.Omega.{arith}
 use lib.ListN.{length}
 use Rattle.outcomes.proofs.Searching.{Searched, searched-none, searched-hit, searched-next, searched-end}
-use Rattle.runs.specs.Runs.{runs}
-use Rattle.preimages.specs.Inverse.{sends, sourceOf}
+use Rattle.preimages.specs.Parts.{imageHas}
 use Rattle.preimages.proofs.first_source.Statement.{statement}
 use Rattle.preimages.proofs.first_source.Tie as tie
 
 abbrev Inv-loop : tie.InvT-loop
-Inv-loop n starts images j x₀ x = Searched (sends n (runs starts images) j) (length starts) x
+Inv-loop images lengths j x₀ x = Searched (imageHas images lengths j) (length images) x
 
 abbrev μ-loop : tie.MeasureT-loop
-μ-loop n starts images j x₀ x = length starts - x
+μ-loop images lengths j x₀ x = length images - x
 
 loop-holds : tie.Need-loop-holds Inv-loop μ-loop
 loop-holds c = searched-none _ _
@@ -22,7 +21,6 @@ is-source-requires : tie.Need-is-source-requires Inv-loop μ-loop
 is-source-requires c κs = omega arith
 
 returns : tie.Need-returns Inv-loop μ-loop
-unfolding sourceOf
 returns c =
     let l = c .before .before .before in
     searched-hit _ _ _ (l .loop .inv) (omega arith) (sym (c .before .is-source .ensures) ∙ c .if1 .taken)
@@ -39,7 +37,6 @@ loop-again c =
     searched-next _ _ _ (l .loop .inv) (omega arith) (sym (c .before .is-source .ensures) ∙ c .if1 .left)
 
 returns-2 : tie.Need-returns-2 Inv-loop μ-loop
-unfolding sourceOf
 returns-2 c = searched-end _ _ _ (c .before .loop .inv) (omega arith)
 
 pub first-source-spec : {M : Type 1} → statement M

@@ -1,10 +1,46 @@
 -- `inverse` meets its contract: an outcome law for each way to return.
-use Rattle.preimages.proofs.Sources.{source-sends, source-fits, inverse-shape, inverse-far, inverse-none, inverse-from}
-use Rattle.tables.proofs.Passing.{shaped}
+use mathlib.Core.Path.{_≡_, _∙_}
 use native.Mathlib.Omega.{arith}
 use borrow.Author.Needs.{needs}
+use Rattle.tables.specs.Tables.{Tables, tables}
+use Rattle.tables.specs.Parts.{Shaped, Measured}
+use Rattle.tables.proofs.Passing.{shaped}
+use Rattle.tables.proofs.Lengths.{none-wrong}
+use Rattle.preimages.specs.Inverse.{sourceOf}
+use Rattle.preimages.proofs.Sources.{source-is, source-sends, source-below, inverse-shape, inverse-length, inverse-far, inverse-none, inverse-from}
 use Rattle.preimages.proofs.inverse.Statement.{statement}
 use Rattle.preimages.proofs.inverse.Tie as tie
+
+-- the call whose tables have passed 9, and its tables
+abbrev call : tie.Else1 → tie.Start
+call c = c .before .before .before .before .before .before
+
+abbrev handed : tie.Else1 → Tables
+handed c =
+    let a = call c .args in
+    tables (a .starts .now) (a .images .now) (a .holders .now) (a .lengths .now)
+
+-- back from where all lengths have passed, and from where a source was sought
+abbrev measured : tie.Else2 → tie.Else1
+measured c = c .before .before
+
+abbrev sought : tie.After-first-source → tie.Else2
+sought c = c .before .before
+
+-- what 9, the lengths and the search have shown
+shape : (c : tie.Else1) → Shaped (call c .args .n) (handed c)
+shape c = shaped _ _ _ (c .before .is-misshapen .ensures) (c .if1 .left)
+
+right : (c : tie.Else2) → Measured (call (measured c) .args .n) (handed (measured c))
+right c =
+    let l = c .before .first-wrong-length in
+    none-wrong _ (handed (measured c)) (l .result) (l .ensures) (c .if2 .left)
+
+source : (c : tie.After-first-source) → let e = measured (sought c) in
+    c .first-source .result ≡ sourceOf (handed e) (call e .args .j)
+source c =
+    let e = measured (sought c) in
+    c .first-source .ensures ∙ source-is (handed e) _ _ (shape e .linked .full .imaged)
 
 is-misshapen-requires : tie.Need-is-misshapen-requires
 is-misshapen-requires c κs = search needs
@@ -12,61 +48,55 @@ is-misshapen-requires c κs = search needs
 returns : tie.Need-returns
 returns c = inverse-shape _ _ _ _ (c .before .is-misshapen .ensures) (c .if1 .taken)
 
-returns-2 : tie.Need-returns-2
-returns-2 c =
-    let e = c .before in
-    inverse-far _ _ _ (shaped _ _ _ (e .before .is-misshapen .ensures) (e .if1 .left)) (omega arith)
+first-wrong-length-requires : tie.Need-first-wrong-length-requires
+first-wrong-length-requires c κs = let s = shape c in (s .linked .some, s .measured)
 
-first-source-requires : tie.Need-first-source-requires
-first-source-requires c κs =
-    let e = c .before in
-    let s = shaped _ _ _ (e .before .is-misshapen .ensures) (e .if1 .left) in
-    omega arith
+cast-t13 : tie.Need-cast-t13
+cast-t13 c = omega (arith, shape (c .before .before) .linked .few)
+
+returns-2 : tie.Need-returns-2
+returns-2 c = inverse-length _ _ _ (shape (c .before .before)) _ (c .before .first-wrong-length .ensures) (omega arith)
 
 returns-3 : tie.Need-returns-3
-returns-3 c =
-    let e = c .before .before .before in
-    let s = shaped _ _ _ (e .before .is-misshapen .ensures) (e .if1 .left) in
-    inverse-none _ _ _ s (omega arith) _ (c .before .first-source .ensures) (omega arith)
+returns-3 c = let e = c .before in inverse-far _ _ _ (shape (measured e)) (right e) (omega arith)
+
+first-source-requires : tie.Need-first-source-requires
+first-source-requires c κs = let s = shape (measured (c .before)) in omega arith
+
+returns-4 : tie.Need-returns-4
+returns-4 c =
+    let e = sought (c .before) in
+    inverse-none _ _ _ (shape (measured e)) (right e) (omega arith) _ (source (c .before)) (omega arith)
 
 mul-t11 : tie.Need-mul-t11
 mul-t11 c = search needs
 
-shared-slice-read-t14 : tie.Need-shared-slice-read-t14
-shared-slice-read-t14 c = search needs
+shared-slice-read-t18 : tie.Need-shared-slice-read-t18
+shared-slice-read-t18 c = search needs
 
-mul-t15 : tie.Need-mul-t15
-mul-t15 c = search needs
+mul-t19 : tie.Need-mul-t19
+mul-t19 c = search needs
 
-shared-slice-read-t17 : tie.Need-shared-slice-read-t17
-shared-slice-read-t17 c =
-    let e = c .before .before .before .before .before in
-    let s = shaped _ _ _ (e .before .is-misshapen .ensures) (e .if1 .left) in
-    omega arith
+shared-slice-read-t21 : tie.Need-shared-slice-read-t21
+shared-slice-read-t21 c = let s = shape (measured (sought (c .before .before .before))) in omega arith
 
-sub-t18 : tie.Need-sub-t18
-sub-t18 c =
+sub-t22 : tie.Need-sub-t22
+sub-t22 c = let h = source-sends _ _ _ (source (c .before .before .before)) (omega arith) in omega arith
+
+add-t23 : tie.Need-add-t23
+add-t23 c =
     let f = c .before .before .before in
-    let w = source-sends _ _ _ _ (f .first-source .ensures) (omega arith) in
+    let h = source-below _ _ _ _ (right (sought f)) (source f) (omega arith) in
     omega arith
 
-add-t19 : tie.Need-add-t19
-add-t19 c =
+cast-t24 : tie.Need-cast-t24
+cast-t24 c = omega (arith, shape (measured (sought (c .before .before .before))) .linked .few)
+
+returns-5 : tie.Need-returns-5
+returns-5 c =
     let f = c .before .before .before in
-    let s = f .before .before .before .before .before .before .before in
-    source-fits _ _ _ _ (f .first-source .ensures) (omega arith) (c .before .shared-slice-known4 .given) (s .fits .n)
-
-cast-t20 : tie.Need-cast-t20
-cast-t20 c =
-    let e = c .before .before .before .before .before in
-    let s = shaped _ _ _ (e .before .is-misshapen .ensures) (e .if1 .left) in
-    omega arith
-
-returns-4 : tie.Need-returns-4
-returns-4 c =
-    let e = c .before .before .before .before .before in
-    let s = shaped _ _ _ (e .before .is-misshapen .ensures) (e .if1 .left) in
-    inverse-from _ _ _ s (omega arith) _ (c .before .before .before .first-source .ensures) (omega arith)
+    let e = sought f in
+    inverse-from _ _ _ (shape (measured e)) (right e) (omega arith) _ (source f) (omega arith)
 
 pub inverse-spec : {M : Type 1} → statement M
 inverse-spec =
@@ -74,14 +104,17 @@ inverse-spec =
     (tie.spec
     is-misshapen-requires
     returns
+    first-wrong-length-requires
+    cast-t13
     returns-2
-    first-source-requires
     returns-3
+    first-source-requires
+    returns-4
     mul-t11
-    shared-slice-read-t14
-    mul-t15
-    shared-slice-read-t17
-    sub-t18
-    add-t19
-    cast-t20
-    returns-4)
+    shared-slice-read-t18
+    mul-t19
+    shared-slice-read-t21
+    sub-t22
+    add-t23
+    cast-t24
+    returns-5)
