@@ -35,14 +35,14 @@ module _ (n : ℕ) (t : Tables) (b : Bookmark) where
 
   -- what a move that is made answers and leaves
   pub mark-lies : (s : Step) → bookmarkOf n t b ≡ done s
-      → LiesIn n t (s .interval) (s .place) (s .distance)
-      × (let c = markAfter b (bookmarkOf n t b) in LiesIn n t (c .interval) (c .place) (c .distance))
+      → LiesIn n (t .links) (s .interval) (s .place) (s .distance)
+      × (let c = markAfter b (bookmarkOf n t b) in LiesIn n (t .links) (c .interval) (c .place) (c .distance))
   mark-lies s e =
       let l = move-lies n t (b .interval) (b .place) s (bookmark-moved n t b s e) in
       (l, rw (← after-done b (bookmarkOf n t b) s (sym e)) l)
 
   pub marked-lies : (m : Moved) (left : Bookmark) → Advances n t b m left → (s : Step) → movedSays m ≡ done s
-      → LiesIn n t (s .interval) (s .place) (s .distance) × LiesIn n t (left .interval) (left .place) (left .distance)
+      → LiesIn n (t .links) (s .interval) (s .place) (s .distance) × LiesIn n (t .links) (left .interval) (left .place) (left .distance)
   marked-lies m left a s e = rw (a .mark) (mark-lies s (sym (a .says) ∙ e))
 
 -- the same for any number of moves
@@ -63,7 +63,8 @@ module _ (n : ℕ) (t : Tables) (b : Bookmark) where
       let w = markings-apart g m in
       ap (bookmarkOf n t) (w .1) ∙ distance-unread n t (markingsOf n t m b .bookmark) (w .0)
 
-  pub markings-lie : (m : ℕ) (s : Step) → markingsOf n t m b .answer ≡ done s → LiesIn n t (s .interval) (s .place) (s .distance)
+  pub markings-lie : (m : ℕ) (s : Step) → markingsOf n t m b .answer ≡ done s
+      → LiesIn n (t .links) (s .interval) (s .place) (s .distance)
   unfolding markingsOf markingOf
   markings-lie zero s e = moves-lie n t 0 (b .interval) (b .place) s e
   markings-lie (suc m) s e = mark-lies n t (markingsOf n t m b .bookmark) s e .0
@@ -77,13 +78,13 @@ module _ (n : ℕ) (t : Tables) (b : Bookmark) where
 
   -- what they leave: the bookmark that was handed in, or one that a move has written
   pub markings-left : (m : ℕ)
-      → let c = markingsOf n t m b .bookmark in (c ≡ b) ⊎ LiesIn n t (c .interval) (c .place) (c .distance)
+      → let c = markingsOf n t m b .bookmark in (c ≡ b) ⊎ LiesIn n (t .links) (c .interval) (c .place) (c .distance)
   unfolding markingsOf markingOf markAfter
   markings-left zero = inl refl
   markings-left (suc m) = go (bookmarkOf n t (markingsOf n t m b .bookmark)) refl (markings-left m)
     where
       go : (o : Outcome Step) → bookmarkOf n t (markingsOf n t m b .bookmark) ≡ o
-          → (let c = markingsOf n t m b .bookmark in (c ≡ b) ⊎ LiesIn n t (c .interval) (c .place) (c .distance))
-          → let c = markingsOf n t (suc m) b .bookmark in (c ≡ b) ⊎ LiesIn n t (c .interval) (c .place) (c .distance)
+          → (let c = markingsOf n t m b .bookmark in (c ≡ b) ⊎ LiesIn n (t .links) (c .interval) (c .place) (c .distance))
+          → let c = markingsOf n t (suc m) b .bookmark in (c ≡ b) ⊎ LiesIn n (t .links) (c .interval) (c .place) (c .distance)
       go (done s) e r = inr (mark-lies n t (markingsOf n t m b .bookmark) s e .1)
       go (refused k p) e r = rw e r

@@ -74,7 +74,7 @@ after-done b o s e = rw (← e)
 -- a bookmark's move is a move, and what is left of it
 module _ (n : ℕ) (t : Tables) (b : Bookmark) where
   bookmark-is : bookmarkOf n t b
-      ≡ andThen (moveOf n t (b .interval) (b .place)) (λ _. markOf b (stepOf t (b .interval) (b .place)))
+      ≡ andThen (moveOf n t (b .interval) (b .place)) (λ _. markOf b (stepOf (t .links) (b .interval) (b .place)))
   unfolding bookmarkOf moveOf markOf
   bookmark-is = judge-append (moveTests n t (b .interval) (b .place)) _ _ _
 
@@ -85,7 +85,7 @@ module _ (n : ℕ) (t : Tables) (b : Bookmark) where
   pub bookmark-on : (s : Step) → done s ≡ moveOf n t (b .interval) (b .place) → markOf b s ≡ bookmarkOf n t b
   unfolding moveOf andThen
   bookmark-on s e =
-      let z = judge-done (moveTests n t (b .interval) (b .place)) (stepOf t (b .interval) (b .place)) s (sym e) in
+      let z = judge-done (moveTests n t (b .interval) (b .place)) (stepOf (t .links) (b .interval) (b .place)) s (sym e) in
       rw (bookmark-is, ← e) (ap (markOf b) (sym z))
 
   -- what it answers is the move's own step
@@ -94,15 +94,16 @@ module _ (n : ℕ) (t : Tables) (b : Bookmark) where
   bookmark-moved s e = go (moveOf n t (b .interval) (b .place)) refl (sym bookmark-is ∙ e)
     where
       go : (o : Outcome Step) → moveOf n t (b .interval) (b .place) ≡ o
-          → andThen o (λ _. markOf b (stepOf t (b .interval) (b .place))) ≡ done s → moveOf n t (b .interval) (b .place) ≡ done s
+          → andThen o (λ _. markOf b (stepOf (t .links) (b .interval) (b .place))) ≡ done s
+          → moveOf n t (b .interval) (b .place) ≡ done s
       go (done a) f g =
-          let z = judge-done (moveTests n t (b .interval) (b .place)) (stepOf t (b .interval) (b .place)) a f in
-          f ∙ ap done (sym z ∙ judge-done _ (stepOf t (b .interval) (b .place)) s g)
+          let z = judge-done (moveTests n t (b .interval) (b .place)) (stepOf (t .links) (b .interval) (b .place)) a f in
+          f ∙ ap done (sym z ∙ judge-done _ (stepOf (t .links) (b .interval) (b .place)) s g)
       go (refused k p) f g = absurd (done-refused s k p (sym g))
 
   -- so it counts by the indexes, and the bookmark adds the count to its own
   pub marked-reads : (m : Moved) (left : Bookmark) → Advances n t b m left → (s : Step) → movedSays m ≡ done s
-      → ReadsTo t (b .interval) (s .interval) (s .count) × (left .count ≡ b .count + s .count)
+      → ReadsTo (t .links) (b .interval) (s .interval) (s .count) × (left .count ≡ b .count + s .count)
   marked-reads m left a s e =
       let f : bookmarkOf n t b ≡ done s = sym (a .says) ∙ e in (
         move-reads n t (b .interval) (b .place) s (bookmark-moved s f),

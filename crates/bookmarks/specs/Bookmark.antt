@@ -1,4 +1,5 @@
--- A bookmark's move (document 01, "Walking"), with the distance of document 02, A.2, and its count of the starts read, A.4.
+-- A bookmark's move (document 01, "Walking"), with the distance of document 02, A.2, its count of the starts read, A.4, and its test
+-- of the interval's length, A.7.
 use Prim.Native.Nat.{ℕ, zero, suc, _+_, _^_}
 use mathlib.Core.Path.{_≡_}
 use mathlib.Core.Bool.{Bool, _||_}
@@ -28,10 +29,10 @@ overflows b s = leb (2 ^ 32) (b .moves + 1) || leb (2 ^ 64) (b .count + s .count
 -- the tests of one move, then 13; the answer is that move's
 abbrev pub bookmarkTests : ℕ → Tables → Bookmark → List Test
 bookmarkTests n t b =
-    moveTests n t (b .interval) (b .place) ++ (test 13 (overflows b (stepOf t (b .interval) (b .place))) 0 ∷ [])
+    moveTests n t (b .interval) (b .place) ++ (test 13 (overflows b (stepOf (t .links) (b .interval) (b .place))) 0 ∷ [])
 
 unfoldable pub bookmarkOf : ℕ → Tables → Bookmark → Outcome Step
-bookmarkOf n t b = judge (bookmarkTests n t b) (stepOf t (b .interval) (b .place))
+bookmarkOf n t b = judge (bookmarkTests n t b) (stepOf (t .links) (b .interval) (b .place))
 
 -- the bookmark after an answer: further by the step, or as it was
 unfoldable pub markAfter : Bookmark → Outcome Step → Bookmark

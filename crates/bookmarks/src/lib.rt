@@ -26,10 +26,17 @@ pub struct Marked {
 }
 
 // A bookmark's move: its answer and the bookmark after it, which a refusal leaves as it was.
-pub fn advanced(n: u32, starts: &[u32], images: &[u32], holders: &[u32], b: Bookmark) -> Marked
-    ensures { λ r. ⌜ Advances n (tables (now (starts .entry)) (now (images .entry)) (now (holders .entry))) b (r .moved) (r .bookmark) ⌝ }
+pub fn advanced(
+    n: u32,
+    starts: &[u32],
+    images: &[u32],
+    holders: &[u32],
+    lengths: &[u32],
+    b: Bookmark,
+) -> Marked
+    ensures { λ r. ⌜ Advances n (tables (now (starts .entry)) (now (images .entry)) (now (holders .entry)) (now (lengths .entry))) b (r .moved) (r .bookmark) ⌝ }
 {
-    match walks::move_query(n, starts, images, holders, b.interval, b.place) {
+    match walks::move_query(n, starts, images, holders, lengths, b.interval, b.place) {
         Moved::Refused(r) => Marked {
             bookmark: b,
             moved: Moved::Refused(r),
@@ -39,10 +46,17 @@ pub fn advanced(n: u32, starts: &[u32], images: &[u32], holders: &[u32], b: Book
 }
 
 // A bookmark's move on the spot: the bookmark is lent by its owner, and a refusal leaves it as it was.
-pub fn advance(n: u32, starts: &[u32], images: &[u32], holders: &[u32], b: &mut Bookmark) -> Moved
-    ensures { λ r. ⌜ Advances n (tables (now (starts .entry)) (now (images .entry)) (now (holders .entry))) (now (b .entry)) r (now (b .exit)) ⌝ }
+pub fn advance(
+    n: u32,
+    starts: &[u32],
+    images: &[u32],
+    holders: &[u32],
+    lengths: &[u32],
+    b: &mut Bookmark,
+) -> Moved
+    ensures { λ r. ⌜ Advances n (tables (now (starts .entry)) (now (images .entry)) (now (holders .entry)) (now (lengths .entry))) (now (b .entry)) r (now (b .exit)) ⌝ }
 {
-    let m = advanced(n, starts, images, holders, *b);
+    let m = advanced(n, starts, images, holders, lengths, *b);
     *b = m.bookmark;
     m.moved
 }
@@ -54,18 +68,19 @@ pub fn bookmark_moves(
     starts: &[u32],
     images: &[u32],
     holders: &[u32],
+    lengths: &[u32],
     b: Bookmark,
     m: u32,
 ) -> Marked
-    ensures { λ r. ⌜ markedSays r ≡ markingsOf n (tables (now (starts .entry)) (now (images .entry)) (now (holders .entry))) m b ⌝ }
+    ensures { λ r. ⌜ markedSays r ≡ markingsOf n (tables (now (starts .entry)) (now (images .entry)) (now (holders .entry)) (now (lengths .entry))) m b ⌝ }
 {
     let mut marked = Marked {
         bookmark: b,
-        moved: walks::repeated_moves(n, starts, images, holders, b.interval, b.place, 0),
+        moved: walks::repeated_moves(n, starts, images, holders, lengths, b.interval, b.place, 0),
     };
     let mut made: u32 = 0;
     while made < m {
-        marked = marking::advance_once(n, starts, images, holders, marked.bookmark);
+        marked = marking::advance_once(n, starts, images, holders, lengths, marked.bookmark);
         let moved = marked.moved;
         if marking::is_refused(moved) {
             return marked;

@@ -48,12 +48,13 @@ pub(crate) fn advance_once(
     starts: &[u32],
     images: &[u32],
     holders: &[u32],
+    lengths: &[u32],
     b: Bookmark,
 ) -> Marked
-    ensures { λ r. ⌜ Advances n (tables (now (starts .entry)) (now (images .entry)) (now (holders .entry))) b (r .moved) (r .bookmark) ⌝ }
+    ensures { λ r. ⌜ Advances n (tables (now (starts .entry)) (now (images .entry)) (now (holders .entry)) (now (lengths .entry))) b (r .moved) (r .bookmark) ⌝ }
 {
     let mut lent = b;
-    let moved = super::advance(n, starts, images, holders, &mut lent);
+    let moved = super::advance(n, starts, images, holders, lengths, &mut lent);
     Marked {
         bookmark: lent,
         moved,

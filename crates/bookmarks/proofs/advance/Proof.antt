@@ -51,7 +51,7 @@ use Rattle.tables.specs.Tables.{tables as tablesIn}
 use Rattle.bookmarks.specs.Bookmark.{Advances}
 use Rattle.bookmarks.specs.declared.Bookmark.{Bookmark}
 use Rattle.bookmarks.specs.declared.Marked.{Marked}
-use Rattle.tables.proofs.Held.{Xs, v, Number, Slice, num, list₁, list₂, list₃}
+use Rattle.tables.proofs.Held.{Xs, v, Number, Slice, num, list₁, list₂, list₃, list₄}
 use Rattle.bookmarks.proofs.Bookmark as T
 use Rattle.bookmarks.proofs.Bookmark.Laws as T′
 use Rattle.walks.proofs.Moved as S
@@ -70,14 +70,17 @@ use Rattle.bookmarks.proofs.advance.Code as code
 -- the number and the slices are given up, and the last reference is kept
 abbrev stayed : Stays (advance.ended .signature .params) (advance.ended .kept)
 stayed = (
-  stay-dropped (num 1) yes,
+  stay-dropped (num 2) yes,
   (
-    stay-dropped (list₁ 1) yes,
+    stay-dropped (list₁ 2) yes,
     (
-      stay-dropped (list₂ 1) yes,
+      stay-dropped (list₂ 2) yes,
       (
-        stay-dropped (list₃ 1) yes,
-        (stay-ref (3 ∷ []) tt (plain (λ _. T.the-row)), tt),
+        stay-dropped (list₃ 2) yes,
+        (
+          stay-dropped (list₄ 1) yes,
+          (stay-ref (4 ∷ []) tt (plain (λ _. T.the-row)), tt),
+        ),
       ),
     ),
   ),
@@ -89,19 +92,19 @@ abbrev Adv : {M : Type 1} (𝓤 : URA M) (H : Heap 𝓤) (A : Atoms 𝓤) (mem :
 Adv 𝓤 H A mem run = tripleOf 𝓤 H A adv.signature (adv.spec 𝓤 H A mem run)
 
 module _ {M : Type 1} (𝓤 : URA M) (H : Heap 𝓤) (A : Atoms 𝓤) (W : Given 𝓤 H A) (at-mem : Memory → SProp 𝓤)
-    (run : Routine → Fun 𝓤) (κ₁ κ₂ κ₃ κ : Lft) (q₁ q₂ q₃ q : Share) (n : ℕ) (n-fits : n < 2 ^ 32) (s₁ s₂ s₃ : Xs)
-    (b o : ℕ) (γ : GName) (h : Bookmark) where
-  abbrev κs : Lfts 4
-  κs = (κ₁, (κ₂, (κ₃, (κ, tt))))
+    (run : Routine → Fun 𝓤) (κ₁ κ₂ κ₃ κ₄ κ : Lft) (q₁ q₂ q₃ q₄ q : Share) (n : ℕ) (n-fits : n < 2 ^ 32)
+    (s₁ s₂ s₃ s₄ : Xs) (b o : ℕ) (γ : GName) (h : Bookmark) where
+  abbrev κs : Lfts 5
+  κs = (κ₁, (κ₂, (κ₃, (κ₄, (κ, tt)))))
 
-  abbrev qs : Shares 4
-  qs = (q₁, (q₂, (q₃, (q, tt))))
+  abbrev qs : Shares 5
+  qs = (q₁, (q₂, (q₃, (q₄, (q, tt)))))
 
-  abbrev x : ℕ × (Xs × (Xs × (Xs × (RefT Bookmark × Unit {0}))))
-  x = (n, (s₁, (s₂, (s₃, (record { ptr = (b, o); name = γ; now = h }, tt)))))
+  abbrev x : ℕ × (Xs × (Xs × (Xs × (Xs × (RefT Bookmark × Unit {0})))))
+  x = (n, (s₁, (s₂, (s₃, (s₄, (record { ptr = (b, o); name = γ; now = h }, tt))))))
 
   abbrev at : Vals advance.signature κs
-  at = (vint w32 n ∷ [], (v s₁ ∷ [], (v s₂ ∷ [], (v s₃ ∷ [], (vptr b o ∷ [], tt)))))
+  at = (vint w32 n ∷ [], (v s₁ ∷ [], (v s₂ ∷ [], (v s₃ ∷ [], (v s₄ ∷ [], (vptr b o ∷ [], tt))))))
 
   -- what the number and the slices own
   abbrev O₀ : Fml
@@ -116,43 +119,48 @@ module _ {M : Type 1} (𝓤 : URA M) (H : Heap 𝓤) (A : Atoms 𝓤) (W : Given
   abbrev O₃ : Fml
   O₃ = Slice 2 κ₃ s₃
 
+  abbrev O₄ : Fml
+  O₄ = Slice 3 κ₄ s₄
+
   -- what the contract says
   abbrev Said : Marked → Type 0
-  Said r = Advances n (tablesIn (now s₁) (now s₂) (now s₃)) h (r .moved) (r .bookmark)
+  Said r = Advances n (tablesIn (now s₁) (now s₂) (now s₃) (now s₄)) h (r .moved) (r .bookmark)
 
   abbrev Post : Val → SProp 𝓤
   Post = walkOf 𝓤 H A advance.ended stayed (advance.clauses 𝓤 H A at-mem run) .post ((κs, qs, tt, x, at), tt)
 
   -- the call: what is passed, what it asks, and what is known of its result
-  abbrev lfts : Lfts 3
-  lfts = (κ₁, (κ₂, (κ₃, tt)))
+  abbrev lfts : Lfts 4
+  lfts = (κ₁, (κ₂, (κ₃, (κ₄, tt))))
 
-  abbrev given-to : ℕ × (Xs × (Xs × (Xs × (Bookmark × Unit {0}))))
-  given-to = (n, (s₁, (s₂, (s₃, (h, tt)))))
+  abbrev given-to : ℕ × (Xs × (Xs × (Xs × (Xs × (Bookmark × Unit {0})))))
+  given-to = (n, (s₁, (s₂, (s₃, (s₄, (h, tt))))))
 
   abbrev to : Adv 𝓤 H A at-mem run .Ghost
   to = (
     (
       lfts,
-      (q₁, (q₂, (q₃, tt))),
+      (q₁, (q₂, (q₃, (q₄, tt)))),
       tt,
       given-to,
-      (vint w32 n ∷ [], (v s₁ ∷ [], (v s₂ ∷ [], (v s₃ ∷ [], (T′.lowered h ∷ [], tt))))),
+      (vint w32 n ∷ [], (v s₁ ∷ [], (v s₂ ∷ [], (v s₃ ∷ [], (v s₄ ∷ [], (T′.lowered h ∷ [], tt)))))),
     ),
     tt,
   )
 
   abbrev Handed : List (Item 𝓤)
-  Handed = ‵ (flft κ₁ q₁) ∷ ‵ (flft κ₂ q₂) ∷ ‵ (flft κ₃ q₃) ∷ ‵ O₀ ∷ ‵ O₁ ∷ ‵ O₂ ∷ ‵ O₃ ∷ []
+  Handed =
+      ‵ (flft κ₁ q₁) ∷ ‵ (flft κ₂ q₂) ∷ ‵ (flft κ₃ q₃) ∷ ‵ (flft κ₄ q₄) ∷ ‵ O₀ ∷ ‵ O₁ ∷ ‵ O₂ ∷ ‵ O₃ ∷ ‵ O₄ ∷ []
 
   lent : Is T.the-row h (T′.lowered h ∷ []) → ent 𝓤 (⋆ 𝓤 H A Handed) (Adv 𝓤 H A at-mem run .pre to)
   lent was =
       qed W Handed ∵
-      nothing ! $ move ! (3 ∷ 0 ∷ []) $ join ! $ move ! (2 ∷ 0 ∷ []) $ join ! $ move ! (1 ∷ 0 ∷ []) $ join ! $
-      -- [the tokens; O₀; O₁; O₂; O₃]
+      nothing ! $ move ! (4 ∷ 0 ∷ []) $ join ! $ move ! (3 ∷ 0 ∷ []) $ join ! $ move ! (2 ∷ 0 ∷ []) $ join ! $
+      move ! (1 ∷ 0 ∷ []) $ join ! $
+      -- [the tokens; O₀; O₁; O₂; O₃; O₄]
       nothing ! $ owned ! T.the-row (Is T.the-row) (LL.makes T.the-type T′.the-plain 𝓤 H A) h _ was $ fjoin ! $
-      move ! (5 ∷ 0 ∷ []) $ fjoin ! $ move ! (4 ∷ 0 ∷ []) $ fjoin ! $ move ! (3 ∷ 0 ∷ []) $ fjoin ! $
-      move ! (2 ∷ 0 ∷ []) $ fjoin ! $ move ! (1 ∷ 0 ∷ []) $ join ! $ frame ! $ done !
+      move ! (6 ∷ 0 ∷ []) $ fjoin ! $ move ! (5 ∷ 0 ∷ []) $ fjoin ! $ move ! (4 ∷ 0 ∷ []) $ fjoin ! $
+      move ! (3 ∷ 0 ∷ []) $ fjoin ! $ move ! (2 ∷ 0 ∷ []) $ fjoin ! $ move ! (1 ∷ 0 ∷ []) $ join ! $ frame ! $ done !
 
   abbrev Ensured : Marked → SProp 𝓤
   Ensured r = ensured 𝓤 H A adv.ended (adv.clauses 𝓤 H A at-mem run) lfts given-to tt r
@@ -170,7 +178,7 @@ module _ {M : Type 1} (𝓤 : URA M) (H : Heap 𝓤) (A : Atoms 𝓤) (W : Given
 
   -- what is left at the end
   abbrev Tokens : Item 𝓤
-  Tokens = ‵ (flft κ₁ q₁) ⊛ ‵ (flft κ₂ q₂) ⊛ ‵ (flft κ₃ q₃) ⊛ ‵ ftrue
+  Tokens = ‵ (flft κ₁ q₁) ⊛ ‵ (flft κ₂ q₂) ⊛ ‵ (flft κ₃ q₃) ⊛ ‵ (flft κ₄ q₄) ⊛ ‵ ftrue
 
   abbrev Left : Marked → List (Item 𝓤)
   Left r =
@@ -183,65 +191,67 @@ module _ {M : Type 1} (𝓤 : URA M) (H : Heap 𝓤) (A : Atoms 𝓤) (W : Given
       qed W (Left r) ∵
       suffices ! _
       (ends-at 𝓤 H A advance.ended stayed (advance.clauses 𝓤 H A at-mem run) W ((κs, qs, tt, x, at), tt) _ (r .moved)
-      (tt, (tt, (tt, (tt, (r .bookmark, tt))))) (tt, (tt, (tt, (tt, (tt, tt)))))) $
+      (tt, (tt, (tt, (tt, (tt, (r .bookmark, tt)))))) (tt, (tt, (tt, (tt, (tt, (tt, tt))))))) $
       says ! e $
-      move ! (3 ∷ []) $ split ! $ move ! (1 ∷ []) $ split ! $ move ! (1 ∷ []) $ split ! $
-      -- [κ₃'s token; true; κ₂'s; κ₁'s; obs; the borrow; κ's]
-      move ! (6 ∷ 1 ∷ []) $ join ! $ move ! (1 ∷ 0 ∷ []) $ join ! $ move ! (1 ∷ 0 ∷ []) $ join ! $
-      move ! (1 ∷ 0 ∷ []) $ join ! $ frame ! $
+      move ! (3 ∷ []) $ split ! $ move ! (1 ∷ []) $ split ! $ move ! (1 ∷ []) $ split ! $ move ! (1 ∷ []) $ split ! $
+      -- [κ₄'s token; true; κ₃'s; κ₂'s; κ₁'s; obs; the borrow; κ's]
+      move ! (7 ∷ 1 ∷ []) $ join ! $ move ! (1 ∷ 0 ∷ []) $ join ! $ move ! (1 ∷ 0 ∷ []) $ join ! $
+      move ! (1 ∷ 0 ∷ []) $ join ! $ move ! (1 ∷ 0 ∷ []) $ join ! $ frame ! $
       feqI ! (List Val) (vptr b o ∷ []) (vptr b o ∷ []) refl $ fjoin3 ! $ nothing ! $ move ! (1 ∷ 0 ∷ []) $ fjoin ! $
-      nothing ! $ fjoin ! $ nothing ! $ fjoin ! $ nothing ! $ fjoin ! $ nothing ! $ fjoin ! $
+      nothing ! $ fjoin ! $ nothing ! $ fjoin ! $ nothing ! $ fjoin ! $ nothing ! $ fjoin ! $ nothing ! $ fjoin ! $
       owned ! S.the-row (Is S.the-row) (EL.makes S.the-type S′.the-plain 𝓤 H A) (r .moved) _ is $
       move ! (1 ∷ 0 ∷ []) $ done !
 
   module _ (C : Calls 𝓤 H) (Λ : Loops 𝓤 H) (fm : FmC 𝓤 H (W .laws) C)
       (known : Triple 𝓤 (C #bookmarks·advanced) (Adv 𝓤 H A at-mem run)) where
     walk : Is (ShrSlice (named 0) κ₁ u32) s₁ (v s₁ ∷ []) → Is (ShrSlice (named 1) κ₂ u32) s₂ (v s₂ ∷ [])
-        → Is (ShrSlice (named 2) κ₃ u32) s₃ (v s₃ ∷ [])
+        → Is (ShrSlice (named 2) κ₃ u32) s₃ (v s₃ ∷ []) → Is (ShrSlice (named 3) κ₄ u32) s₄ (v s₄ ∷ [])
         → ent 𝓤 (onEntry 𝓤 H A advance.signature κs qs x at)
-        (WpFn 𝓤 H C Λ code.function (vint w32 n ∷ v s₁ ∷ v s₂ ∷ v s₃ ∷ vptr b o ∷ []) Post)
-    walk p₁ p₂ p₃ =
+        (WpFn 𝓤 H C Λ code.function (vint w32 n ∷ v s₁ ∷ v s₂ ∷ v s₃ ∷ v s₄ ∷ vptr b o ∷ []) Post)
+    walk p₁ p₂ p₃ p₄ =
         qed W
-        ((‵ (flft κ₁ q₁) ⊛ ‵ (flft κ₂ q₂) ⊛ ‵ (flft κ₃ q₃) ⊛ ‵ (flft κ q) ⊛ ‵ ftrue) ∷
+        ((‵ (flft κ₁ q₁) ⊛ ‵ (flft κ₂ q₂) ⊛ ‵ (flft κ₃ q₃) ⊛ ‵ (flft κ₄ q₄) ⊛ ‵ (flft κ q) ⊛ ‵ ftrue) ∷
         ‵ (owns (u32 ∷ ShrSlice (named 0) κ₁ u32 ∷ ShrSlice (named 1) κ₂ u32 ∷ ShrSlice (named 2) κ₃ u32 ∷
-        MutRef (named 3) κ T.the-row ∷ []) x at) ∷ []) ∵
+        ShrSlice (named 3) κ₄ u32 ∷ MutRef (named 4) κ T.the-row ∷ []) x at) ∷ []) ∵
         -- the tokens and what the parameters own are taken apart
         split ! $ move ! (1 ∷ []) $ split ! $ move ! (1 ∷ []) $ split ! $ move ! (1 ∷ []) $ split ! $
-        move ! (1 ∷ []) $ drop ! $
-        -- [κ's token; κ₃'s; κ₂'s; κ₁'s; what is owned]
-        move ! (4 ∷ []) $ fsplit ! $ move ! (1 ∷ []) $ fsplit ! $ move ! (1 ∷ []) $ fsplit ! $ move ! (1 ∷ []) $
-        fsplit ! $ move ! (1 ∷ []) $ fsplit ! $ fsplit3 ! $ drop ! $
-        -- [obs; the borrow; true; O₃; O₂; O₁; O₀; κ's token; κ₃'s; κ₂'s; κ₁'s]
-        keep ! (0 ∷ 1 ∷ 7 ∷ 10 ∷ 9 ∷ 8 ∷ 6 ∷ 5 ∷ 4 ∷ 3 ∷ []) $
-        -- [obs; the borrow; κ's token; κ₁'s; κ₂'s; κ₃'s; O₀; O₁; O₂; O₃]
-        enter ! C Λ code.function (vint w32 n ∷ v s₁ ∷ v s₂ ∷ v s₃ ∷ vptr b o ∷ []) _ $
+        move ! (1 ∷ []) $ split ! $ move ! (1 ∷ []) $ drop ! $
+        -- [κ's token; κ₄'s; κ₃'s; κ₂'s; κ₁'s; what is owned]
+        move ! (5 ∷ []) $ fsplit ! $ move ! (1 ∷ []) $ fsplit ! $ move ! (1 ∷ []) $ fsplit ! $ move ! (1 ∷ []) $
+        fsplit ! $ move ! (1 ∷ []) $ fsplit ! $ move ! (1 ∷ []) $ fsplit ! $ fsplit3 ! $ drop ! $
+        -- [obs; the borrow; true; O₄; O₃; O₂; O₁; O₀; κ's token; κ₄'s; κ₃'s; κ₂'s; κ₁'s]
+        keep ! (0 ∷ 1 ∷ 8 ∷ 12 ∷ 11 ∷ 10 ∷ 9 ∷ 7 ∷ 6 ∷ 5 ∷ 4 ∷ 3 ∷ []) $
+        -- [obs; the borrow; κ's token; κ₁'s; κ₂'s; κ₃'s; κ₄'s; O₀; O₁; O₂; O₃; O₄]
+        enter ! C Λ code.function (vint w32 n ∷ v s₁ ∷ v s₂ ∷ v s₃ ∷ v s₄ ∷ vptr b o ∷ []) _ $
         alloc1 ! (λ l₀. alloc1 ! (λ l₁. alloc1 ! (λ l₂. alloc1 ! (λ l₃. alloc1 ! (λ l₄. alloc1 ! (λ l₅.
-        alloc1 ! (λ l₆. alloc1 ! (λ l₇. alloc0 ! $ params1 ! $
-        pass1 ! (init ! 12 refl (tt, record { fits = n-fits })) $
-        pass1 ! (init ! 10 refl (shr-slice-lawful 𝓤 H A W (named 0) κ₁ u32 .typed s₁ _ p₁ .0)) $
-        pass1 ! (init ! 8 refl (shr-slice-lawful 𝓤 H A W (named 1) κ₂ u32 .typed s₂ _ p₂ .0)) $
-        pass1 ! (init ! 6 refl (shr-slice-lawful 𝓤 H A W (named 2) κ₃ u32 .typed s₃ _ p₃ .0)) $
+        alloc1 ! (λ l₆. alloc1 ! (λ l₇. alloc1 ! (λ l₈. alloc0 ! $ params1 ! $
+        pass1 ! (init ! 14 refl (tt, record { fits = n-fits })) $
+        pass1 ! (init ! 12 refl (shr-slice-lawful 𝓤 H A W (named 0) κ₁ u32 .typed s₁ _ p₁ .0)) $
+        pass1 ! (init ! 10 refl (shr-slice-lawful 𝓤 H A W (named 1) κ₂ u32 .typed s₂ _ p₂ .0)) $
+        pass1 ! (init ! 8 refl (shr-slice-lawful 𝓤 H A W (named 2) κ₃ u32 .typed s₃ _ p₃ .0)) $
+        pass1 ! (init ! 6 refl (shr-slice-lawful 𝓤 H A W (named 3) κ₄ u32 .typed s₄ _ p₄ .0)) $
         pass1 ! (init ! 4 refl (tt, tt)) $ pass0 ! $
         -- the borrow is opened
-        move ! (16 ∷ 17 ∷ 18 ∷ []) $ opens ! tt T.the-row {h = h} b o (λ vs.
+        move ! (18 ∷ 19 ∷ 20 ∷ []) $ opens ! tt T.the-row {h = h} b o (λ vs.
         spelt ! T.the-row (Is T.the-row) (shows 𝓤 H A T.the-row)
         (LL.vals T.the-type T′.the-laws) (LL.tells T.the-type T′.the-laws) fullShare h vs b o $
         move ! (1 ∷ []) $
         peeks ! T.the-row (Is T.the-row) (shows 𝓤 H A T.the-row) h (T′.lowered h ∷ []) (λ was. drop ! $
-        -- [the struct's cell; the open borrow; obs; auth; _7 at 4; _6 at 6; _5 at 8; _4 at 10; _3 at 12; _2 at 14; _1
-        -- at 16; room for _0 at 18; κ₁'s token at 20; κ₂'s; κ₃'s; O₀; O₁; O₂; O₃]
+        -- [the struct's cell; the open borrow; obs; auth; _8 at 4; _7 at 6; _6 at 8; _5 at 10; _4 at 12; _3 at 14; _2 at 16;
+        -- _1 at 18; room for _0 at 20; κ₁'s token at 22; κ₂'s; κ₃'s; κ₄'s; O₀; O₁; O₂; O₃; O₄]
         assigns ! (of-opd ! (load ! (from ! (hop ! (look ! 8 refl) (stop !))) (look-raw ! 0 refl))) (from ! (stop !))
         (init ! 4 refl (LL.lawful T.the-type T′.the-laws 𝓤 H A W .typed h _ was .0)) $
-        move ! (20 ∷ 21 ∷ 22 ∷ 23 ∷ 24 ∷ 25 ∷ 26 ∷ []) $ group ! 7 $
+        move ! (22 ∷ 23 ∷ 24 ∷ 25 ∷ 26 ∷ 27 ∷ 28 ∷ 29 ∷ 30 ∷ []) $ group ! 9 $
         use1 W (raw (Adv 𝓤 H A at-mem run .pre to)) (lent was) $
-        -- [what `advanced` asks; the struct's cell at 1; the open borrow; obs; auth; _7 at 5; _6 at 7; _5 at 9; _4;
-        -- _3; _2; _1 at 17; room for _0 at 19]
+        -- [what `advanced` asks; the struct's cell at 1; the open borrow; obs; auth; _8 at 5; _7 at 7; _6 at 9; _5 at 11; _4;
+        -- _3; _2; _1 at 19; room for _0 at 21]
         calls-at ! fm (Adv 𝓤 H A at-mem run) known to
+        (and-then ! (load ! (from ! (stop !)) (look ! 19 refl))
         (and-then ! (load ! (from ! (stop !)) (look ! 17 refl))
         (and-then ! (load ! (from ! (stop !)) (look ! 15 refl))
         (and-then ! (load ! (from ! (stop !)) (look ! 13 refl))
         (and-then ! (load ! (from ! (stop !)) (look ! 11 refl))
-        (and-then ! (load ! (from ! (stop !)) (look ! 5 refl)) (no-more !)))))) (λ u.
+        (and-then ! (load ! (from ! (stop !)) (look ! 5 refl)) (no-more !))))))) (λ u.
         use1 W (later (some (λ (r : Marked). (Tokens ⊛ ‵ (N.the-row .own r (u ∷ []))) ⊛ raw (Ensured r)))) (id⊢ 𝓤 _) $
         await ! tt $ pick ! (λ r.
         split ! $ move ! (1 ∷ []) $ use1 W (raw (fact 𝓤 (Said r))) (known-of r) $ heard ! (Said r) (λ e.
@@ -249,24 +259,25 @@ module _ {M : Type 1} (𝓤 : URA M) (H : Heap 𝓤) (A : Atoms 𝓤) (W : Given
         peeks ! N.the-row (Is N.the-row) (shows 𝓤 H A N.the-row) r (u ∷ []) (λ is. drop ! $
         -- [the callee's tokens; the struct's cell at 1; …]
         land ! (from ! (stop !)) (init ! 7 refl (LL.lawful N.the-type N′.the-laws 𝓤 H A W .typed r _ is .0)) $
-        rewrite ! 7 (λ (w : Val). ‵ (fat fullShare N′.mir l₆ 0 w))
+        rewrite ! 7 (λ (w : Val). ‵ (fat fullShare N′.mir l₇ 0 w))
         (ap only (LL.tells N.the-type N′.the-laws r _ is)) refl $
         assigns ! (of-opd ! (load ! (from ! (fld ! refl (stop !))) (look-in ! 7 (sub ! 0 refl (whole !)))))
         (from ! (hop ! (look ! 9 refl) (stop !)))
         (store-raw ! 1 refl (LL.lawful T.the-type T′.the-laws 𝓤 H A W .typed (r .bookmark) _ (b-is r u is) .0)) $
         assigns ! (of-opd ! (load ! (from ! (fld ! refl (stop !))) (look-in ! 7 (sub ! 1 refl (whole !)))))
         (from ! (stop !))
-        (init ! 19 refl (EL.lawful S.the-type S′.the-laws 𝓤 H A W tt .typed (r .moved) _ (a-is r u is) .0)) $
+        (init ! 21 refl (EL.lawful S.the-type S′.the-laws 𝓤 H A W tt .typed (r .moved) _ (a-is r u is) .0)) $
         -- the borrow is closed at the new bookmark
         owned ! T.the-row (Is T.the-row) (LL.makes T.the-type T′.the-plain 𝓤 H A) (r .bookmark) _ (b-is r u is) $
         move ! (2 ∷ 0 ∷ 3 ∷ 4 ∷ 5 ∷ []) $ closes ! tt T.the-row (r .bookmark) (T′.lowered (r .bookmark) ∷ []) b o $
-        -- [obs; the borrow; κ's token; the callee's tokens; _7 at 4; …; _0 at 18]
-        returns ! (look ! 18 refl) $ forget ! 4 refl $ forget ! 6 refl $ forget ! 8 refl $ forget ! 10 refl $
-        forget ! 12 refl $ forget ! 14 refl $ forget ! 16 refl $ forget ! 18 refl $
-        move ! (18 ∷ 19 ∷ []) $ free1 ! $ move ! (16 ∷ 17 ∷ []) $ free1 ! $ move ! (14 ∷ 15 ∷ []) $ free1 ! $
+        -- [obs; the borrow; κ's token; the callee's tokens; _8 at 4; …; _0 at 20]
+        returns ! (look ! 20 refl) $ forget ! 4 refl $ forget ! 6 refl $ forget ! 8 refl $ forget ! 10 refl $
+        forget ! 12 refl $ forget ! 14 refl $ forget ! 16 refl $ forget ! 18 refl $ forget ! 20 refl $
+        move ! (20 ∷ 21 ∷ []) $ free1 ! $ move ! (18 ∷ 19 ∷ []) $ free1 ! $ move ! (16 ∷ 17 ∷ []) $ free1 ! $
+        move ! (14 ∷ 15 ∷ []) $ free1 ! $
         move ! (12 ∷ 13 ∷ []) $ free1 ! $ move ! (10 ∷ 11 ∷ []) $ free1 ! $ move ! (8 ∷ 9 ∷ []) $ free1 ! $
         move ! (6 ∷ 7 ∷ []) $ free1 ! $ move ! (4 ∷ 5 ∷ []) $ free1 ! $ free0 ! $
-        by ! (exits r e (a-is r u is))))))))))))))))
+        by ! (exits r e (a-is r u is)))))))))))))))))
 
 module _ {M : Type 1} (𝓤 : URA M) (H : Heap 𝓤) (A : Atoms 𝓤) (W : Given 𝓤 H A) (mem : Memory → SProp 𝓤)
     (run : Routine → Fun 𝓤) where
@@ -275,33 +286,44 @@ module _ {M : Type 1} (𝓤 : URA M) (H : Heap 𝓤) (A : Atoms 𝓤) (W : Given
       → Walks 𝓤 H A advance.ended stayed (WpFn 𝓤 H C Λ code.function) (advance.clauses 𝓤 H A mem run)
   advance-walks C Λ fm known =
       walked 𝓤 H A advance.ended stayed (advance.clauses 𝓤 H A mem run) (WpFn 𝓤 H C Λ code.function)
-      (λ κs. (uint-vals w32, (slice-vals, (slice-vals, (slice-vals, (ptr-vals, tt))))))
+      (λ κs. (uint-vals w32, (slice-vals, (slice-vals, (slice-vals, (slice-vals, (ptr-vals, tt)))))))
       (λ κs. (
         uint-tells w32,
         (
           shr-slice-tells (named 0) (κs .0) u32,
           (
             shr-slice-tells (named 1) (κs .1 .0) u32,
-            (shr-slice-tells (named 2) (κs .1 .1 .0) u32, (mut-tells (named 3) (κs .1 .1 .1 .0) T.the-row, tt)),
+            (
+              shr-slice-tells (named 2) (κs .1 .1 .0) u32,
+              (
+                shr-slice-tells (named 3) (κs .1 .1 .1 .0) u32,
+                (mut-tells (named 4) (κs .1 .1 .1 .1 .0) T.the-row, tt),
+              ),
+            ),
           ),
         ),
       ))
       (λ κs qs bounds a g are. (
-      let r = a .1 .1 .1 .1 .0 in
-      via 𝓤 _ (fst∗ 𝓤 _ (emp 𝓤)) (walk 𝓤 H A W mem run (κs .0) (κs .1 .0) (κs .1 .1 .0) (κs .1 .1 .1 .0)
-      (qs .0) (qs .1 .0) (qs .1 .1 .0) (qs .1 .1 .1 .0) (a .0) (are .0 .1) (a .1 .0) (a .1 .1 .0) (a .1 .1 .1 .0)
-      (r .ptr .0) (r .ptr .1) (r .name) (r .now) C Λ fm known (are .1 .0) (are .1 .1 .0) (are .1 .1 .1 .0))))
+      let r = a .1 .1 .1 .1 .1 .0 in
+      via 𝓤 _ (fst∗ 𝓤 _ (emp 𝓤)) (walk 𝓤 H A W mem run
+      (κs .0) (κs .1 .0) (κs .1 .1 .0) (κs .1 .1 .1 .0) (κs .1 .1 .1 .1 .0)
+      (qs .0) (qs .1 .0) (qs .1 .1 .0) (qs .1 .1 .1 .0) (qs .1 .1 .1 .1 .0) (a .0) (are .0 .1)
+      (a .1 .0) (a .1 .1 .0) (a .1 .1 .1 .0) (a .1 .1 .1 .1 .0) (r .ptr .0) (r .ptr .1) (r .name) (r .now)
+      C Λ fm known (are .1 .0) (are .1 .1 .0) (are .1 .1 .1 .0) (are .1 .1 .1 .1 .0))))
 
-  goes : AllGo 𝓤 H A W 4 (advance.signature .params) (advance.ended .kept) stayed
+  goes : AllGo 𝓤 H A W 5 (advance.signature .params) (advance.ended .kept) stayed
   goes = (
-    goes-dropped 𝓤 H A W 4 (num 1) yes (λ κs x f. refl),
+    goes-dropped 𝓤 H A W 5 (num 2) yes (λ κs x f. refl),
     (
-      goes-dropped 𝓤 H A W 4 (list₁ 1) yes (λ κs x f. refl),
+      goes-dropped 𝓤 H A W 5 (list₁ 2) yes (λ κs x f. refl),
       (
-        goes-dropped 𝓤 H A W 4 (list₂ 1) yes (λ κs x f. refl),
+        goes-dropped 𝓤 H A W 5 (list₂ 2) yes (λ κs x f. refl),
         (
-          goes-dropped 𝓤 H A W 4 (list₃ 1) yes (λ κs x f. refl),
-          (goes-ref 𝓤 H A W 4 3 tt (plain (λ _. T.the-row)), tt),
+          goes-dropped 𝓤 H A W 5 (list₃ 2) yes (λ κs x f. refl),
+          (
+            goes-dropped 𝓤 H A W 5 (list₄ 1) yes (λ κs x f. refl),
+            (goes-ref 𝓤 H A W 5 4 tt (plain (λ _. T.the-row)), tt),
+          ),
         ),
       ),
     ),

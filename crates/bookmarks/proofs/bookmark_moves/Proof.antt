@@ -11,11 +11,11 @@ use Rattle.bookmarks.proofs.bookmark_moves.Statement.{statement}
 use Rattle.bookmarks.proofs.bookmark_moves.Tie as tie
 
 abbrev Inv-loop : tie.InvT-loop
-Inv-loop n starts images holders m marked₀ made₀ marked made =
-    (made ≤ m) × (markedSays marked ≡ markingsOf n (tables starts images holders) made (marked₀ .bookmark))
+Inv-loop n starts images holders lengths m marked₀ made₀ marked made =
+    (made ≤ m) × (markedSays marked ≡ markingsOf n (tables starts images holders lengths) made (marked₀ .bookmark))
 
 abbrev μ-loop : tie.MeasureT-loop
-μ-loop n starts images holders m marked₀ made₀ marked made = m - made
+μ-loop n starts images holders lengths m marked₀ made₀ marked made = m - made
 
 repeated-moves-requires : tie.Need-repeated-moves-requires Inv-loop μ-loop
 repeated-moves-requires c κs = search needs
