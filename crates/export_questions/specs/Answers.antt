@@ -17,4 +17,4 @@ questionsAnswer (refused k p) = record { number = k; count = 0; place = p }
 pub record AnswersHost (n : ℕ) (t : Tables) (qs : List Question) (r : QuestionsAnswer) (left : List Question)
     : Type 0 where
   pub says : r ≡ questionsAnswer (answersOf n t (placesOf qs))
-  pub records : left ≡ recordsAfter (filledIn t) (answersOf n t (placesOf qs)) qs
+  pub records : left ≡ recordsAfter (filledIn (t .links)) (answersOf n t (placesOf qs)) qs

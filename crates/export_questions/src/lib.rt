@@ -25,10 +25,11 @@ pub extern "C" fn zibewoka_questions(
     starts: &[u32],
     images: &[u32],
     holders: &[u32],
+    lengths: &[u32],
     questions: &mut [Question],
 ) -> QuestionsAnswer
-    ensures { λ r. ⌜ AnswersHost n (tables (now (starts .entry)) (now (images .entry)) (now (holders .entry))) (now (questions .entry)) r (now (questions .exit)) ⌝ }
+    ensures { λ r. ⌜ AnswersHost n (tables (now (starts .entry)) (now (images .entry)) (now (holders .entry)) (now (lengths .entry))) (now (questions .entry)) r (now (questions .exit)) ⌝ }
 {
-    let answered = questions::answer(n, starts, images, holders, questions);
+    let answered = questions::answer(n, starts, images, holders, lengths, questions);
     answers::of_questions(answered)
 }

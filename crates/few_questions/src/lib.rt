@@ -21,15 +21,16 @@ pub fn answer_few(
     starts: &[u32],
     images: &[u32],
     holders: &[u32],
+    lengths: &[u32],
     questions: [Question; 8],
     count: usize,
 ) -> Few
-    ensures { λ r. ⌜ AnswersFew n (tables (now (starts .entry)) (now (images .entry)) (now (holders .entry))) (min count 8) questions (r .answered) (r .questions) ⌝ }
+    ensures { λ r. ⌜ AnswersFew n (tables (now (starts .entry)) (now (images .entry)) (now (holders .entry)) (now (lengths .entry))) (min count 8) questions (r .answered) (r .questions) ⌝ }
 {
     if 8 < count {
-        return lend(n, starts, images, holders, questions, 8);
+        return lend(n, starts, images, holders, lengths, questions, 8);
     }
-    lend(n, starts, images, holders, questions, count)
+    lend(n, starts, images, holders, lengths, questions, count)
 }
 
 // Lends the first `count` records. This is the one that is proved by hand, so that it has no branch.
@@ -38,14 +39,15 @@ fn lend(
     starts: &[u32],
     images: &[u32],
     holders: &[u32],
+    lengths: &[u32],
     questions: [Question; 8],
     count: usize,
 ) -> Few
     requires { ⌜ count ≤ 8 ⌝ }
-    ensures { λ r. ⌜ AnswersFew n (tables (now (starts .entry)) (now (images .entry)) (now (holders .entry))) count questions (r .answered) (r .questions) ⌝ }
+    ensures { λ r. ⌜ AnswersFew n (tables (now (starts .entry)) (now (images .entry)) (now (holders .entry)) (now (lengths .entry))) count questions (r .answered) (r .questions) ⌝ }
 {
     let mut lent = questions;
-    let answered = questions::answer(n, starts, images, holders, &mut lent[..count]);
+    let answered = questions::answer(n, starts, images, holders, lengths, &mut lent[..count]);
     Few {
         answered,
         questions: lent,

@@ -6,7 +6,8 @@ use mathlib.Core.List.{List, [], _∷_, map}
 use native.Mathlib.Nat.{not-suc-le-zero, le-of-suc-le-suc}
 use lib.ListN.{length, getD, set}
 use Rattle.outcomes.specs.Outcome.{done}
-use Rattle.tables.specs.Tables.{Tables}
+use Rattle.tables.specs.Tables.{Links, Tables}
+use Rattle.tables.specs.Parts.{ShapedLinks}
 use Rattle.walks.specs.Move.{foundAt}
 use Rattle.walks.specs.Parts.{Movable}
 use Rattle.walks.proofs.Steps.{movable}
@@ -63,31 +64,37 @@ set-same (q ∷ qs) zero = refl
 set-same (q ∷ qs) (suc i) = ap (λ (l : List Question). q ∷ l) (set-same qs i)
 
 -- the interval that the pass goes on from after j turns
-abbrev pub fromAt : Tables → Answered → List Question → ℕ → ℕ
-fromAt t a qs zero = 0
-fromAt t a qs (suc j) = filledOf t (getD qs j blank) a .interval
+abbrev pub fromAt : Links → Answered → List Question → ℕ → ℕ
+fromAt k a qs zero = 0
+fromAt k a qs (suc j) = filledOf k (getD qs j blank) a .interval
 
 -- where the call is done, each record can be filled in, from the interval of the one before on
 module _ (n : ℕ) (t : Tables) (qs : List Question) (c : ℕ) (e : done c ≡ answersOf n t (placesOf qs)) (m : n < 2 ^ 32) where
   abbrev ps : List ℕ
   ps = placesOf qs
 
+  abbrev k : Links
+  k = t .links
+
   o : Clear n t ps
   o = clear n t ps c e
 
-  moves-at : (j : ℕ) → j < length ps → Movable t (foundAt t (placeAt ps j)) (placeAt ps j)
+  l : ShapedLinks k
+  l = o .shape .linked
+
+  moves-at : (j : ℕ) → j < length ps → Movable k (foundAt k (placeAt ps j)) (placeAt ps j)
   moves-at j h =
       let p = placeAt ps j in
-      movable n t (foundAt t p) p m (found-located n t p (o .shape) (o .found j h)) (o .whole j h)
+      movable n k (foundAt k p) p m (found-located n k p l (o .found j h)) (o .whole j h)
 
-  placed : (j : ℕ) → j < length ps → Placed t (fromAt t (Passed c) qs j) (placeAt ps j)
+  placed : (j : ℕ) → j < length ps → Placed k (fromAt k (Passed c) qs j) (placeAt ps j)
   unfolding filledIn
   placed zero h =
-      record { pass = record { index = o .shape .some; on = found-first t (placeAt ps 0) }; move = moves-at 0 h }
+      record { pass = record { index = l .some; on = found-first k (placeAt ps 0) }; move = moves-at 0 h }
   placed (suc j) h = rw (place-at qs j) (record {
     pass = record {
-      index = found-below n t (placeAt ps j) (o .shape);
-      on = found-on t (placeAt ps j) (placeAt ps (suc j)) (in-order ps (o .order) j h);
+      index = found-below n k (placeAt ps j) l;
+      on = found-on k (placeAt ps j) (placeAt ps (suc j)) (in-order ps (o .order) j h);
     };
     move = moves-at (suc j) h;
   })
@@ -97,16 +104,16 @@ module _ (n : ℕ) (t : Tables) (qs : List Question) where
   verdict = verdictAt n t qs (length qs)
 
   fillable-at : n < 2 ^ 32 → (a : Answered) → answeredSays a ≡ answersOf n t (placesOf qs) → (j : ℕ) → j < length qs
-      → Fillable t (getD qs j blank) a (fromAt t a qs j)
+      → Fillable (t .links) (getD qs j blank) a (fromAt (t .links) a qs j)
   fillable-at m (Passed c) e j h = rw (place-at qs j) (placed n t qs c e m j (rw (← length-places qs) at h))
   fillable-at m (PlaceOrder i) e j h = tt
   fillable-at m (Refused r) e j h = tt
 
-  pub fillable : n < 2 ^ 32 → (j : ℕ) → j < length qs → Fillable t (getD qs j blank) verdict (fromAt t verdict qs j)
+  pub fillable : n < 2 ^ 32 → (j : ℕ) → j < length qs → Fillable (t .links) (getD qs j blank) verdict (fromAt (t .links) verdict qs j)
   fillable m j h = fillable-at m verdict (verdict-says n t qs) j h
 
   records-at : (a : Answered) → answeredSays a ≡ answersOf n t (placesOf qs)
-      → upTo (λ q. filledOf t q a) (length qs) qs ≡ recordsAfter (filledIn t) (answersOf n t (placesOf qs)) qs
+      → upTo (λ q. filledOf (t .links) q a) (length qs) qs ≡ recordsAfter (filledIn (t .links)) (answersOf n t (placesOf qs)) qs
   unfolding recordsAfter
   records-at a e = go a e
     where
@@ -115,11 +122,11 @@ module _ (n : ℕ) (t : Tables) (qs : List Question) where
       kept f h (q ∷ l) = ap (λ (r : Question). r ∷ map f l) (h q) ∙ ap (λ (m : List Question). q ∷ m) (kept f h l)
 
       go : (a : Answered) → answeredSays a ≡ answersOf n t (placesOf qs)
-          → upTo (λ q. filledOf t q a) (length qs) qs ≡ recordsAfter (filledIn t) (answersOf n t (placesOf qs)) qs
+          → upTo (λ q. filledOf (t .links) q a) (length qs) qs ≡ recordsAfter (filledIn (t .links)) (answersOf n t (placesOf qs)) qs
       go (Passed c) e = rw (← e) (up-all _ qs)
       go (PlaceOrder i) e = rw (← e) (up-all _ qs ∙ kept _ (λ q. refl) qs)
       go (Refused r) e = rw (← e) (up-all _ qs ∙ kept _ (λ q. refl) qs)
 
   -- what both loops come to is what is promised
-  pub answers-hold : Answers n t qs verdict (upTo (λ q. filledOf t q verdict) (length qs) qs)
+  pub answers-hold : Answers n t qs verdict (upTo (λ q. filledOf (t .links) q verdict) (length qs) qs)
   answers-hold = record { says = verdict-says n t qs; records = records-at verdict (verdict-says n t qs) }

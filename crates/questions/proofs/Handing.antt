@@ -32,4 +32,4 @@ length-after f (refused k p) qs = refl
 
 pub length-left : (n : ℕ) (t : Tables) (qs : List Question) (a : Answered) (left : List Question)
     → Answers n t qs a left → length left ≡ length qs
-length-left n t qs a left h = ap length (h .records) ∙ length-after (filledIn t) (answersOf n t (placesOf qs)) qs
+length-left n t qs a left h = ap length (h .records) ∙ length-after (filledIn (t .links)) (answersOf n t (placesOf qs)) qs

@@ -1,5 +1,5 @@
 -- Through the tables of a legal list t, questions together give the function of any list r that has the same one. Its first
--- start is 0, so find's 11 is a place not below n, and no interval is broken.
+-- start is 0, so find's 11 is a place not below n, all lengths are right, and no interval is broken.
 use Prim.Native.Nat.{ℕ, zero, suc, _≤_, _<_}
 use mathlib.Core.Path.{_≡_, refl, sym, ap, _∙_}
 use mathlib.Core.Bool.{false, false≢true}
@@ -17,8 +17,8 @@ use Rattle.outcomes.proofs.Judging.{judge-first, judge-less}
 use Rattle.outcomes.proofs.Searches.{any-false, any-none}
 use Rattle.runs.specs.Runs.{Runs, countOf, runAt, mapOf}
 use Rattle.runs.specs.Legal.{Legal}
-use Rattle.tables.specs.Tables.{tablesOf, maxIntervals}
-use Rattle.tables.proofs.LegalShape.{shape}
+use Rattle.tables.specs.Tables.{linksOf, tablesOf, maxIntervals}
+use Rattle.tables.proofs.LegalShape.{shape, legal-lengths}
 use Rattle.walks.specs.Move.{unfindable}
 use Rattle.walks.specs.Plain.{plainMove}
 use Rattle.walks.proofs.Steps.{far, findable}
@@ -45,7 +45,7 @@ made-same P f g h [] a = refl
 made-same P f g h (q ∷ qs) a = let e = h q (a .0) in let r = made-same P f g h qs (a .1) in λ i. e i ∷ r i
 
 module _ (n : ℕ) (t : Runs) (c : Legal n t) (few : countOf t ≤ maxIntervals) where
-  unfindable-is : (ps : List ℕ) (i : ℕ) → unfindableAt n (tablesOf n t) ps i ≡ beyond n ps i
+  unfindable-is : (ps : List ℕ) (i : ℕ) → unfindableAt n (linksOf n t) ps i ≡ beyond n ps i
   unfolding unfindableAt beyond
   unfindable-is ps i = go (lt-or-le (placeAt ps i) n)
     where
@@ -55,20 +55,20 @@ module _ (n : ℕ) (t : Runs) (c : Legal n t) (few : countOf t ≤ maxIntervals)
 
   -- where all places are below n, no record is refused with 12, and the last one is found in the interval that has it
   module _ (ps : List ℕ) (below : (j : ℕ) → j < length ps → placeAt ps j < n) where
-    none-broken : anyBelow (brokenAt n (tablesOf n t) ps) (length ps) ≡ false
+    none-broken : anyBelow (brokenAt n (linksOf n t) ps) (length ps) ≡ false
     unfolding brokenAt
     none-broken =
-        any-none (brokenAt n (tablesOf n t) ps) (length ps) (λ j h e.
+        any-none (brokenAt n (linksOf n t) ps) (length ps) (λ j h e.
         let p = placeAt ps j in
         let w = rw (← legal-found n t c few p (below j h)) at (legal-whole n t c few p (below j h)) in
         false≢true (sym w ∙ e))
 
-    last-is : (k : ℕ) → k ≡ length ps → foundLast (tablesOf n t) ps k ≡ plainLast n t ps k
+    last-is : (k : ℕ) → k ≡ length ps → foundLast (linksOf n t) ps k ≡ plainLast n t ps k
     last-is zero e = refl
     last-is (suc k) e = legal-found n t c few (placeAt ps k) (below k (omega arith))
 
   move-passes : (ps : List ℕ) (b : ℕ) → plainAnswers n t ps ≡ done b
-      → judge (moveTest n (tablesOf n t) ps ∷ []) (foundLast (tablesOf n t) ps (length ps)) ≡ done (plainLast n t ps (length ps))
+      → judge (moveTest n (linksOf n t) ps ∷ []) (foundLast (linksOf n t) ps (length ps)) ≡ done (plainLast n t ps (length ps))
   unfolding judge
   move-passes ps b e =
       let l = plain-below n t ps b (sym e) in
@@ -77,28 +77,28 @@ module _ (n : ℕ) (t : Runs) (c : Legal n t) (few : countOf t ≤ maxIntervals)
   pub legal-answers : (ps : List ℕ) → answersOf n (tablesOf n t) ps ≡ plainAnswers n t ps
   unfolding answersOf plainAnswers judge
   legal-answers ps =
-      let s : unfindableAt n (tablesOf n t) ps ≡ beyond n ps = λ i j. unfindable-is ps j i in
-      rw (shape n t c few .fits, s)
-      (judge-less (orderTest ps ∷ rangeTest n ps ∷ []) (moveTest n (tablesOf n t) ps ∷ []) _ _ (move-passes ps))
+      let s : unfindableAt n (linksOf n t) ps ≡ beyond n ps = λ i j. unfindable-is ps j i in
+      rw (shape n t c few .fits, legal-lengths n t c, s)
+      (judge-less (orderTest ps ∷ rangeTest n ps ∷ []) (moveTest n (linksOf n t) ps ∷ []) _ _ (move-passes ps))
 
   module _ (r : Runs) (same : (p : ℕ) → p < n → mapOf n t p ≡ mapOf n r p) where
-    filled-is : (q : Question) → q .place < n → filledIn (tablesOf n t) q ≡ plainQuestion n r t q
+    filled-is : (q : Question) → q .place < n → filledIn (linksOf n t) q ≡ plainQuestion n r t q
     unfolding filledIn plainQuestion
     filled-is q h =
         let p = q .place in
         rw (legal-found n t c few p h) (ap (question p (runAt n t p)) (legal-step n t c few p h ∙ move-same n r t p (same p h)))
 
     pub legal-records : (qs : List Question)
-        → recordsAfter (filledIn (tablesOf n t)) (answersOf n (tablesOf n t) (placesOf qs)) qs
+        → recordsAfter (filledIn (linksOf n t)) (answersOf n (tablesOf n t) (placesOf qs)) qs
         ≡ recordsAfter (plainQuestion n r t) (plainAnswers n t (placesOf qs)) qs
     unfolding recordsAfter
     legal-records qs =
         rw (legal-answers (placesOf qs)) (go (plainAnswers n t (placesOf qs)) refl)
       where
         go : (o : Outcome ℕ) → o ≡ plainAnswers n t (placesOf qs)
-            → recordsAfter (filledIn (tablesOf n t)) o qs ≡ recordsAfter (plainQuestion n r t) o qs
+            → recordsAfter (filledIn (linksOf n t)) o qs ≡ recordsAfter (plainQuestion n r t) o qs
         go (done b) e =
-            made-same (λ q. q .place < n) (filledIn (tablesOf n t)) (plainQuestion n r t) filled-is qs
+            made-same (λ q. q .place < n) (filledIn (linksOf n t)) (plainQuestion n r t) filled-is qs
             (each-place (λ p. p < n) qs (plain-below n t (placesOf qs) b e))
         go (refused k p) e = refl
 

@@ -4,7 +4,7 @@ use Prim.Native.Nat.{ℕ, _+_}
 use mathlib.Core.Path.{_≡_}
 use mathlib.Core.List.{List, [], _∷_, map}
 use Rattle.outcomes.specs.Outcome.{done}
-use Rattle.tables.specs.Tables.{Tables}
+use Rattle.tables.specs.Tables.{Links, Tables}
 use Rattle.walks.specs.Move.{passed, findOf, moveOf}
 use Rattle.questions.specs.declared.Question.{Question}
 
@@ -30,7 +30,7 @@ lastInterval x [] = x
 lastInterval x (q ∷ qs) = lastInterval (q .interval) qs
 
 -- what a call that is done shows of the records that it leaves and of its count c
-pub record OnePass (t : Tables) (ps : List ℕ) (left : List Question) (c : ℕ) : Type 0 where
-  pub intervals : map (λ q. q .interval) left ≡ stops (t .list .starts) 0 ps
-  pub counted : passedOver (t .list .starts) 0 ps ≡ c
+pub record OnePass (k : Links) (ps : List ℕ) (left : List Question) (c : ℕ) : Type 0 where
+  pub intervals : map (λ q. q .interval) left ≡ stops (k .list .starts) 0 ps
+  pub counted : passedOver (k .list .starts) 0 ps ≡ c
   pub last : lastInterval 0 left ≡ c

@@ -1,5 +1,5 @@
--- Questions together, on any tables and any records (document 02, A.1, with the distance of A.2 and, in each record, the count of
--- A.4).
+-- Questions together, on any tables and any records (document 02, A.1, with the distance of A.2, in each record the count of A.4,
+-- and the test of all lengths of A.7).
 use Prim.Native.Nat.{ℕ, zero, suc, _-_}
 use mathlib.Core.Path.{_≡_}
 use mathlib.Core.Bool.{Bool}
@@ -10,7 +10,7 @@ use Rattle.outcomes.specs.Outcome.{Outcome, done, refused, Test, test, judge}
 use Rattle.outcomes.specs.Refusal.{refusalSays}
 use Rattle.outcomes.specs.Search.{firstBelow, anyBelow}
 use Rattle.runs.specs.Check.{lowest}
-use Rattle.tables.specs.Tables.{Tables, shapeTest, broken}
+use Rattle.tables.specs.Tables.{Links, Tables, shapeTest, allLengths, broken}
 use Rattle.walks.specs.Move.{foundAt, unfindable, stepOf}
 use Rattle.walks.specs.declared.Step.{Step}
 use Rattle.questions.specs.declared.Question.{Question}
@@ -35,42 +35,42 @@ unfoldable pub fallsAt : List ℕ → ℕ → Bool
 fallsAt ps i = ltb (placeAt ps i) (placeAt ps (i - 1))
 
 -- 11, as find has it
-unfoldable pub unfindableAt : ℕ → Tables → List ℕ → ℕ → Bool
-unfindableAt n t ps i = unfindable n (t .list .starts) (placeAt ps i)
+unfoldable pub unfindableAt : ℕ → Links → List ℕ → ℕ → Bool
+unfindableAt n k ps i = unfindable n (k .list .starts) (placeAt ps i)
 
--- 12, as a move from the place and the interval found has it
-unfoldable pub brokenAt : ℕ → Tables → List ℕ → ℕ → Bool
-brokenAt n t ps i = broken n t (foundAt t (placeAt ps i)) (placeAt ps i)
+-- 12, as a move from the place and the interval found has it once all lengths are right
+unfoldable pub brokenAt : ℕ → Links → List ℕ → ℕ → Bool
+brokenAt n k ps i = broken n k (foundAt k (placeAt ps i)) (placeAt ps i)
 
--- The tests: the tables' own; then 16, with the index of the lowest record that it applies to; then 11 over all records, then
--- 12 over all records, each for the lowest record that it applies to. With 11 its place is given, and with 12 the interval
--- found for it, as document 01's table has it for a single call.
+-- The tests: the tables' own, which are 9 and 12 of all lengths; then 16, with the index of the lowest record that it applies to;
+-- then 11 over all records, then 12 over all records, each for the lowest record that it applies to. With 11 its place is given,
+-- and with 12 the interval found for it, as document 01's table has it for a single call.
 abbrev pub orderTest : List ℕ → Test
 orderTest ps = lowest 16 (fallsAt ps) (length ps)
 
-abbrev pub findTest : ℕ → Tables → List ℕ → Test
-findTest n t ps =
-    test 11 (anyBelow (unfindableAt n t ps) (length ps)) (placeAt ps (firstBelow (unfindableAt n t ps) (length ps)))
+abbrev pub findTest : ℕ → Links → List ℕ → Test
+findTest n k ps =
+    test 11 (anyBelow (unfindableAt n k ps) (length ps)) (placeAt ps (firstBelow (unfindableAt n k ps) (length ps)))
 
-abbrev pub moveTest : ℕ → Tables → List ℕ → Test
-moveTest n t ps =
-    test 12 (anyBelow (brokenAt n t ps) (length ps)) (foundAt t (placeAt ps (firstBelow (brokenAt n t ps) (length ps))))
+abbrev pub moveTest : ℕ → Links → List ℕ → Test
+moveTest n k ps =
+    test 12 (anyBelow (brokenAt n k ps) (length ps)) (foundAt k (placeAt ps (firstBelow (brokenAt n k ps) (length ps))))
 
 abbrev pub questionTests : ℕ → Tables → List ℕ → List Test
-questionTests n t ps = shapeTest n t ∷ orderTest ps ∷ findTest n t ps ∷ moveTest n t ps ∷ []
+questionTests n t ps = shapeTest n t ∷ allLengths n t ∷ orderTest ps ∷ findTest n (t .links) ps ∷ moveTest n (t .links) ps ∷ []
 
 -- f of the last of the first k places, or 0 where k is 0; so the interval of the last of the first k records
 abbrev pub lastBy : (ℕ → ℕ) → List ℕ → ℕ → ℕ
 lastBy f ps zero = 0
 lastBy f ps (suc k) = f (placeAt ps k)
 
-abbrev pub foundLast : Tables → List ℕ → ℕ → ℕ
-foundLast t ps k = lastBy (foundAt t) ps k
+abbrev pub foundLast : Links → List ℕ → ℕ → ℕ
+foundLast k ps i = lastBy (foundAt k) ps i
 
 -- The answer: the starts passed in finding, which is one count, equal to the last record's interval, or 0 where there is no
 -- record (specs/Agree: one pass counts as many).
 unfoldable pub answersOf : ℕ → Tables → List ℕ → Outcome ℕ
-answersOf n t ps = judge (questionTests n t ps) (foundLast t ps (length ps))
+answersOf n t ps = judge (questionTests n t ps) (foundLast (t .links) ps (length ps))
 
 -- a record by its numbers: a place, the interval that has it, and a step
 abbrev pub question : ℕ → ℕ → Step → Question
@@ -78,8 +78,8 @@ question p x s =
     record { place = p; interval = x; «to_place» = s .place; «to_interval» = s .interval; count = s .count; distance = s .distance }
 
 -- A record filled in: its place, the interval that find gives, and the step of the move from there.
-unfoldable pub filledIn : Tables → Question → Question
-filledIn t q = question (q .place) (foundAt t (q .place)) (stepOf t (foundAt t (q .place)) (q .place))
+unfoldable pub filledIn : Links → Question → Question
+filledIn k q = question (q .place) (foundAt k (q .place)) (stepOf k (foundAt k (q .place)) (q .place))
 
 -- the records after an answer: each one by f, or all as they were
 unfoldable pub recordsAfter : (Question → Question) → Outcome ℕ → List Question → List Question
@@ -89,4 +89,4 @@ recordsAfter f (refused k p) qs = qs
 -- what the call promises: the answer, and the records that it leaves of qs
 pub record Answers (n : ℕ) (t : Tables) (qs : List Question) (a : Answered) (left : List Question) : Type 0 where
   pub says : answeredSays a ≡ answersOf n t (placesOf qs)
-  pub records : left ≡ recordsAfter (filledIn t) (answersOf n t (placesOf qs)) qs
+  pub records : left ≡ recordsAfter (filledIn (t .links)) (answersOf n t (placesOf qs)) qs

@@ -2,7 +2,7 @@
 use super::Answered;
 use super::Question;
 ghost use mathlib.Core.Path.{_≡_};
-ghost use Rattle.tables.specs.Tables.{tables};
+ghost use Rattle.tables.specs.Tables.{links};
 ghost use Rattle.walks.specs.Move.{stepOf};
 ghost use Rattle.walks.specs.Parts.{Movable};
 ghost use Rattle.questions.specs.Questions.{question};
@@ -17,8 +17,8 @@ pub(crate) fn fill(
     answered: Answered,
     x: u32,
 ) -> Question
-    requires { ⌜ Fillable (tables (now starts) (now images) (now holders)) q answered x ⌝ }
-    ensures { λ r. ⌜ r ≡ filledOf (tables (now (starts .entry)) (now (images .entry)) (now (holders .entry))) q answered ⌝ }
+    requires { ⌜ Fillable (links (now starts) (now images) (now holders)) q answered x ⌝ }
+    ensures { λ r. ⌜ r ≡ filledOf (links (now (starts .entry)) (now (images .entry)) (now (holders .entry))) q answered ⌝ }
 {
     match answered {
         Answered::PlaceOrder(_) => q,
@@ -32,8 +32,8 @@ pub(crate) fn fill(
 
 // A record for a place of interval x: this is where one is made.
 fn ask(starts: &[u32], images: &[u32], holders: &[u32], place: u32, x: u32) -> Question
-    requires { ⌜ Movable (tables (now starts) (now images) (now holders)) x place ⌝ }
-    ensures { λ r. ⌜ r ≡ question place x (stepOf (tables (now (starts .entry)) (now (images .entry)) (now (holders .entry))) x place) ⌝ }
+    requires { ⌜ Movable (links (now starts) (now images) (now holders)) x place ⌝ }
+    ensures { λ r. ⌜ r ≡ question place x (stepOf (links (now (starts .entry)) (now (images .entry)) (now (holders .entry))) x place) ⌝ }
 {
     let step = walks::step_from(starts, images, holders, x, place);
     Question {

@@ -4,25 +4,27 @@ use super::Question;
 use super::finding;
 use outcomes::Refusal;
 ghost use mathlib.Core.Path.{_≡_};
-ghost use Rattle.tables.specs.Tables.{tables};
+ghost use Rattle.tables.specs.Tables.{links, tables};
 ghost use Rattle.tables.specs.Parts.{Located};
-ghost use Rattle.questions.specs.Turns.{Ready, Findable, Staying, begunOf, judgedOf, settled, clear, fallenOf, goneOf, standingAt, stayedOf, outsideOr, verdictOf};
+ghost use Rattle.questions.specs.Turns.{Ready, Findable, Staying, begunOf, standingBy, judgedOf, settled, clear, fallenOf, goneOf, standingAt, stayedOf, outsideOr, verdictOf};
 
-// Which refusal the records so far have met. A record further on changes it only by an earlier test.
+// Which refusal the tables and the records so far have met. A record further on changes it only by an earlier test.
 pub enum Standing {
     // 9: no record can change it
     Misshapen,
+    // 12, with the lowest interval whose length is wrong: no record can change it
+    Mismeasured(u32),
     // 16: no record can change it
     Fallen,
     // 11, with the place of the lowest such record
     Outside(u32),
-    // 12
+    // 12, of the interval of a record
     Broken,
     // none
     Clear,
 }
 
-// That; the interval of the last record that was found, which 12 gives too; the place of the last record; and the index of the
+// That; the interval of the last record that was found, which 12 of a record gives too; the place of the last record; and the index of the
 // one whose place fell. They stand beside the standing and not in its cases, so that the interval, which each turn waits
 // for, stays in a register of its own.
 pub struct Judging {
@@ -32,24 +34,42 @@ pub struct Judging {
     pub fallen: usize,
 }
 
-// Before the first record: test 9.
-pub(crate) fn begin(n: u32, starts: &[u32], images: &[u32], holders: &[u32]) -> Judging
-    ensures { λ r. ⌜ r ≡ begunOf n (tables (now (starts .entry)) (now (images .entry)) (now (holders .entry))) ⌝ }
+// Before the first record.
+pub(crate) fn begin(
+    n: u32,
+    starts: &[u32],
+    images: &[u32],
+    holders: &[u32],
+    lengths: &[u32],
+) -> Judging
+    ensures { λ r. ⌜ r ≡ begunOf n (tables (now (starts .entry)) (now (images .entry)) (now (holders .entry)) (now (lengths .entry))) ⌝ }
 {
-    if tables::is_misshapen(n, starts, images, holders) {
-        return Judging {
-            standing: Standing::Misshapen,
-            interval: 0,
-            last: 0,
-            fallen: 0,
-        };
-    }
     Judging {
-        standing: Standing::Clear,
+        standing: judge_tables(n, starts, images, holders, lengths),
         interval: 0,
         last: 0,
         fallen: 0,
     }
+}
+
+// The tests that no record matters to: 9, and 12 of all lengths.
+fn judge_tables(
+    n: u32,
+    starts: &[u32],
+    images: &[u32],
+    holders: &[u32],
+    lengths: &[u32],
+) -> Standing
+    ensures { λ r. ⌜ r ≡ standingBy n (tables (now (starts .entry)) (now (images .entry)) (now (holders .entry)) (now (lengths .entry))) ⌝ }
+{
+    if tables::is_misshapen(n, starts, images, holders, lengths) {
+        return Standing::Misshapen;
+    }
+    let wrong = tables::first_wrong_length(n, starts, lengths);
+    if wrong < starts.len() {
+        return Standing::Mismeasured(wrong as u32);
+    }
+    Standing::Clear
 }
 
 // With the record at index i too.
@@ -62,8 +82,8 @@ pub(crate) fn judge(
     q: Question,
     i: usize,
 ) -> Judging
-    requires { ⌜ Ready n (tables (now starts) (now images) (now holders)) s ⌝ }
-    ensures { λ r. ⌜ r ≡ judgedOf n (tables (now (starts .entry)) (now (images .entry)) (now (holders .entry))) s q i ⌝ }
+    requires { ⌜ Ready (links (now starts) (now images) (now holders)) s ⌝ }
+    ensures { λ r. ⌜ r ≡ judgedOf n (links (now (starts .entry)) (now (images .entry)) (now (holders .entry))) s q i ⌝ }
 {
     if q.place < s.last {
         return fall(s, q.place, i);
@@ -101,6 +121,7 @@ fn is_settled(standing: Standing) -> bool
 {
     match standing {
         Standing::Misshapen => true,
+        Standing::Mismeasured(_) => true,
         Standing::Fallen => true,
         Standing::Outside(_) => false, // 16 goes before 11
         Standing::Broken => false, // and before 12
@@ -113,6 +134,7 @@ fn is_clear(standing: Standing) -> bool
 {
     match standing {
         Standing::Misshapen => false,
+        Standing::Mismeasured(_) => false,
         Standing::Fallen => false,
         Standing::Outside(_) => false,
         Standing::Broken => false,
@@ -122,8 +144,8 @@ fn is_clear(standing: Standing) -> bool
 
 // Where it is not below, and no record before was refused: test 11, the interval that has the place, and test 12 there.
 fn go_on(n: u32, starts: &[u32], images: &[u32], holders: &[u32], s: Judging, place: u32) -> Judging
-    requires { ⌜ Findable n (tables (now starts) (now images) (now holders)) (s .interval) place ⌝ }
-    ensures { λ r. ⌜ r ≡ goneOf n (tables (now (starts .entry)) (now (images .entry)) (now (holders .entry))) s place ⌝ }
+    requires { ⌜ Findable (links (now starts) (now images) (now holders)) (s .interval) place ⌝ }
+    ensures { λ r. ⌜ r ≡ goneOf n (links (now (starts .entry)) (now (images .entry)) (now (holders .entry))) s place ⌝ }
 {
     if walks::is_unfindable(n, starts, place) {
         return Judging {
@@ -144,8 +166,8 @@ fn go_on(n: u32, starts: &[u32], images: &[u32], holders: &[u32], s: Judging, pl
 
 // Test 12 of a place that lies in interval x.
 fn stand(n: u32, starts: &[u32], images: &[u32], holders: &[u32], x: u32, place: u32) -> Standing
-    requires { ⌜ Located n (tables (now starts) (now images) (now holders)) x place ⌝ }
-    ensures { λ r. ⌜ r ≡ standingAt n (tables (now (starts .entry)) (now (images .entry)) (now (holders .entry))) x place ⌝ }
+    requires { ⌜ Located n (links (now starts) (now images) (now holders)) x place ⌝ }
+    ensures { λ r. ⌜ r ≡ standingAt n (links (now (starts .entry)) (now (images .entry)) (now (holders .entry))) x place ⌝ }
 {
     if tables::is_broken(n, starts, images, holders, x, place) {
         return Standing::Broken;
@@ -153,7 +175,7 @@ fn stand(n: u32, starts: &[u32], images: &[u32], holders: &[u32], x: u32, place:
     Standing::Clear
 }
 
-// Where it is not below, and a record before was refused: test 11 goes before 12.
+// Where it is not below, and the tables or a record before were refused: test 11 goes before 12 of a record.
 fn stay(n: u32, starts: &[u32], s: Judging, place: u32) -> Judging
     requires { ⌜ Staying (now starts) (s .standing) ⌝ }
     ensures { λ r. ⌜ r ≡ stayedOf n (now (starts .entry)) s place ⌝ }
@@ -173,6 +195,7 @@ fn outside_or(n: u32, starts: &[u32], standing: Standing, place: u32) -> Standin
 {
     match standing {
         Standing::Misshapen => standing,
+        Standing::Mismeasured(_) => standing,
         Standing::Fallen => standing,
         Standing::Outside(_) => standing,
         Standing::Clear => standing,
@@ -192,6 +215,7 @@ pub(crate) fn verdict(s: Judging) -> Answered
     let standing = s.standing;
     match standing {
         Standing::Misshapen => Answered::Refused(Refusal::TableShape),
+        Standing::Mismeasured(x) => Answered::Refused(Refusal::BrokenInterval(x)),
         Standing::Fallen => Answered::PlaceOrder(s.fallen),
         Standing::Outside(place) => Answered::Refused(Refusal::PlaceRange(place)),
         Standing::Broken => Answered::Refused(Refusal::BrokenInterval(s.interval)),

@@ -43,11 +43,12 @@ pub fn answer(
     starts: &[u32],
     images: &[u32],
     holders: &[u32],
+    lengths: &[u32],
     questions: &mut [Question],
 ) -> Answered
-    ensures { λ r. ⌜ Answers n (tables (now (starts .entry)) (now (images .entry)) (now (holders .entry))) (now (questions .entry)) r (now (questions .exit)) ⌝ }
+    ensures { λ r. ⌜ Answers n (tables (now (starts .entry)) (now (images .entry)) (now (holders .entry)) (now (lengths .entry))) (now (questions .entry)) r (now (questions .exit)) ⌝ }
 {
-    let mut judging = judging::begin(n, starts, images, holders);
+    let mut judging = judging::begin(n, starts, images, holders, lengths);
     let mut i: usize = 0;
     while i < questions.len() {
         judging = judging::judge(n, starts, images, holders, judging, questions[i], i);

@@ -47,7 +47,7 @@ use Rattle.tables.specs.Tables.{tables as tablesIn}
 use Rattle.questions.specs.Questions.{Answers, answeredSays}
 use Rattle.questions.specs.declared.Question.{Question}
 use Rattle.questions.specs.declared.Answered.{Answered}
-use Rattle.tables.proofs.Held.{Xs, v, num, list₁, list₂, list₃}
+use Rattle.tables.proofs.Held.{Xs, v, num, list₁, list₂, list₃, list₄}
 use Rattle.questions.proofs.Handing.{Ans, length-left}
 use Rattle.questions.proofs.Question as T
 use Rattle.questions.proofs.Answered as S
@@ -70,19 +70,22 @@ use Rattle.export_questions.proofs.zibewoka_questions.Statement as stat
 use Rattle.export_questions.proofs.zibewoka_questions.Code as code
 
 -- the places of the other parameters in the signature
-abbrev record₀ : Slot 4
+abbrev record₀ : Slot 5
 record₀ = plain (λ _. T.the-row)
 
 abbrev stayed : Stays (host.ended .signature .params) (host.ended .kept)
 stayed = (
-  stay-dropped (num 1) yes,
+  stay-dropped (num 2) yes,
   (
-    stay-dropped (list₁ 1) yes,
+    stay-dropped (list₁ 2) yes,
     (
-      stay-dropped (list₂ 1) yes,
+      stay-dropped (list₂ 2) yes,
       (
-        stay-dropped (list₃ 1) yes,
-        (gave-slice (3 ∷ []) tt record₀, tt),
+        stay-dropped (list₃ 2) yes,
+        (
+          stay-dropped (list₄ 1) yes,
+          (gave-slice (4 ∷ []) tt record₀, tt),
+        ),
       ),
     ),
   ),
@@ -98,45 +101,45 @@ abbrev Told : {M : Type 1} (𝓤 : URA M) (H : Heap 𝓤) (A : Atoms 𝓤) (mem 
 Told 𝓤 H A mem run = tripleOf 𝓤 H A told.signature (told.spec 𝓤 H A mem run)
 
 module _ {M : Type 1} (𝓤 : URA M) (H : Heap 𝓤) (A : Atoms 𝓤) (W : Given 𝓤 H A) (at-mem : Memory → SProp 𝓤)
-    (run : Routine → Fun 𝓤) (κ₁ κ₂ κ₃ κ : Lft) (q₁ q₂ q₃ q : Share) (n : ℕ) (n-fits : n < 2 ^ 32) (s₁ s₂ s₃ : Xs)
+    (run : Routine → Fun 𝓤) (κ₁ κ₂ κ₃ κ₄ κ : Lft) (q₁ q₂ q₃ q₄ q : Share) (n : ℕ) (n-fits : n < 2 ^ 32) (s₁ s₂ s₃ s₄ : Xs)
     (b o : ℕ) (γ : GName) (xs : List Question) (room : Room T.the-row (length xs)) where
-  abbrev κs : Lfts 4
-  κs = (κ₁, (κ₂, (κ₃, (κ, tt))))
+  abbrev κs : Lfts 5
+  κs = (κ₁, (κ₂, (κ₃, (κ₄, (κ, tt)))))
 
-  abbrev qs : Shares 4
-  qs = (q₁, (q₂, (q₃, (q, tt))))
+  abbrev qs : Shares 5
+  qs = (q₁, (q₂, (q₃, (q₄, (q, tt)))))
 
-  abbrev x : ℕ × (Xs × (Xs × (Xs × (RefT (List Question) × Unit {0}))))
-  x = (n, (s₁, (s₂, (s₃, (record { ptr = (b, o); name = γ; now = xs }, tt)))))
+  abbrev x : ℕ × (Xs × (Xs × (Xs × (Xs × (RefT (List Question) × Unit {0})))))
+  x = (n, (s₁, (s₂, (s₃, (s₄, (record { ptr = (b, o); name = γ; now = xs }, tt))))))
 
   -- the machine values of the parameters, one by one and as the signature has them
-  abbrev v₄ : Val
-  v₄ = sliceVal (b, o) (length xs)
+  abbrev v₅ : Val
+  v₅ = sliceVal (b, o) (length xs)
 
   abbrev at : Vals host.signature κs
-  at = (vint w32 n ∷ [], (v s₁ ∷ [], (v s₂ ∷ [], (v s₃ ∷ [], (v₄ ∷ [], tt)))))
+  at = (vint w32 n ∷ [], (v s₁ ∷ [], (v s₂ ∷ [], (v s₃ ∷ [], (v s₄ ∷ [], (v₅ ∷ [], tt))))))
 
   abbrev vs : List Val
-  vs = vint w32 n ∷ v s₁ ∷ v s₂ ∷ v s₃ ∷ v₄ ∷ []
+  vs = vint w32 n ∷ v s₁ ∷ v s₂ ∷ v s₃ ∷ v s₄ ∷ v₅ ∷ []
 
   abbrev rows : List RattleType
   rows =
       u32 ∷ ShrSlice (named 0) κ₁ u32 ∷ ShrSlice (named 1) κ₂ u32 ∷ ShrSlice (named 2) κ₃ u32 ∷
-      MutSlice (named 3) κ T.the-row ∷ []
+      ShrSlice (named 3) κ₄ u32 ∷ MutSlice (named 4) κ T.the-row ∷ []
 
   -- what `answer` says, and what the contract says
   abbrev Said : Answered → List Question → Type 0
-  Said a left = Answers n (tablesIn (now s₁) (now s₂) (now s₃)) xs a left
+  Said a left = Answers n (tablesIn (now s₁) (now s₂) (now s₃) (now s₄)) xs a left
 
   abbrev Promised : QuestionsAnswer → List Question → Type 0
-  Promised r left = AnswersHost n (tablesIn (now s₁) (now s₂) (now s₃)) xs r left
+  Promised r left = AnswersHost n (tablesIn (now s₁) (now s₂) (now s₃) (now s₄)) xs r left
 
   promised : (a : Answered) (r : QuestionsAnswer) (left : List Question) → Said a left
       → r ≡ questionsAnswer (answeredSays a) → Promised r left
   promised a r left e f = record { says = f ∙ ap questionsAnswer (e .says); records = e .records }
 
   abbrev Tokens : Item 𝓤
-  Tokens = ‵ (flft κ₁ q₁) ⊛ ‵ (flft κ₂ q₂) ⊛ ‵ (flft κ₃ q₃) ⊛ ‵ (flft κ q) ⊛ ‵ ftrue
+  Tokens = ‵ (flft κ₁ q₁) ⊛ ‵ (flft κ₂ q₂) ⊛ ‵ (flft κ₃ q₃) ⊛ ‵ (flft κ₄ q₄) ⊛ ‵ (flft κ q) ⊛ ‵ ftrue
 
   abbrev Owned : Item 𝓤
   Owned = ‵ (owns rows x at)
@@ -155,7 +158,7 @@ module _ {M : Type 1} (𝓤 : URA M) (H : Heap 𝓤) (A : Atoms 𝓤) (W : Given
   Lasts′ = Lasts ans.ended κs x
 
   abbrev left : Lasts′ → List Question
-  left ws = ws .1 .1 .1 .1 .0
+  left ws = ws .1 .1 .1 .1 .1 .0
 
   -- the second call is handed the answer
   abbrev to-told : Answered → Told 𝓤 H A at-mem run .Ghost
@@ -184,59 +187,62 @@ module _ {M : Type 1} (𝓤 : URA M) (H : Heap 𝓤) (A : Atoms 𝓤) (W : Given
       qed W (Tokens ∷ ‵ (finally T.the-row γ ys) ∷ []) ∵
       suffices ! _
       (ends-at 𝓤 H A host.ended stayed (host.clauses 𝓤 H A at-mem run) W ((κs, qs, tt, x, at), tt) _ r
-      (tt, (tt, (tt, (tt, (ys, tt))))) (tt, (tt, (tt, (tt, (same, tt)))))) $
+      (tt, (tt, (tt, (tt, (tt, (ys, tt)))))) (tt, (tt, (tt, (tt, (tt, (same, tt))))))) $
       says ! e $ move ! (1 ∷ 0 ∷ []) $ move ! (1 ∷ []) $ frame ! $
       nothing ! $ move ! (1 ∷ 0 ∷ []) $ fjoin ! $ nothing ! $ fjoin ! $ nothing ! $ fjoin ! $ nothing ! $ fjoin ! $
-      nothing ! $ fjoin ! $ owned ! R.the-row (Is R.the-row) (LL.makes R.the-type R′.the-plain 𝓤 H A) r _ r-is $
+      nothing ! $ fjoin ! $ nothing ! $ fjoin ! $ owned ! R.the-row (Is R.the-row) (LL.makes R.the-type R′.the-plain 𝓤 H A) r _ r-is $
       move ! (1 ∷ 0 ∷ []) $ done !
 
   module _ (𝓣 : Tables 𝓤 H) (fm : FmC 𝓤 H (W .laws) (𝓣 .C))
       (known : Triple 𝓤 (𝓣 .C #questions·answer) (Ans 𝓤 H A at-mem run))
       (known′ : Triple 𝓤 (𝓣 .C #export-questions·answers·of-questions) (Told 𝓤 H A at-mem run)) where
     walk : Is (ShrSlice (named 0) κ₁ u32) s₁ (v s₁ ∷ []) → Is (ShrSlice (named 1) κ₂ u32) s₂ (v s₂ ∷ [])
-        → Is (ShrSlice (named 2) κ₃ u32) s₃ (v s₃ ∷ [])
+        → Is (ShrSlice (named 2) κ₃ u32) s₃ (v s₃ ∷ []) → Is (ShrSlice (named 3) κ₄ u32) s₄ (v s₄ ∷ [])
         → ent 𝓤 (onEntry 𝓤 H A host.signature κs qs x at) (WpFn 𝓤 H (𝓣 .C) (𝓣 .Λ) code.function vs Post)
-    walk p₁ p₂ p₃ =
+    walk p₁ p₂ p₃ p₄ =
         qed W (Tokens ∷ Owned ∷ []) ∵
         enter ! (𝓣 .C) (𝓣 .Λ) code.function vs _ $
         alloc1 ! (λ l₀. alloc1 ! (λ l₁. alloc1 ! (λ l₂. alloc1 ! (λ l₃. alloc1 ! (λ l₄. alloc1 ! (λ l₅.
-        alloc1 ! (λ l₆. alloc1 ! (λ l₇. alloc1 ! (λ l₈. alloc0 ! $ params1 ! $
-        pass1 ! (init ! 14 refl (tt, record { fits = n-fits })) $
-        pass1 ! (init ! 12 refl (shr-slice-lawful 𝓤 H A W (named 0) κ₁ u32 .typed s₁ _ p₁ .0)) $
-        pass1 ! (init ! 10 refl (shr-slice-lawful 𝓤 H A W (named 1) κ₂ u32 .typed s₂ _ p₂ .0)) $
-        pass1 ! (init ! 8 refl (shr-slice-lawful 𝓤 H A W (named 2) κ₃ u32 .typed s₃ _ p₃ .0)) $
+        alloc1 ! (λ l₆. alloc1 ! (λ l₇. alloc1 ! (λ l₈. alloc1 ! (λ l₉. alloc0 ! $ params1 ! $
+        pass1 ! (init ! 16 refl (tt, record { fits = n-fits })) $
+        pass1 ! (init ! 14 refl (shr-slice-lawful 𝓤 H A W (named 0) κ₁ u32 .typed s₁ _ p₁ .0)) $
+        pass1 ! (init ! 12 refl (shr-slice-lawful 𝓤 H A W (named 1) κ₂ u32 .typed s₂ _ p₂ .0)) $
+        pass1 ! (init ! 10 refl (shr-slice-lawful 𝓤 H A W (named 2) κ₃ u32 .typed s₃ _ p₃ .0)) $
+        pass1 ! (init ! 8 refl (shr-slice-lawful 𝓤 H A W (named 3) κ₄ u32 .typed s₄ _ p₄ .0)) $
         pass1 ! (init ! 6 refl (tt, (tt, (record { fits = room .0 }, tt)))) $ pass0 ! $
-        -- [_8 at 0; _7; _6; the records' slice, _5, at 6; _4; _3; _2; _1 at 14; room for _0; the tokens at 18; what is
+        -- [_9 at 0; _8; _7; the records' slice, _6, at 6; _5; _4; _3; _2; _1 at 16; room for _0; the tokens at 20; what is
         -- owned]
         assigns ! (addr ! (from ! (fld ! refl (hop ! (look-in ! 6 (sub ! 0 refl (whole !))) (stop !))))) (from ! (stop !))
         (init ! 2 refl (tt, tt)) $
         assigns ! (agg ! (and-then ! (load ! (from ! (stop !)) (look ! 2 refl))
         (and-then ! (load ! (from ! (fld ! refl (stop !))) (look-in ! 6 (sub ! 1 refl (whole !)))) (no-more !))))
         (from ! (stop !)) (init ! 0 refl (tt, (tt, (record { fits = room .0 }, tt)))) $
-        move ! (18 ∷ 19 ∷ []) $ use2 W (raw (Ans 𝓤 H A at-mem run .pre to)) lent $
+        move ! (20 ∷ 21 ∷ []) $ use2 W (raw (Ans 𝓤 H A at-mem run .pre to)) lent $
         calls-at ! fm (Ans 𝓤 H A at-mem run) known to
+        (and-then ! (load ! (from ! (stop !)) (look ! 17 refl))
         (and-then ! (load ! (from ! (stop !)) (look ! 15 refl))
         (and-then ! (load ! (from ! (stop !)) (look ! 13 refl))
         (and-then ! (load ! (from ! (stop !)) (look ! 11 refl))
         (and-then ! (load ! (from ! (stop !)) (look ! 9 refl))
-        (and-then ! (load ! (from ! (stop !)) (look ! 1 refl)) (no-more !)))))) (λ u.
+        (and-then ! (load ! (from ! (stop !)) (look ! 1 refl)) (no-more !))))))) (λ u.
         use1 W
         (later (some (λ (a : Answered). (Tokens ⊛ ‵ (S.the-row .own a (u ∷ []))) ⊛
         raw (ensured 𝓤 H A ans.ended (ans.clauses 𝓤 H A at-mem run) κs x tt a)))) (id⊢ 𝓤 _) $
         await ! tt $ pick ! (λ a. split ! $ move ! (1 ∷ []) $
         use1 W (some (λ (ws : Lasts′). ‵ (lasts ans.ended κs x ws) ⊛ raw (fact 𝓤 (Said a (left ws))))) (id⊢ 𝓤 _) $
         pick ! (λ ws. split ! $ move ! (1 ∷ []) $ heard ! (Said a (left ws)) (λ e.
-        fsplit ! $ drop ! $ fsplit ! $ drop ! $ fsplit ! $ drop ! $ fsplit ! $ drop ! $ fsplit ! $ fsplit ! $
+        fsplit ! $ drop ! $ fsplit ! $ drop ! $ fsplit ! $ drop ! $ fsplit ! $ drop ! $ fsplit ! $ drop ! $ fsplit ! $
+        fsplit ! $
         move ! (1 ∷ []) $ drop ! $ move ! (1 ∷ []) $ drop ! $ move ! (1 ∷ []) $ split ! $ move ! (1 ∷ []) $
         peeks ! S.the-row (Is S.the-row) (shows 𝓤 H A S.the-row) a (u ∷ []) (λ is. drop ! $
-        -- [the tokens; the records' last list; _8 at 2; _7; the answer, _6, at 6; …; room for _0 at 18]
+        -- [the tokens; the records' last list; _9 at 2; _8; the answer, _7, at 6; …; room for _0 at 20]
         land ! (from ! (stop !)) (init ! 6 refl (EL.lawful S.the-type S′.the-laws 𝓤 H A W tt .typed a _ is .0)) $
-        rewrite ! 6 (λ (w : Val). ‵ (fat fullShare S′.mir l₆ 0 w))
+        rewrite ! 6 (λ (w : Val). ‵ (fat fullShare S′.mir l₇ 0 w))
         (ap only (EL.tells S.the-type S′.the-laws a _ is)) refl $
         use1 W (raw (Told 𝓤 H A at-mem run .pre (to-told a)) ⊛ Tokens)
         (lent-told a (subst (Is S.the-row a) (EL.tells S.the-type S′.the-laws a _ is) is)) $
         split ! $
-        -- [what `of_questions` asks; the tokens; the records' last list; _8 at 3; _7; _6 at 7; …]
+        -- [what `of_questions` asks; the tokens; the records' last list; _9 at 3; _8; _7 at 7; …]
         calls-at ! fm (Told 𝓤 H A at-mem run) known′ (to-told a)
         (and-then ! (load ! (from ! (stop !)) (look ! 7 refl)) (no-more !)) (λ u′.
         use1 W (later (some (λ (r : QuestionsAnswer). (‵ ftrue ⊛ ‵ (R.the-row .own r (u′ ∷ []))) ⊛ raw (Ensured a r))))
@@ -245,17 +251,18 @@ module _ {M : Type 1} (𝓤 : URA M) (H : Heap 𝓤) (A : Atoms 𝓤) (W : Given
         use1 W (raw (fact 𝓤 (r ≡ questionsAnswer (answeredSays a)))) (known-told a r) $
         heard ! (r ≡ questionsAnswer (answeredSays a)) (λ f. split ! $ drop ! $
         peeks ! R.the-row (Is R.the-row) (shows 𝓤 H A R.the-row) r (u′ ∷ []) (λ is′. drop ! $
-        land ! (from ! (stop !)) (init ! 18 refl (LL.lawful R.the-type R′.the-laws 𝓤 H A W .typed r _ is′ .0)) $
-        rewrite ! 18 (λ (w : Val). ‵ (fat fullShare R′.mir l₀ 0 w))
+        land ! (from ! (stop !)) (init ! 20 refl (LL.lawful R.the-type R′.the-laws 𝓤 H A W .typed r _ is′ .0)) $
+        rewrite ! 20 (λ (w : Val). ‵ (fat fullShare R′.mir l₀ 0 w))
         (ap only (LL.tells R.the-type R′.the-laws r _ is′)) refl $
-        -- [the tokens; the records' last list; _8 at 2; …; _0 at 18]
-        returns ! (look ! 18 refl) $ forget ! 2 refl $ forget ! 4 refl $ forget ! 6 refl $ forget ! 8 refl $
+        -- [the tokens; the records' last list; _9 at 2; …; _0 at 20]
+        returns ! (look ! 20 refl) $ forget ! 2 refl $ forget ! 4 refl $ forget ! 6 refl $ forget ! 8 refl $
         forget ! 10 refl $ forget ! 12 refl $ forget ! 14 refl $ forget ! 16 refl $ forget ! 18 refl $
-        move ! (18 ∷ 19 ∷ []) $ free1 ! $ move ! (16 ∷ 17 ∷ []) $ free1 ! $ move ! (14 ∷ 15 ∷ []) $ free1 ! $
+        forget ! 20 refl $ move ! (20 ∷ 21 ∷ []) $ free1 ! $ move ! (18 ∷ 19 ∷ []) $ free1 ! $
+        move ! (16 ∷ 17 ∷ []) $ free1 ! $ move ! (14 ∷ 15 ∷ []) $ free1 ! $
         move ! (12 ∷ 13 ∷ []) $ free1 ! $ move ! (10 ∷ 11 ∷ []) $ free1 ! $ move ! (8 ∷ 9 ∷ []) $ free1 ! $
         move ! (6 ∷ 7 ∷ []) $ free1 ! $ move ! (4 ∷ 5 ∷ []) $ free1 ! $ move ! (2 ∷ 3 ∷ []) $ free1 ! $ free0 ! $
         by ! (exits (left ws) r (length-left _ _ _ _ _ e) (promised a r (left ws) e f)
-        (subst (Is R.the-row r) (LL.tells R.the-type R′.the-laws r _ is′) is′))))))))))))))))))))
+        (subst (Is R.the-row r) (LL.tells R.the-type R′.the-laws r _ is′) is′)))))))))))))))))))))
 
 module _ {M : Type 1} (𝓤 : URA M) (H : Heap 𝓤) (A : Atoms 𝓤) (W : Given 𝓤 H A) (mem : Memory → SProp 𝓤)
     (run : Routine → Fun 𝓤) (𝓣 : Tables 𝓤 H) (known : Triple 𝓤 (𝓣 .C #questions·answer) (Ans 𝓤 H A mem run))
@@ -263,7 +270,7 @@ module _ {M : Type 1} (𝓤 : URA M) (H : Heap 𝓤) (A : Atoms 𝓤) (W : Given
   host-walks : Walks 𝓤 H A host.ended stayed (WpFn 𝓤 H (𝓣 .C) (𝓣 .Λ) code.function) (host.clauses 𝓤 H A mem run)
   host-walks =
       walked 𝓤 H A host.ended stayed (host.clauses 𝓤 H A mem run) (WpFn 𝓤 H (𝓣 .C) (𝓣 .Λ) code.function)
-      (λ κs. (uint-vals w32, (slice-vals, (slice-vals, (slice-vals, (slice-vals, tt))))))
+      (λ κs. (uint-vals w32, (slice-vals, (slice-vals, (slice-vals, (slice-vals, (slice-vals, tt)))))))
       (λ κs. (
         uint-tells w32,
         (
@@ -272,27 +279,33 @@ module _ {M : Type 1} (𝓤 : URA M) (H : Heap 𝓤) (A : Atoms 𝓤) (W : Given
             shr-slice-tells (named 1) (κs .1 .0) u32,
             (
               shr-slice-tells (named 2) (κs .1 .1 .0) u32,
-              (mut-slice-tells (named 3) (κs .1 .1 .1 .0) T.the-row, tt),
+              (
+                shr-slice-tells (named 3) (κs .1 .1 .1 .0) u32,
+                (mut-slice-tells (named 4) (κs .1 .1 .1 .1 .0) T.the-row, tt),
+              ),
             ),
           ),
         ),
       ))
       (λ κs qs bounds a g are. via 𝓤 _ (fst∗ 𝓤 _ (emp 𝓤)) (walk 𝓤 H A W mem run (κs .0) (κs .1 .0) (κs .1 .1 .0)
-      (κs .1 .1 .1 .0) (qs .0) (qs .1 .0) (qs .1 .1 .0) (qs .1 .1 .1 .0) (a .0) (are .0 .1) (a .1 .0) (a .1 .1 .0)
-      (a .1 .1 .1 .0) (a .1 .1 .1 .1 .0 .ptr .0) (a .1 .1 .1 .1 .0 .ptr .1) (a .1 .1 .1 .1 .0 .name)
-      (a .1 .1 .1 .1 .0 .now) (are .1 .1 .1 .1 .0 .0 .1) 𝓣 (fmOf 𝓤 H (W .laws) 𝓣) known known′ (are .1 .0) (are .1 .1 .0)
-      (are .1 .1 .1 .0)))
+      (κs .1 .1 .1 .0) (κs .1 .1 .1 .1 .0) (qs .0) (qs .1 .0) (qs .1 .1 .0) (qs .1 .1 .1 .0) (qs .1 .1 .1 .1 .0) (a .0)
+      (are .0 .1) (a .1 .0) (a .1 .1 .0) (a .1 .1 .1 .0) (a .1 .1 .1 .1 .0) (a .1 .1 .1 .1 .1 .0 .ptr .0)
+      (a .1 .1 .1 .1 .1 .0 .ptr .1) (a .1 .1 .1 .1 .1 .0 .name) (a .1 .1 .1 .1 .1 .0 .now) (are .1 .1 .1 .1 .1 .0 .0 .1) 𝓣
+      (fmOf 𝓤 H (W .laws) 𝓣) known known′ (are .1 .0) (are .1 .1 .0) (are .1 .1 .1 .0) (are .1 .1 .1 .1 .0)))
 
-  goes : AllGo 𝓤 H A W 4 (host.signature .params) (host.ended .kept) stayed
+  goes : AllGo 𝓤 H A W 5 (host.signature .params) (host.ended .kept) stayed
   goes = (
-    goes-dropped 𝓤 H A W 4 (num 1) yes (λ κs x f. refl),
+    goes-dropped 𝓤 H A W 5 (num 2) yes (λ κs x f. refl),
     (
-      goes-dropped 𝓤 H A W 4 (list₁ 1) yes (λ κs x f. refl),
+      goes-dropped 𝓤 H A W 5 (list₁ 2) yes (λ κs x f. refl),
       (
-        goes-dropped 𝓤 H A W 4 (list₂ 1) yes (λ κs x f. refl),
+        goes-dropped 𝓤 H A W 5 (list₂ 2) yes (λ κs x f. refl),
         (
-          goes-dropped 𝓤 H A W 4 (list₃ 1) yes (λ κs x f. refl),
-          (goes-gave-slice 𝓤 H A W 4 3 tt record₀, tt),
+          goes-dropped 𝓤 H A W 5 (list₃ 2) yes (λ κs x f. refl),
+          (
+            goes-dropped 𝓤 H A W 5 (list₄ 1) yes (λ κs x f. refl),
+            (goes-gave-slice 𝓤 H A W 5 4 tt record₀, tt),
+          ),
         ),
       ),
     ),

@@ -11,7 +11,7 @@ lend-requires c κs = omega arith
 
 returns : tie.Need-returns
 returns c =
-    let k = c .before .before .before .before .before .args .count in
+    let k = c .before .before .before .before .before .before .args .count in
     let e : min k 8 ≡ 8 = min-eq-right (omega arith) in
     rw e (c .lend .ensures)
 
@@ -20,7 +20,7 @@ lend-requires-2 c κs = omega arith
 
 returns-2 : tie.Need-returns-2
 returns-2 c =
-    let k = c .before .before .before .before .before .args .count in
+    let k = c .before .before .before .before .before .before .args .count in
     let e : min k 8 ≡ k = min-eq-left (omega arith) in
     rw e (c .lend2 .ensures)
 

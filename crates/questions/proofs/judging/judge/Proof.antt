@@ -3,7 +3,7 @@ use Rattle.questions.proofs.Turning.{judge-falls, judge-goes, judge-sta
 use mathlib.Core.Path.{sym, _∙_}
 use native.Mathlib.Omega.{arith}
 use denote.Ref.{now}
-use Rattle.tables.specs.Tables.{tables}
+use Rattle.tables.specs.Tables.{links}
 use borrow.Author.Needs.{needs}
 use Rattle.questions.proofs.judging.judge.Statement.{statement}
 use Rattle.questions.proofs.judging.judge.Tie as tie
@@ -20,7 +20,7 @@ is-clear-requires c κs = search needs
 go-on-requires : tie.Need-go-on-requires
 go-on-requires c κs =
     let s = c .before .before .before .before .before .before .before .before in
-    clear-findable _ _ (s .args .s .standing) _ _ (sym (c .before .is-clear .ensures) ∙ c .if2 .taken) (s .pre (s .args .q .place) (omega arith))
+    clear-findable _ (s .args .s .standing) _ _ (sym (c .before .is-clear .ensures) ∙ c .if2 .taken) (s .pre (s .args .q .place) (omega arith))
 
 returns-2 : tie.Need-returns-2
 returns-2 c =
@@ -30,8 +30,8 @@ returns-2 c =
 stay-requires : tie.Need-stay-requires
 stay-requires c κs =
     let s = c .before .before .before .before .before .before .before .before in
-    let t = tables (now (s .args .starts)) (now (s .args .images)) (now (s .args .holders)) in
-    staying _ t (s .args .s .standing) (s .args .s .interval) (s .args .q .place) (s .pre (s .args .q .place) (omega arith))
+    let k = links (now (s .args .starts)) (now (s .args .images)) (now (s .args .holders)) in
+    staying k (s .args .s .standing) (s .args .s .interval) (s .args .q .place) (s .pre (s .args .q .place) (omega arith))
 
 returns-3 : tie.Need-returns-3
 returns-3 c =
