@@ -15,7 +15,7 @@ use Rattle.outcomes.proofs.Judging.{done-refused, judge-append, below-none, lon
 use Rattle.runs.specs.Runs.{Runs, countOf}
 use Rattle.runs.specs.Check.{checkOf}
 use Rattle.runs.specs.Legal.{Legal}
-use Rattle.tables.specs.Tables.{Tables, tablesOf, sizeOf, allColumns}
+use Rattle.tables.specs.Tables.{Tables, tablesOf, allColumns}
 use Rattle.cuts.specs.Balance.{balanced, boundOf, sizeAt}
 use Rattle.cuts.specs.Cuts.{withCuts, CutsStand}
 use Rattle.cuts.proofs.Balancing.{balanced-count}
@@ -25,12 +25,12 @@ use Rattle.plans.specs.declared.CutsAt.{CutsAt}
 use Rattle.plans.proofs.Outcomes.{planned-list, planned-sizes, planned-done}
 use Rattle.plans.proofs.Clearing.{swept-cleared}
 use Rattle.plans.proofs.Fitted.{size-few, sought-unlimited, found-planned, found-cuts}
-use Rattle.balance.specs.Lent.{Lent, lentColumns, Room, balanceOf, filledTables, Balances}
+use Rattle.balance.specs.Lent.{Lent, lentColumns, Room, balanceOf, intervalCount, filledTables, Balances}
 use Rattle.balance.specs.Parts.{TablesWritten, Fillable, fillOf, Fills}
 use Rattle.balance.specs.declared.Balanced.{Balanced}
 use Rattle.balance.specs.declared.Balanced.the-variants.{Intervals, Refused}
 
--- 8 for the three tables
+-- 8 for the four tables
 module _ (size : ℕ) (t entry : Tables) where
   pub fill-short : anyShort size (allColumns entry) ≡ true → fillOf size t entry ≡ refused 8 size
   unfolding fillOf judge
@@ -53,7 +53,7 @@ module _ (size : ℕ) (t entry : Tables) where
   unfolding fillOf judge
   fill-done e = rw e
 
-  pub fills-done : anyShort size (allColumns entry) ≡ false → (exit : Tables) → TablesWritten t entry exit → size ≡ sizeOf t
+  pub fills-done : anyShort size (allColumns entry) ≡ false → (exit : Tables) → TablesWritten t entry exit → size ≡ intervalCount t
       → Fills size t entry exit (Intervals size)
   unfolding mapDone filledTables
   fills-done e exit w k = let f = fill-done e in record { says = rw f (ap done k); written = rw f w }
@@ -136,7 +136,7 @@ module _ (n : ℕ) (r : Runs) (d : ℕ) (l : Lent) (swept : List ℕ) (plan : Cu
       ∙ ap (λ (q : Runs). fillOf (sizeAt n r d) (tablesOf n q) (l .tables)) (g .list-is)
       ∙ sym (balance-passed n r d l planned) in
       record {
-        says = w .says ∙ ap (mapDone sizeOf) o;
+        says = w .says ∙ ap (mapDone intervalCount) o;
         written = w .written ∙ ap (λ (q : Outcome Tables). filledTables q (l .tables)) o;
         working = c ∙ swept-cleared n r d (l .working) planned swept (f .rest);
       }

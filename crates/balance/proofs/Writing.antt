@@ -12,7 +12,7 @@ use Rattle.runs.specs.Legal.{Legal}
 use Rattle.runs.specs.Runs.{Runs, runs, countOf, startOf, imageOf, endOf, runAt, mapOf}
 use Rattle.runs.proofs.Legality.{homes, home, run-at, image-below}
 use lib.Seq.{take-at}
-use Rattle.tables.specs.Tables.{tables, tablesOf}
+use Rattle.tables.specs.Tables.{tables, lengthsOf, tablesOf}
 use Rattle.runs.proofs.Walks.{run-below}
 use Rattle.merging.specs.Merged.{merged, Starts}
 use Rattle.merging.specs.Marks.{At}
@@ -104,7 +104,7 @@ module _ (n : ℕ) (r : Runs) (cuts starts₀ images₀ : List ℕ) (c : Starts 
                 (omega (arith, length-map l (mapOf n r)));
           }
 
--- the first entries of the two tables are the list after the cuts, and with its holders in the third its tables
+-- the first entries of the two tables are the list after the cuts, and with its holders and lengths in the others its tables
 module _ (n : ℕ) (r : Runs) (cuts starts images starts′ images′ : List ℕ)
     (w : ListWritten n r cuts starts images starts′ images′) where
   pub list-taken : (k : ℕ) → k ≡ countOf r + length cuts → runs (take k starts′) (take k images′) ≡ withCuts n r cuts
@@ -116,9 +116,11 @@ module _ (n : ℕ) (r : Runs) (cuts starts images starts′ images′ : List ℕ
       ∙ take-at (map (mapOf n r) m) _ k (length-map m (mapOf n r) ∙ h) in
       λ j. runs (s j) (i j)
 
-  pub tables-written : (k : ℕ) (holders holders′ : List ℕ) → k ≡ countOf r + length cuts
+  pub tables-written : (k : ℕ) (holders holders′ lengths lengths′ : List ℕ) → k ≡ countOf r + length cuts
       → holders′ ≡ over (map (runAt n (runs (take k starts′) (take k images′))) (take k images′)) holders
-      → TablesWritten (tablesOf n (withCuts n r cuts)) (tables starts images holders) (tables starts′ images′ holders′)
-  tables-written k holders holders′ e f =
+      → lengths′ ≡ over (lengthsOf n (take k starts′)) lengths
+      → TablesWritten (tablesOf n (withCuts n r cuts)) (tables starts images holders lengths) (tables starts′ images′ holders′ lengths′)
+  tables-written k holders holders′ lengths lengths′ e f g =
       let h = f ∙ ap (λ (q : Runs). over (map (runAt n q) (q .images)) holders) (list-taken k e) in
-      λ j. tables (w .starts-at-exit j) (w .images-at-exit j) (h j)
+      let l = g ∙ ap (λ (q : Runs). over (lengthsOf n (q .starts)) lengths) (list-taken k e) in
+      λ j. tables (w .starts-at-exit j) (w .images-at-exit j) (h j) (l j)

@@ -16,28 +16,28 @@ abbrev pub balancedSays : Balanced → Outcome ℕ
 balancedSays (Intervals k) = done k
 balancedSays (Refused r) = refusalSays r
 
--- the three tables, with any numbers in them and of any lengths, and the working table, as their owner lends them
+-- the four tables, with any numbers in them and of any sizes, and the working table, as their owner lends them
 pub record Lent : Type 0 where
   pub tables : Tables
   pub working : List ℕ
 
-abbrev pub lent : List ℕ → List ℕ → List ℕ → List ℕ → Lent
-lent s i h w = record { tables = tables s i h; working = w }
+abbrev pub lent : List ℕ → List ℕ → List ℕ → List ℕ → List ℕ → Lent
+lent s i h l w = record { tables = tables s i h l; working = w }
 
 -- all that is lent, the working table last
 abbrev pub lentColumns : Lent → List (List ℕ)
 lentColumns l = allColumns (l .tables) ++ (l .working ∷ [])
 
--- the first k entries of the three tables
+-- the first k entries of the four tables
 abbrev pub firstOf : ℕ → Lent → Tables
 firstOf k l = eachColumn (take k) (l .tables)
 
--- what is lent has room for a balanced list: K entries in each of the three tables, and B in the working table
+-- what is lent has room for a balanced list: K entries in each of the four tables, and B in the working table
 pub record Room (n : ℕ) (r : Runs) (d : ℕ) (l : Lent) : Type 0 where
   pub tables : Long (sizeAt n r d) (allColumns (l .tables))
   pub working : workingSize d (countOf r) ≤ length (l .working)
 
--- 1 to 7 and 8 for the working table, then 8 for the three: one of them has fewer than K entries
+-- 1 to 7 and 8 for the working table, then 8 for the four: one of them has fewer than K entries
 abbrev pub balanceTests : ℕ → Runs → ℕ → Lent → List Test
 balanceTests n r d l =
     planTests n r d (length (l .working)) ++ (shortTest (sizeAt n r d) (allColumns (l .tables)) ∷ [])
@@ -45,14 +45,18 @@ balanceTests n r d l =
 unfoldable pub balanceOf : ℕ → Runs → ℕ → Lent → Outcome Tables
 balanceOf n r d l = judge (balanceTests n r d l) (tablesOf n (balanced d n r))
 
+-- K, which is answered
+abbrev pub intervalCount : Tables → ℕ
+intervalCount t = sizeOf (t .links)
+
 -- what lent tables hold after a call that writes tables to their first entries, as `filled` says of one
 unfoldable pub filledTables : Outcome Tables → Tables → Tables
 filledTables (done t) entry = eachPair over t entry
 filledTables (refused k p) entry = entry
 
--- What `balance` promises: the answer K, the tables of the balanced list in the first K entries of the three, and every
+-- What `balance` promises: the answer K, the tables of the balanced list in the first K entries of the four, and every
 -- other entry as it was, after a refusal all of them; and the working table at exit, cleared also where the last test applies.
 pub record Balances (n : ℕ) (r : Runs) (d : ℕ) (entry exit : Lent) (answer : Balanced) : Type 0 where
-  pub says : balancedSays answer ≡ mapDone sizeOf (balanceOf n r d entry)
+  pub says : balancedSays answer ≡ mapDone intervalCount (balanceOf n r d entry)
   pub written : exit .tables ≡ filledTables (balanceOf n r d entry) (entry .tables)
   pub working : exit .working ≡ clearedBy n r d (entry .working)

@@ -7,9 +7,9 @@ use Rattle.outcomes.specs.Outcome.{Outcome, shortTest, judge, mapDone, over}
 use Rattle.merging.specs.Merged.{Starts}
 use Rattle.runs.specs.Legal.{Legal}
 use Rattle.runs.specs.Runs.{Runs, countOf}
-use Rattle.tables.specs.Tables.{Tables, sizeOf, allColumns, eachPair}
+use Rattle.tables.specs.Tables.{Tables, allColumns, eachPair}
 use Rattle.cuts.specs.Cuts.{withCuts}
-use Rattle.balance.specs.Lent.{balancedSays, filledTables}
+use Rattle.balance.specs.Lent.{balancedSays, intervalCount, filledTables}
 use Rattle.balance.specs.declared.Balanced.{Balanced}
 use Rattle.balance.specs.declared.Sizes.{Sizes}
 
@@ -28,9 +28,9 @@ pub record ListWritten (n : ℕ) (r : Runs) (cuts starts images starts′ images
 abbrev pub TablesWritten : Tables → Tables → Tables → Type 0
 TablesWritten t entry exit = exit ≡ eachPair over t entry
 
--- the lengths of the three tables, by the names that the code has for them, as a list
+-- the sizes of the four tables, by the names that the code has for them, as a list
 abbrev pub allSizes : Sizes → List ℕ
-allSizes s = s .starts ∷ s .images ∷ s .holders ∷ []
+allSizes s = s .starts ∷ s .images ∷ s .holders ∷ s .lengths ∷ []
 
 -- 8 for tables that are to hold `size` intervals, and what is written to them
 unfoldable pub fillOf : ℕ → Tables → Tables → Outcome Tables
@@ -43,5 +43,5 @@ pub record Fillable (n : ℕ) (r : Runs) (cuts : List ℕ) : Type 0 where
   pub few : countOf r + length cuts < 4294967296
 
 pub record Fills (size : ℕ) (t entry exit : Tables) (answer : Balanced) : Type 0 where
-  pub says : balancedSays answer ≡ mapDone sizeOf (fillOf size t entry)
+  pub says : balancedSays answer ≡ mapDone intervalCount (fillOf size t entry)
   pub written : exit ≡ filledTables (fillOf size t entry) entry

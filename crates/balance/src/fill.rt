@@ -2,11 +2,12 @@
 use merging::Mark;
 ghost use mathlib.Core.Path.{_≡_};
 ghost use mathlib.Core.List.{map};
-ghost use Prim.Native.Nat.{_+_, _≤_};
+ghost use Prim.Native.Nat.{_+_, _≤_, _<_};
 ghost use lib.ListN.{length};
 ghost use Rattle.runs.specs.Legal.{Legal};
+ghost use Rattle.runs.specs.Parts.{Lasts};
 ghost use Rattle.runs.specs.Runs.{runs, runAt, mapOf};
-ghost use Rattle.tables.specs.Tables.{tables, tablesOf, allColumns};
+ghost use Rattle.tables.specs.Tables.{tables, lengthsOf, tablesOf, allColumns};
 ghost use Rattle.merging.specs.Merged.{Starts};
 ghost use Rattle.cuts.specs.Cuts.{withCuts};
 ghost use Rattle.balance.specs.Parts.{Has, ListWritten, TablesWritten};
@@ -60,6 +61,21 @@ fn write_holders(n: u32, starts: &[u32], images: &[u32], to: &mut [u32])
     }
 }
 
+// Writes the length of each interval: where it ends minus its start. The last one, which ends at n, stands apart, so that each
+// turn does the same and the compiler can make several at a time.
+fn write_lengths(n: u32, starts: &[u32], to: &mut [u32])
+    requires { ⌜ (0 < length (now starts)) × Lasts n (now starts) × (length (now starts) ≤ length (now to)) ⌝ }
+    ensures { λ _. ⌜ now (to .exit) ≡ over (lengthsOf n (now (starts .entry))) (now (to .entry)) ⌝ }
+{
+    let last = starts.len() - 1;
+    let mut x = 0;
+    while x < last {
+        to[x] = starts[x + 1] - starts[x];
+        x += 1;
+    }
+    to[last] = n - starts[last];
+}
+
 // Writes the tables of the list after the cuts.
 pub(crate) fn write_tables(
     n: u32,
@@ -69,16 +85,18 @@ pub(crate) fn write_tables(
     to_starts: &mut [u32],
     to_images: &mut [u32],
     to_holders: &mut [u32],
+    to_lengths: &mut [u32],
 )
     requires { ⌜ Legal n (runs (now starts) (now images)) × Starts n (now starts) (now cuts)
         × Long (length (now starts) + length (now cuts))
-        (allColumns (tables (now «to_starts») (now «to_images») (now «to_holders»))) ⌝ }
+        (allColumns (tables (now «to_starts») (now «to_images») (now «to_holders») (now «to_lengths»))) ⌝ }
     ensures { λ _. ⌜ TablesWritten
         (tablesOf n (withCuts n (runs (now (starts .entry)) (now (images .entry))) (now (cuts .entry))))
-        (tables (now («to_starts» .entry)) (now («to_images» .entry)) (now («to_holders» .entry)))
-        (tables (now («to_starts» .exit)) (now («to_images» .exit)) (now («to_holders» .exit))) ⌝ }
+        (tables (now («to_starts» .entry)) (now («to_images» .entry)) (now («to_holders» .entry)) (now («to_lengths» .entry)))
+        (tables (now («to_starts» .exit)) (now («to_images» .exit)) (now («to_holders» .exit)) (now («to_lengths» .exit))) ⌝ }
 {
     write_list(n, starts, images, cuts, to_starts, to_images);
     let k = starts.len() + cuts.len();
     write_holders(n, &to_starts[..k], &to_images[..k], to_holders);
+    write_lengths(n, &to_starts[..k], to_lengths);
 }

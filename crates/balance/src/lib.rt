@@ -2,7 +2,7 @@
 // 2d of them.
 //
 // What balancing is stands in the crate cuts (specs/Balance), and where to cut is planned by the crate plans; the tests, and what
-// stands in each lent table at exit, in specs/Lent. All is decided before one of the three tables is written.
+// stands in each lent table at exit, in specs/Lent. All is decided before one of the four tables is written.
 
 mod fill;
 
@@ -23,11 +23,12 @@ pub enum Balanced {
     Refused(outcomes::Refusal),
 }
 
-// The lengths of the three tables.
+// The sizes of the four tables.
 struct Sizes {
     starts: usize,
     images: usize,
     holders: usize,
+    lengths: usize,
 }
 
 // Whether one of them is below `size`.
@@ -40,10 +41,13 @@ fn is_short(size: usize, sizes: Sizes) -> bool
     if sizes.images < size {
         return true;
     }
-    sizes.holders < size
+    if sizes.holders < size {
+        return true;
+    }
+    sizes.lengths < size
 }
 
-// Test 8 for the three tables, and the tables of the list after the cuts. Answers how many intervals they have.
+// Test 8 for the four tables, and the tables of the list after the cuts. Answers how many intervals they have.
 fn fill_tables(
     n: u32,
     starts: &[u32],
@@ -52,27 +56,38 @@ fn fill_tables(
     to_starts: &mut [u32],
     to_images: &mut [u32],
     to_holders: &mut [u32],
+    to_lengths: &mut [u32],
 ) -> Balanced
     requires { ⌜ Fillable n (runs (now starts) (now images)) (now cuts) ⌝ }
     ensures { λ r. ⌜ Fills (length (now (starts .entry)) + length (now (cuts .entry)))
         (tablesOf n (withCuts n (runs (now (starts .entry)) (now (images .entry))) (now (cuts .entry))))
-        (tables (now («to_starts» .entry)) (now («to_images» .entry)) (now («to_holders» .entry)))
-        (tables (now («to_starts» .exit)) (now («to_images» .exit)) (now («to_holders» .exit))) r ⌝ }
+        (tables (now («to_starts» .entry)) (now («to_images» .entry)) (now («to_holders» .entry)) (now («to_lengths» .entry)))
+        (tables (now («to_starts» .exit)) (now («to_images» .exit)) (now («to_holders» .exit)) (now («to_lengths» .exit))) r ⌝ }
 {
     let size = starts.len() + cuts.len();
     let sizes = Sizes {
         starts: to_starts.len(),
         images: to_images.len(),
         holders: to_holders.len(),
+        lengths: to_lengths.len(),
     };
     if is_short(size, sizes) {
         return Balanced::Refused(outcomes::Refusal::ShortTable(size as u32));
     }
-    fill::write_tables(n, starts, images, cuts, to_starts, to_images, to_holders);
+    fill::write_tables(
+        n,
+        starts,
+        images,
+        cuts,
+        to_starts,
+        to_images,
+        to_holders,
+        to_lengths,
+    );
     Balanced::Intervals(size as u32)
 }
 
-// Balances the list at the degree `d`: its tables come to stand in the first K entries of the three lent ones, and the
+// Balances the list at the degree `d`: its tables come to stand in the first K entries of the four lent ones, and the
 // first B entries of `working` to be 0. Answers K. Tests 1 to 7, 8 for the working table with B, and 8 for the others with K;
 // the last one leaves the working table as success does, and nothing else is changed by a refusal.
 pub fn balance(
@@ -83,11 +98,14 @@ pub fn balance(
     to_starts: &mut [u32],
     to_images: &mut [u32],
     to_holders: &mut [u32],
+    to_lengths: &mut [u32],
     working: &mut [u32],
 ) -> Balanced
     ensures { λ r. ⌜ Balances n (runs (now (starts .entry)) (now (images .entry))) d
-        (lent (now («to_starts» .entry)) (now («to_images» .entry)) (now («to_holders» .entry)) (now (working .entry)))
-        (lent (now («to_starts» .exit)) (now («to_images» .exit)) (now («to_holders» .exit)) (now (working .exit))) r ⌝ }
+        (lent (now («to_starts» .entry)) (now («to_images» .entry)) (now («to_holders» .entry)) (now («to_lengths» .entry))
+        (now (working .entry)))
+        (lent (now («to_starts» .exit)) (now («to_images» .exit)) (now («to_holders» .exit)) (now («to_lengths» .exit))
+        (now (working .exit))) r ⌝ }
 {
     let planned = plans::plan(n, starts, images, plans::NO_LIMIT, d, working);
     match planned {
@@ -101,6 +119,7 @@ pub fn balance(
                 to_starts,
                 to_images,
                 to_holders,
+                to_lengths,
             );
             plans::clear(d, starts.len(), working);
             answer

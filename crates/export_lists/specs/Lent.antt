@@ -6,15 +6,14 @@ use mathlib.Core.List.{List}
 use Rattle.outcomes.specs.Outcome.{mapDone, filled}
 use Rattle.runs.specs.Runs.{Runs}
 use Rattle.lists.specs.Inverse.{inverseListOf}
-use Rattle.tables.specs.Tables.{sizeOf}
-use Rattle.balance.specs.Lent.{Lent, Balances, balanceOf}
+use Rattle.balance.specs.Lent.{Lent, Balances, balanceOf, intervalCount}
 use Rattle.balance.specs.declared.Balanced.{Balanced}
 use Rattle.export_lists.specs.Answers.{listAnswer, balanceAnswer}
 use Rattle.export_lists.specs.declared.ListAnswer.{ListAnswer}
 use Rattle.export_lists.specs.declared.BalanceAnswer.{BalanceAnswer}
 
 pub record BalanceAnswered (n : ℕ) (r : Runs) (d : ℕ) (entry exit : Lent) (answer : BalanceAnswer) : Type 0 where
-  pub says : answer ≡ balanceAnswer (mapDone sizeOf (balanceOf n r d entry))
+  pub says : answer ≡ balanceAnswer (mapDone intervalCount (balanceOf n r d entry))
   pub library : Balanced
   pub at-exit : Balances n r d entry exit library
 

@@ -1,4 +1,5 @@
-// Check, the inverse list and balance as C functions on numbers and slices, for a host program in Rust or C: thin above the proved operations.
+// Check, the inverse list and balance as C functions on numbers and slices, for a host program in Rust or C: thin above the proved
+// operations.
 //
 // A slice passes as pointer and length. Each answer is a struct by value: `number` 0 means done; else it is the paper's
 // number, `place` is the place given with it, and the other fields are 0. specs/Answers.antt says which answer each
@@ -35,7 +36,7 @@ pub extern "C" fn zibewoka_check(n: u32, starts: &[u32], images: &[u32]) -> List
     answers::of_list(lists::check(n, starts, images))
 }
 
-// Balances a list into three lent tables, over a lent working table.
+// Balances a list into four lent tables, over a lent working table.
 #[no_mangle]
 pub extern "C" fn zibewoka_balance(
     n: u32,
@@ -45,11 +46,14 @@ pub extern "C" fn zibewoka_balance(
     to_starts: &mut [u32],
     to_images: &mut [u32],
     to_holders: &mut [u32],
+    to_lengths: &mut [u32],
     working: &mut [u32],
 ) -> BalanceAnswer
     ensures { λ r. ⌜ BalanceAnswered n (runs (now (starts .entry)) (now (images .entry))) d
-        (lent (now («to_starts» .entry)) (now («to_images» .entry)) (now («to_holders» .entry)) (now (working .entry)))
-        (lent (now («to_starts» .exit)) (now («to_images» .exit)) (now («to_holders» .exit)) (now (working .exit))) r ⌝ }
+        (lent (now («to_starts» .entry)) (now («to_images» .entry)) (now («to_holders» .entry)) (now («to_lengths» .entry))
+        (now (working .entry)))
+        (lent (now («to_starts» .exit)) (now («to_images» .exit)) (now («to_holders» .exit)) (now («to_lengths» .exit))
+        (now (working .exit))) r ⌝ }
 {
     answers::of_balance(balance::balance(
         n,
@@ -59,6 +63,7 @@ pub extern "C" fn zibewoka_balance(
         to_starts,
         to_images,
         to_holders,
+        to_lengths,
         working,
     ))
 }

@@ -14,9 +14,9 @@ use Rattle.outcomes.proofs.Judging.{done-refused, long-less}
 use Rattle.outcomes.specs.Degree.{noDegree}
 use Rattle.outcomes.proofs.Degrees.{degree-in}
 use Rattle.runs.proofs.Accepted.{accepted-legal}
-use Rattle.tables.specs.Tables.{Tables, tablesOf, sizeOf}
+use Rattle.tables.specs.Tables.{Tables, tablesOf}
 use Rattle.cuts.specs.Balance.{balanced, boundOf}
-use Rattle.balance.specs.Lent.{Lent, lentColumns, Room, firstOf, balancedSays, balanceOf, Balances}
+use Rattle.balance.specs.Lent.{Lent, lentColumns, Room, firstOf, balancedSays, balanceOf, intervalCount, Balances}
 use Rattle.plans.proofs.Outcomes.{sized-degree, planned-refused, planned-accepted}
 use Rattle.balance.proofs.Outcomes.{balance-refused, balance-done, room-in-bound}
 use Rattle.balance.specs.declared.Balanced.{Balanced}
@@ -65,22 +65,22 @@ module _ (h : Header) (r : Runs) (few : countOf r ≤ maxListed) (entry : Lent) 
       go (refused k p) a = balance-refused (h .n) r (h .d) entry k p (sym (planned-refused (h .n) r (h .d) _ k p (sym a)))
 
   module _ (exit : Lent) (answer : Balanced) (b : Balances (h .n) r (h .d) entry exit answer) where
-    says : balancedSays answer ≡ mapDone (λ g. sizeOf goal) (listedOf h r)
+    says : balancedSays answer ≡ mapDone (λ g. intervalCount goal) (listedOf h r)
     unfolding mapDone
-    says = b .says ∙ ap (mapDone sizeOf) balance-listed ∙ go (listedOf h r)
+    says = b .says ∙ ap (mapDone intervalCount) balance-listed ∙ go (listedOf h r)
       where
-        go : (o : Outcome Header) → mapDone sizeOf (mapDone (λ g. goal) o) ≡ mapDone (λ g. sizeOf goal) o
+        go : (o : Outcome Header) → mapDone intervalCount (mapDone (λ g. goal) o) ≡ mapDone (λ g. intervalCount goal) o
         go (done g) = refl
         go (refused k p) = refl
 
     -- a refusal
-    refused-text : (f : Refusal) → answer ≡ Refused f → listText r (listedOf h r) ≡ answerText h answer (exit .tables .list)
+    refused-text : (f : Refusal) → answer ≡ Refused f → listText r (listedOf h r) ≡ answerText h answer (exit .tables .links .list)
     unfolding mapDone listText answerText
     refused-text f q = rw q (go (listedOf h r) (sym (ap balancedSays q) ∙ says))
       where
-        go : (o : Outcome Header) → refused (numberOf f) (placeOf f) ≡ mapDone (λ g. sizeOf goal) o
-            → listText r o ≡ answerText h (Refused f) (exit .tables .list)
-        go (done g) z = absurd (done-refused (sizeOf goal) (numberOf f) (placeOf f) (sym z))
+        go : (o : Outcome Header) → refused (numberOf f) (placeOf f) ≡ mapDone (λ g. intervalCount goal) o
+            → listText r o ≡ answerText h (Refused f) (exit .tables .links .list)
+        go (done g) z = absurd (done-refused (intervalCount goal) (numberOf f) (placeOf f) (sym z))
         go (refused k p) z =
             let u : k ≡ numberOf f = cc in
             let v : p ≡ placeOf f = cc in
@@ -92,7 +92,7 @@ module _ (h : Header) (r : Runs) (few : countOf r ≤ maxListed) (entry : Lent) 
       unfolding mapDone
       passed = go (listedOf h r) refl (sym (ap balancedSays q) ∙ says)
         where
-          go : (o : Outcome Header) → listedOf h r ≡ o → done k ≡ mapDone (λ g. sizeOf goal) o
+          go : (o : Outcome Header) → listedOf h r ≡ o → done k ≡ mapDone (λ g. intervalCount goal) o
               → (listedOf h r ≡ done h) × (k ≡ countOf (balanced (h .d) (h .n) r))
           go (done g) z w = (z ∙ ap done (listed-done h r g z .0), cc)
           go (refused j p) z w = absurd (done-refused k j p w)
@@ -114,14 +114,14 @@ module _ (h : Header) (r : Runs) (few : countOf r ≤ maxListed) (entry : Lent) 
             first,
           )
 
-      table-text : listText r (listedOf h r) ≡ answerText h answer (exit .tables .list)
+      table-text : listText r (listedOf h r) ≡ answerText h answer (exit .tables .links .list)
       unfolding listText answerText
-      table-text = rw (q, passed .0) (ap (λ (τ : Tables). tableText h (τ .list)) (sym (heads .1)))
+      table-text = rw (q, passed .0) (ap (λ (τ : Tables). tableText h (τ .links .list)) (sym (heads .1)))
 
-    text-is : listText r (listedOf h r) ≡ answerText h answer (exit .tables .list)
+    text-is : listText r (listedOf h r) ≡ answerText h answer (exit .tables .links .list)
     text-is = go answer refl
       where
-        go : (a : Balanced) → answer ≡ a → listText r (listedOf h r) ≡ answerText h answer (exit .tables .list)
+        go : (a : Balanced) → answer ≡ a → listText r (listedOf h r) ≡ answerText h answer (exit .tables .links .list)
         go (Intervals k) q = table-text k q
         go (Refused f) q = refused-text f q
 
@@ -130,5 +130,5 @@ module _ (h : Header) (r : Runs) (few : countOf r ≤ maxListed) (entry exit : L
   pub answered : Answered (h .n) answer (exit .tables)
   answered k q = heads h r few entry s exit answer b k q .0
 
-  pub answer-is : listText r (listedOf h r) ≡ answerText h answer (exit .tables .list)
+  pub answer-is : listText r (listedOf h r) ≡ answerText h answer (exit .tables .links .list)
   answer-is = text-is h r few entry s exit answer b

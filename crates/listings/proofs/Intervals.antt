@@ -8,7 +8,7 @@ use mir.Syntax.{w64}
 use mir.Val.{SFits, toZ, ofZ}
 use Rattle.order.proofs.Laws.{count-le}
 use Rattle.outcomes.specs.Outcome.{done, refused}
-use Rattle.runs.specs.Runs.{startOf, imageOf, imageEnd, shiftOf, runAt}
+use Rattle.runs.specs.Runs.{Runs, countOf, startOf, imageOf, imageEnd, shiftOf, runAt}
 use Rattle.outcomes.proofs.Judging.{done-refused}
 use Rattle.runs.proofs.Sums.{inside, length-keep}
 use Rattle.runs.proofs.Legality.{image-below, own}
@@ -23,51 +23,58 @@ use Rattle.listings.specs.Listing.{rowText, rowOf}
 use Rattle.listings.specs.Parts.{maxRow, Listed}
 use Rattle.listings.proofs.Lengths.{shift-small, row-length}
 
-module _ (n : ℕ) (t : Tables) (l : Listed n t) (x : ℕ) (h : x < sizeOf t) where
-  below : imageOf (t .list) x < n
-  below = image-below n (t .list) (l .legal) x h
+module _ (n : ℕ) (t : Tables) (l : Listed n t) (x : ℕ) (h : x < sizeOf (t .links)) where
+  abbrev r : Runs
+  r = t .links .list
 
-  holder-run : holderOf t x ≡ runAt n (t .list) (imageOf (t .list) x)
-  holder-run = ap (λ (τ : Tables). holderOf τ x) (l .held) ∙ holder-is n (t .list) (l .legal) (omega (arith, l .few)) x h
+  below : imageOf r x < n
+  below = image-below n r (l .legal) x h
 
-  holder-below : runAt n (t .list) (imageOf (t .list) x) < sizeOf t
-  holder-below = own n (t .list) (l .legal) (imageOf (t .list) x) below .0
+  holder-run : holderOf (t .links) x ≡ runAt n r (imageOf r x)
+  holder-run = ap (λ (τ : Tables). holderOf (τ .links) x) (l .held) ∙ holder-is n r (l .legal) (omega (arith, l .few)) x h
 
-  weight-few : weight n (t .list) x ≤ sizeOf t
-  weight-few = omega (arith, length-keep (inside (imageOf (t .list) x) (imageEnd n (t .list) x)) (t .list .starts), count-le (inside (imageOf (t .list) x) (imageEnd n (t .list) x)) (t .list .starts))
+  holder-below : runAt n r (imageOf r x) < countOf r
+  holder-below = own n r (l .legal) (imageOf r x) below .0
 
-  row-is : (z : ℤ) (w : ℕ) → z ≡ shiftOf (t .list) x → w ≡ weight n (t .list) x
-      → rowText x (startOf (t .list) x) (imageOf (t .list) x) z (holderOf t x) w ≡ rowOf n (t .list) x
+  weight-few : weight n r x ≤ countOf r
+  weight-few =
+      let i = inside (imageOf r x) (imageEnd n r x) in
+      omega (arith, length-keep i (r .starts), count-le i (r .starts))
+
+  row-is : (z : ℤ) (w : ℕ) → z ≡ shiftOf r x → w ≡ weight n r x
+      → rowText x (startOf r x) (imageOf r x) z (holderOf (t .links) x) w ≡ rowOf n r x
   unfolding rowOf
   row-is z w e f = rw (e, f, holder-run)
 
-  -- the same of the shift's bits, which are small
-  module _ (small : n < maxSize) (z : ℤ) (f : SFits w64 z) (e : z ≡ shiftOf (t .list) x) where
-    pub bits-small : natAbs (toZ w64 (ofZ w64 z)) < maxSize
-    bits-small =
-        rw (bits-back z f, e)
-        (shift-small (imageOf (t .list) x) (startOf (t .list) x) (omega (arith, below)) (omega (arith, l .legal .below x h)))
+  shift-bound : n < maxSize → natAbs (shiftOf r x) < maxSize
+  shift-bound small = shift-small (imageOf r x) (startOf r x) (omega (arith, below)) (omega (arith, l .legal .below x h))
 
-    pub row-bits : (w : ℕ) → w ≡ weight n (t .list) x
-        → rowText x (startOf (t .list) x) (imageOf (t .list) x) (toZ w64 (ofZ w64 z)) (holderOf t x) w ≡ rowOf n (t .list) x
+  -- the same of the shift's bits, which are small
+  module _ (small : n < maxSize) (z : ℤ) (f : SFits w64 z) (e : z ≡ shiftOf r x) where
+    pub bits-small : natAbs (toZ w64 (ofZ w64 z)) < maxSize
+    bits-small = rw (bits-back z f, e) (shift-bound small)
+
+    pub row-bits : (w : ℕ) → w ≡ weight n r x
+        → rowText x (startOf r x) (imageOf r x) (toZ w64 (ofZ w64 z)) (holderOf (t .links) x) w ≡ rowOf n r x
     row-bits w g = row-is (toZ w64 (ofZ w64 z)) w (bits-back z f ∙ e) g
 
-  pub holders-long : length (t .holders) ≡ sizeOf t
-  holders-long = ap (λ (τ : Tables). length (τ .holders)) (l .held) ∙ length-map (t .list .images) (runAt n (t .list)) ∙ l .legal .paired
+  pub holders-long : length (t .links .holders) ≡ countOf r
+  holders-long =
+      ap (λ (τ : Tables). length (τ .links .holders)) (l .held) ∙ length-map (r .images) (runAt n r) ∙ l .legal .paired
 
-  pub row-most : n < maxSize → length (rowOf n (t .list) x) ≤ maxRow
+  pub row-most : n < maxSize → length (rowOf n r x) ≤ maxRow
   unfolding rowOf
   row-most m =
-      row-length x (startOf (t .list) x) (imageOf (t .list) x) (shiftOf (t .list) x) (runAt n (t .list) (imageOf (t .list) x)) (weight n (t .list) x)
-      (omega (arith, l .few)) (omega (arith, l .legal .below x h)) (omega (arith, below))
-      (shift-small (imageOf (t .list) x) (startOf (t .list) x) (omega (arith, below)) (omega (arith, l .legal .below x h))) (omega (arith, holder-below, l .few)) (omega (arith, weight-few, l .few))
+      row-length x (startOf r x) (imageOf r x) (shiftOf r x) (runAt n r (imageOf r x)) (weight n r x)
+      (omega (arith, l .few)) (omega (arith, l .legal .below x h)) (omega (arith, below)) (shift-bound m)
+      (omega (arith, holder-below, l .few)) (omega (arith, weight-few, l .few))
 
   -- the weight that it is given
-  weight-is : weightOf n t x ≡ done (weight n (t .list) x)
-  weight-is = ap (λ (τ : Tables). weightOf n τ x) (l .held) ∙ legal-weight n (t .list) (l .legal) (omega (arith, l .few)) x h
+  weight-is : weightOf n t x ≡ done (weight n r x)
+  weight-is = ap (λ (τ : Tables). weightOf n τ x) (l .held) ∙ legal-weight n r (l .legal) (omega (arith, l .few)) x h
 
-  pub weighed : (w : ℕ) → done w ≡ weightOf n t x → w ≡ weight n (t .list) x
-  weighed w e = let f : done w ≡ done (weight n (t .list) x) = e ∙ weight-is in cc
+  pub weighed : (w : ℕ) → done w ≡ weightOf n t x → w ≡ weight n r x
+  weighed w e = let f : done w ≡ done (weight n r x) = e ∙ weight-is in cc
 
   pub unrefused : {A : Type 0} → (k p : ℕ) → refused k p ≡ weightOf n t x → A
-  unrefused k p e = absurd (done-refused (weight n (t .list) x) k p (sym (e ∙ weight-is)))
+  unrefused k p e = absurd (done-refused (weight n r x) k p (sym (e ∙ weight-is)))

@@ -14,38 +14,40 @@ use Rattle.listings.specs.Listing.{rowOf}
 use Rattle.listings.specs.Parts.{maxRow, Listed}
 use Rattle.listings.proofs.Intervals.{row-most}
 
-pub texts-most : (n : ℕ) (t : Tables) → Listed n t → n < maxSize → (x : ℕ) → x ≤ sizeOf t
-    → length (texts (rowOf n (t .list)) (upTo x)) ≤ maxRow * x
+pub texts-most : (n : ℕ) (t : Tables) → Listed n t → n < maxSize → (x : ℕ) → x ≤ sizeOf (t .links)
+    → length (texts (rowOf n (t .links .list)) (upTo x)) ≤ maxRow * x
 texts-most n t l small zero h = omega arith
 texts-most n t l small (suc x) h =
     omega (
       arith,
-      ap length (texts-suc (rowOf n (t .list)) x),
-      length-append (texts (rowOf n (t .list)) (upTo x)) (rowOf n (t .list) x),
+      ap length (texts-suc (rowOf n (t .links .list)) x),
+      length-append (texts (rowOf n (t .links .list)) (upTo x)) (rowOf n (t .links .list) x),
       texts-most n t l small x (omega arith),
       row-most n t l x h small,
     )
 
 -- x lines are written, from `at` on
 pub record Rows (n : ℕ) (t : Tables) (page₀ : List ℕ) (at : ℕ) (page : List ℕ) (next x : ℕ) : Type 0 where
-  pub within : x ≤ sizeOf t
-  pub wrote : Wrote page₀ at (texts (rowOf n (t .list)) (upTo x)) page next
+  pub within : x ≤ sizeOf (t .links)
+  pub wrote : Wrote page₀ at (texts (rowOf n (t .links .list)) (upTo x)) page next
 
 pub rows-start : (n : ℕ) (t : Tables) (page : List ℕ) (at : ℕ) → at ≤ length page → Rows n t page at page at 0
 rows-start n t page at h = record { within = omega arith; wrote = wrote-nothing page at h }
 
-module _ (n : ℕ) (t : Tables) (l : Listed n t) (small : n < maxSize) (page₀ : List ℕ) (at : ℕ) (room : at + maxRow * sizeOf t ≤ length page₀)
-    (page : List ℕ) (next x : ℕ) (r : Rows n t page₀ at page next x) (h : x < sizeOf t) where
-  rows-fit : Fits page₀ at (texts (rowOf n (t .list)) (upTo x) ++ rowOf n (t .list) x)
+module _ (n : ℕ) (t : Tables) (l : Listed n t) (small : n < maxSize) (page₀ : List ℕ) (at : ℕ)
+    (room : at + maxRow * sizeOf (t .links) ≤ length page₀) (page : List ℕ) (next x : ℕ)
+    (r : Rows n t page₀ at page next x) (h : x < sizeOf (t .links)) where
+  rows-fit : Fits page₀ at (texts (rowOf n (t .links .list)) (upTo x) ++ rowOf n (t .links .list) x)
   rows-fit =
-      let m = rw (texts-next (rowOf n (t .list)) x) at (texts-most n t l small (x + 1) (omega arith)) in
+      let m = rw (texts-next (rowOf n (t .links .list)) x) at (texts-most n t l small (x + 1) (omega arith)) in
       record { room = omega arith }
 
-  pub row-fits : Fits page next (rowOf n (t .list) x)
+  pub row-fits : Fits page next (rowOf n (t .links .list) x)
   row-fits = fits-second page₀ at _ _ rows-fit page next (r .wrote)
 
-  pub rows-more : (page′ : List ℕ) (next′ : ℕ) → Wrote page next (rowOf n (t .list) x) page′ next′ → Rows n t page₀ at page′ next′ (x + 1)
+  pub rows-more : (page′ : List ℕ) (next′ : ℕ) → Wrote page next (rowOf n (t .links .list) x) page′ next′
+      → Rows n t page₀ at page′ next′ (x + 1)
   rows-more page′ next′ w = record {
     within = omega arith;
-    wrote = rw (texts-next (rowOf n (t .list)) x) (wrote-both page₀ at _ _ rows-fit page next (r .wrote) page′ next′ w);
+    wrote = rw (texts-next (rowOf n (t .links .list)) x) (wrote-both page₀ at _ _ rows-fit page next (r .wrote) page′ next′ w);
   }

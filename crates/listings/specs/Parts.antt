@@ -31,9 +31,9 @@ maxText = 137260
 
 -- tables of a legal list that is short enough to be listed
 pub record Listed (n : ℕ) (t : Tables) : Type 0 where
-  pub legal : Legal n (t .list)
-  pub held : t ≡ tablesOf n (t .list)
-  pub few : sizeOf t ≤ maxTabled
+  pub legal : Legal n (t .links .list)
+  pub held : t ≡ tablesOf n (t .links .list)
+  pub few : sizeOf (t .links) ≤ maxTabled
 
 -- what an answer of balancing makes the text, with the first tables as it left them
 unfoldable pub answerText : Header → Balanced → Runs → List ℕ

@@ -52,13 +52,15 @@ fn answer_text(
     starts: &[u32],
     images: &[u32],
     holders: &[u32],
+    lengths: &[u32],
 ) -> usize
-    requires { ⌜ Answered (h .n) answer (tables (now starts) (now images) (now holders)) × (maxText ≤ length (now page)) ⌝ }
+    requires { ⌜ Answered (h .n) answer (tables (now starts) (now images) (now holders) (now lengths))
+        × (maxText ≤ length (now page)) ⌝ }
     ensures { λ r. ⌜ Wrote (now (page .entry)) 0 (answerText h answer (runs (now (starts .entry)) (now (images .entry)))) (now (page .exit)) r ⌝ }
 {
     match answer {
         Balanced::Refused(r) => refusal_line(page, r),
-        Balanced::Intervals(k) => table(page, h, k, starts, images, holders),
+        Balanced::Intervals(k) => table(page, h, k, starts, images, holders, lengths),
     }
 }
 
@@ -70,6 +72,7 @@ fn list_runs(page: &mut [u8], h: Header, starts: &[u32], images: &[u32]) -> usiz
     let mut to_starts: [u32; MAX_TABLED] = [0; MAX_TABLED];
     let mut to_images: [u32; MAX_TABLED] = [0; MAX_TABLED];
     let mut to_holders: [u32; MAX_TABLED] = [0; MAX_TABLED];
+    let mut to_lengths: [u32; MAX_TABLED] = [0; MAX_TABLED];
     let mut working: [u32; MAX_TABLED] = [0; MAX_TABLED];
     let answer = balance::balance(
         h.n,
@@ -79,9 +82,18 @@ fn list_runs(page: &mut [u8], h: Header, starts: &[u32], images: &[u32]) -> usiz
         &mut to_starts,
         &mut to_images,
         &mut to_holders,
+        &mut to_lengths,
         &mut working,
     );
-    answer_text(page, h, answer, &to_starts, &to_images, &to_holders)
+    answer_text(
+        page,
+        h,
+        answer,
+        &to_starts,
+        &to_images,
+        &to_holders,
+        &to_lengths,
+    )
 }
 
 // Reads the list of a file whose header is right, and writes its listing or the refusal, with room for the list.

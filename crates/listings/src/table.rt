@@ -15,11 +15,18 @@ ghost use Rattle.listings.specs.Listing.{rowOf, tableText};
 ghost use Rattle.listings.specs.Parts.{maxRow, maxText, Listed, Tabled};
 
 // The weight of interval x, which no table of a legal list refuses.
-fn weight_of(n: u32, starts: &[u32], images: &[u32], holders: &[u32], x: u32) -> u32
-    requires { ⌜ Listed n (tables (now starts) (now images) (now holders)) × (x < length (now starts)) ⌝ }
+fn weight_of(
+    n: u32,
+    starts: &[u32],
+    images: &[u32],
+    holders: &[u32],
+    lengths: &[u32],
+    x: u32,
+) -> u32
+    requires { ⌜ Listed n (tables (now starts) (now images) (now holders) (now lengths)) × (x < length (now starts)) ⌝ }
     ensures { λ r. ⌜ r ≡ weight n (runs (now (starts .entry)) (now (images .entry))) x ⌝ }
 {
-    match weights::weight(n, starts, images, holders, x) {
+    match weights::weight(n, starts, images, holders, lengths, x) {
         Weighed::Weight(w) => w,
         Weighed::Refused(_) => 0,
     }
@@ -33,15 +40,17 @@ fn interval_row(
     starts: &[u32],
     images: &[u32],
     holders: &[u32],
+    lengths: &[u32],
     x: u32,
 ) -> usize
-    requires { ⌜ Listed n (tables (now starts) (now images) (now holders)) × (x < length (now starts)) × Fits (now page) at (rowOf n (runs (now starts) (now images)) x) ⌝ }
+    requires { ⌜ Listed n (tables (now starts) (now images) (now holders) (now lengths)) × (x < length (now starts))
+        × Fits (now page) at (rowOf n (runs (now starts) (now images)) x) ⌝ }
     ensures { λ r. ⌜ Wrote (now (page .entry)) at (rowOf n (runs (now (starts .entry)) (now (images .entry))) x) (now (page .exit)) r ⌝ }
 {
     let i = x as usize;
     let start = starts[i];
     let image = images[i];
-    let weight = weight_of(n, starts, images, holders, x);
+    let weight = weight_of(n, starts, images, holders, lengths, x);
     lines::row(
         page,
         at,
@@ -62,20 +71,22 @@ fn rows(
     starts: &[u32],
     images: &[u32],
     holders: &[u32],
+    lengths: &[u32],
 ) -> usize
-    requires { ⌜ Listed n (tables (now starts) (now images) (now holders)) × (at + maxRow * length (now starts) ≤ length (now page)) ⌝ }
+    requires { ⌜ Listed n (tables (now starts) (now images) (now holders) (now lengths))
+        × (at + maxRow * length (now starts) ≤ length (now page)) ⌝ }
     ensures { λ r. ⌜ Wrote (now (page .entry)) at (texts (rowOf n (runs (now (starts .entry)) (now (images .entry)))) (upTo (length (now (starts .entry))))) (now (page .exit)) r ⌝ }
 {
     let mut next = at;
     let mut x = 0;
     while x < starts.len() {
-        next = interval_row(page, next, n, starts, images, holders, x as u32);
+        next = interval_row(page, next, n, starts, images, holders, lengths, x as u32);
         x += 1;
     }
     next
 }
 
-// Writes the listing of a balanced list's tables, the first `size` entries of three, at the page's start.
+// Writes the listing of a balanced list's tables, the first `size` entries of four, at the page's start.
 pub(crate) fn table(
     page: &mut [u8],
     h: Header,
@@ -83,11 +94,20 @@ pub(crate) fn table(
     starts: &[u32],
     images: &[u32],
     holders: &[u32],
+    lengths: &[u32],
 ) -> usize
-    requires { ⌜ Tabled (h .n) size (tables (now starts) (now images) (now holders)) × (maxText ≤ length (now page)) ⌝ }
+    requires { ⌜ Tabled (h .n) size (tables (now starts) (now images) (now holders) (now lengths)) × (maxText ≤ length (now page)) ⌝ }
     ensures { λ r. ⌜ Wrote (now (page .entry)) 0 (tableText h (runs (take size (now (starts .entry))) (take size (now (images .entry))))) (now (page .exit)) r ⌝ }
 {
     let k = size as usize;
     let next = lines::head(page, 0, h.n, h.k, h.d, size);
-    rows(page, next, h.n, &starts[..k], &images[..k], &holders[..k])
+    rows(
+        page,
+        next,
+        h.n,
+        &starts[..k],
+        &images[..k],
+        &holders[..k],
+        &lengths[..k],
+    )
 }

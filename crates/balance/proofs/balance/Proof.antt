@@ -14,25 +14,27 @@ use Rattle.balance.proofs.balance.Tie as tie
 
 -- the places: the call, after its plan, with the cuts known, after the tables are filled, and after the working table is cleared
 abbrev start : tie.After-plan → tie.Start
-start c = c .before .before .before .before .before .before .before .before
+start c = c .before .before .before .before .before .before .before .before .before
 
-abbrev planned : tie.After-slice-known5 → tie.After-plan
+abbrev planned : tie.After-slice-known6 → tie.After-plan
 planned c = c .before .before
 
 abbrev plan-of : tie.After-known-told2 → tie.After-plan
 plan-of c = planned (c .before .before .before)
 
-abbrev filled : tie.After-slice-known8 → tie.After-fill-tables
-filled c = c .before .before .before .before .before .before
+abbrev filled : tie.After-slice-known10 → tie.After-fill-tables
+filled c = c .before .before .before .before .before .before .before .before
 
 abbrev cut : tie.After-fill-tables → tie.After-known-told2
-cut c = c .before .before .before .before .before
+cut c = c .before .before .before .before .before .before
 
 abbrev list-of : tie.Start → Runs
 list-of a = runs (a .args .starts .now) (a .args .images .now)
 
 abbrev lent-of : tie.Start → Lent
-lent-of a = lent (a .args .to-starts .now) (a .args .to-images .now) (a .args .to-holders .now) (a .args .working .now)
+lent-of a =
+    lent (a .args .to-starts .now) (a .args .to-images .now) (a .args .to-holders .now) (a .args .to-lengths .now)
+    (a .args .working .now)
 
 -- what a plan promises, where it is known which
 promised : (c : tie.After-plan) (p : Planned) → c .plan .result ≡ p → let a = start c in
@@ -65,7 +67,7 @@ slice-aggregate-fill-tables c =
 
 fill-tables-requires : tie.Need-fill-tables-requires
 fill-tables-requires c κs =
-    let k = c .before .before .before .before in
+    let k = c .before .before .before .before .before in
     let a = start (plan-of k) in
     plan-fillable _ (list-of a) _ (lent-of a) _ _ (found k)
 
@@ -97,6 +99,9 @@ same-length-4 c = search needs
 same-length-5 : tie.Need-same-length-5
 same-length-5 c = search needs
 
+same-length-6 : tie.Need-same-length-6
+same-length-6 c = search needs
+
 returns-2 : tie.Need-returns-2
 returns-2 c =
     let w = c .before .before in
@@ -122,4 +127,5 @@ balance-spec =
     same-length-3
     same-length-4
     same-length-5
+    same-length-6
     returns-2)

@@ -19,17 +19,17 @@ abbrev list-of : tie.Start → Runs
 list-of a = runs (a .args .starts .now) (a .args .images .now)
 
 abbrev tables-of : tie.Start → Tables
-tables-of a = tables (a .args .to-starts .now) (a .args .to-images .now) (a .args .to-holders .now)
+tables-of a = tables (a .args .to-starts .now) (a .args .to-images .now) (a .args .to-holders .now) (a .args .to-lengths .now)
 
 -- the places: the call that a test belongs to, and a test that is passed, from after the tables are written
 abbrev start : tie.After-is-short → tie.Start
-start c = c .before .before .before .before .before .before .before
+start c = c .before .before .before .before .before .before .before .before
 
-abbrev passed : tie.After-write-tables-arg3 → tie.Else1
-passed c = c .before .before .before
+abbrev passed : tie.After-write-tables-arg4 → tie.Else1
+passed c = c .before .before .before .before
 
-abbrev written : tie.After-slice-known6 → tie.After-write-tables
-written c = c .before .before .before .before .before .before
+abbrev written : tie.After-slice-known8 → tie.After-write-tables
+written c = c .before .before .before .before .before .before .before .before
 
 -- what the test says of the tables
 long : (c : tie.Else1) → let a = start (c .before) in
@@ -42,8 +42,8 @@ add-size c = search needs
 is-short-requires : tie.Need-is-short-requires
 is-short-requires c κs = search needs
 
-cast-t14 : tie.Need-cast-t14
-cast-t14 c = search needs
+cast-t16 : tie.Need-cast-t16
+cast-t16 c = search needs
 
 returns : tie.Need-returns
 returns c =
@@ -56,8 +56,8 @@ write-tables-requires c κs =
     let a = start (e .before) in
     (a .pre .legal, a .pre .starts, none-below _ (map length (allColumns (tables-of a))) (long e))
 
-cast-t23 : tie.Need-cast-t23
-cast-t23 c = search needs
+cast-t27 : tie.Need-cast-t27
+cast-t27 c = search needs
 
 same-length : tie.Need-same-length
 same-length c = search needs
@@ -67,6 +67,9 @@ same-length-2 c = search needs
 
 same-length-3 : tie.Need-same-length-3
 same-length-3 c = search needs
+
+same-length-4 : tie.Need-same-length-4
+same-length-4 c = search needs
 
 returns-2 : tie.Need-returns-2
 returns-2 c =
@@ -82,11 +85,12 @@ fill-tables-spec =
     (tie.spec
     add-size
     is-short-requires
-    cast-t14
+    cast-t16
     returns
     write-tables-requires
-    cast-t23
+    cast-t27
     same-length
     same-length-2
     same-length-3
+    same-length-4
     returns-2)

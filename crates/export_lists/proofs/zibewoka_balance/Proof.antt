@@ -23,9 +23,12 @@ same-length-3 c = search needs
 same-length-4 : tie.Need-same-length-4
 same-length-4 c = search needs
 
+same-length-5 : tie.Need-same-length-5
+same-length-5 c = search needs
+
 returns : tie.Need-returns
 returns c =
-    let b = c .before .before .before .before .before .before .before .before .before .balance in
+    let b = c .before .before .before .before .before .before .before .before .before .before .before .balance in
     record { says = c .of-balance .ensures ∙ ap balanceAnswer (b .ensures .says); library = _; at-exit = b .ensures }
 
 pub zibewoka-balance-spec : {M : Type 1} → statement M
@@ -38,4 +41,5 @@ zibewoka-balance-spec =
     same-length-2
     same-length-3
     same-length-4
+    same-length-5
     returns)

@@ -16,7 +16,7 @@ enum-known-answer-2 c = search needs
 table-requires : tie.Need-table-requires
 table-requires c κs =
     let m = c .before .before in
-    let a = m .before .before .before .before .before .before in
+    let a = m .before .before .before .before .before .before .before in
     (a .pre .0 _ (m .answer2 .given .1), a .pre .1)
 
 same-length : tie.Need-same-length

@@ -1,13 +1,14 @@
--- `write_tables` meets its contract: the holders are those of the list that was just written.
+-- `write_tables` meets its contract: the holders and the lengths are those of the list that was just written.
 use borrow.Author.Needs.{needs}
 use Prim.Native.Nat.{ℕ, _+_}
 use mathlib.Core.Path.{_≡_, refl, sym, subst}
+use mathlib.Core.List.{List}
 use native.Mathlib.Omega.{arith}
 use lib.ListN.{length, take}
 use lib.Seq.{length-take-le}
 use Rattle.runs.specs.Legal.{Legal}
 use Rattle.runs.specs.Runs.{Runs, runs}
-use Rattle.cuts.specs.Cuts.{withCuts}
+use Rattle.runs.proofs.Legality.{homes}
 use Rattle.cuts.proofs.Cutlist.{with-legal}
 use Rattle.balance.proofs.Writing.{list-taken, tables-written}
 use Rattle.balance.proofs.fill.write_tables.Statement.{statement}
@@ -19,23 +20,39 @@ listOf a = runs (a .args .starts .now) (a .args .images .now)
 abbrev sizeOf : tie.Start → ℕ
 sizeOf a = length (a .args .starts .now) + length (a .args .cuts .now)
 
--- the places: the call, and after the list is written
+-- the places: the call, after the list is written, and after its holders are
 abbrev start : tie.After-write-list → tie.Start
-start c = c .before .before .before .before .before .before .before .before .before
+start c = c .before .before .before .before .before .before .before .before .before .before
 
-abbrev listed : tie.After-slice-known5 → tie.After-write-list
+abbrev listed : tie.After-slice-known6 → tie.After-write-list
 listed c = c .before .before .before .before
 
--- the two tables have room for as many entries
-starts-taken : (c : tie.After-write-list)
-    → length (take (sizeOf (start c)) (c .write-list .last .1 .1 .1 .1 .0)) ≡ sizeOf (start c)
+abbrev held : tie.After-slice-known7 → tie.After-write-holders
+held c = c .before .before
+
+abbrev listed-of : tie.After-write-holders → tie.After-write-list
+listed-of c = listed (c .before .before .before .before)
+
+-- the two tables as they are then, as far as they hold the list, for which they have room
+abbrev starts-of : tie.After-write-list → List ℕ
+starts-of c = take (sizeOf (start c)) (c .write-list .last .1 .1 .1 .1 .0)
+
+abbrev images-of : tie.After-write-list → List ℕ
+images-of c = take (sizeOf (start c)) (c .write-list .last .1 .1 .1 .1 .1 .0)
+
+starts-taken : (c : tie.After-write-list) → length (starts-of c) ≡ sizeOf (start c)
 starts-taken c = length-take-le (sizeOf (start c)) (c .write-list .last .1 .1 .1 .1 .0)
     (omega (arith, start c .pre .2 .0, c .write-list .kept .1 .1 .1 .1 .0))
 
-images-taken : (c : tie.After-write-list)
-    → length (take (sizeOf (start c)) (c .write-list .last .1 .1 .1 .1 .1 .0)) ≡ sizeOf (start c)
+images-taken : (c : tie.After-write-list) → length (images-of c) ≡ sizeOf (start c)
 images-taken c = length-take-le (sizeOf (start c)) (c .write-list .last .1 .1 .1 .1 .1 .0)
     (omega (arith, start c .pre .2 .1 .0, c .write-list .kept .1 .1 .1 .1 .1 .0))
+
+-- it is legal
+legal : (c : tie.After-write-list) → Legal (start c .args .n) (runs (starts-of c) (images-of c))
+legal c = let a = start c in
+    subst (Legal (a .args .n)) (sym (list-taken _ (listOf a) _ _ _ _ _ (c .write-list .ensures) (sizeOf a) refl))
+    (with-legal _ (listOf a) _ (a .pre .0) (a .pre .1))
 
 write-list-requires : tie.Need-write-list-requires
 write-list-requires c κs = search needs
@@ -58,12 +75,18 @@ slice-aggregate-write-holders-2 c = sym (images-taken (listed (c .before .before
 write-holders-requires : tie.Need-write-holders-requires
 write-holders-requires c κs =
     let w = listed (c .before .before .before) in
-    let a = start w in
-    let e : runs _ _ ≡ withCuts (a .args .n) (listOf a) (a .args .cuts .now) =
-    list-taken _ (listOf a) _ _ _ _ _ (w .write-list .ensures) (sizeOf a) refl in (
-      subst (Legal (a .args .n)) (sym e) (with-legal _ (listOf a) _ (a .pre .0) (a .pre .1)),
-      omega (arith, starts-taken w, a .pre .2 .1 .1 .0),
-    )
+    (legal w, omega (arith, starts-taken w, start w .pre .2 .1 .1 .0))
+
+slice-reshare-prefix-write-lengths : tie.Need-slice-reshare-prefix-write-lengths
+slice-reshare-prefix-write-lengths c = search needs
+
+slice-aggregate-write-lengths : tie.Need-slice-aggregate-write-lengths
+slice-aggregate-write-lengths c = sym (starts-taken (listed-of (held (c .before))))
+
+write-lengths-requires : tie.Need-write-lengths-requires
+write-lengths-requires c κs =
+    let w = listed-of (held (c .before .before)) in
+    (legal w .some, homes _ _ (legal w) .lasting, omega (arith, starts-taken w, start w .pre .2 .1 .1 .1 .0))
 
 same-length : tie.Need-same-length
 same-length c = search needs
@@ -74,11 +97,16 @@ same-length-2 c = search needs
 same-length-3 : tie.Need-same-length-3
 same-length-3 c = search needs
 
+same-length-4 : tie.Need-same-length-4
+same-length-4 c = search needs
+
 returns : tie.Need-returns
 returns c =
-    let h = c .before .before in
-    let w = listed (h .before .before .before .before) in
-    tables-written _ (listOf (start w)) _ _ _ _ _ (w .write-list .ensures) _ _ _ refl (h .write-holders .ensures)
+    let l = c .before .before in
+    let h = held (l .before .before .before) in
+    let w = listed-of h in
+    tables-written _ (listOf (start w)) _ _ _ _ _ (w .write-list .ensures) _ _ _ _ _ refl
+    (h .write-holders .ensures) (l .write-lengths .ensures)
 
 pub write-tables-spec : {M : Type 1} → statement M
 write-tables-spec =
@@ -91,7 +119,11 @@ write-tables-spec =
     slice-reshare-prefix-write-holders-2
     slice-aggregate-write-holders-2
     write-holders-requires
+    slice-reshare-prefix-write-lengths
+    slice-aggregate-write-lengths
+    write-lengths-requires
     same-length
     same-length-2
     same-length-3
+    same-length-4
     returns)

@@ -3,12 +3,19 @@ use Prim.Native.Nat.{ℕ}
 use mathlib.Core.Path.{sym, subst}
 use mathlib.Core.List.{List}
 use native.Mathlib.Omega.{arith}
-use Rattle.tables.specs.Tables.{tables}
+use Rattle.tables.specs.Tables.{Tables, tables}
 use Rattle.text.specs.Page.{Fits, Wrote}
 use Rattle.listings.proofs.Intervals.{bits-small, row-bits, holders-long}
 use borrow.Author.Needs.{needs}
 use Rattle.listings.proofs.table.interval_row.Statement.{statement}
 use Rattle.listings.proofs.table.interval_row.Tie as tie
+
+abbrev tables-of : tie.Start → Tables
+tables-of a = tables (a .args .starts .now) (a .args .images .now) (a .args .holders .now) (a .args .lengths .now)
+
+-- the call that a weight belongs to
+abbrev start : tie.After-weight-of → tie.Start
+start c = c .before .before .before .before .before .before .before .before
 
 mul-start : tie.Need-mul-start
 mul-start c = search needs
@@ -33,16 +40,17 @@ mul-row c = search needs
 
 shared-slice-read-row : tie.Need-shared-slice-read-row
 shared-slice-read-row c =
-    let a = c .before .before .before .before .before .before .before .before .before .before in
-    omega (arith, holders-long (a .args .n) (tables (a .args .starts .now) (a .args .images .now) (a .args .holders .now)) (a .pre .0) (a .args .x) (a .pre .1))
+    let a = start (c .before .before .before) in
+    omega (arith, holders-long (a .args .n) (tables-of a) (a .pre .0) (a .args .x) (a .pre .1))
 
 row-requires : tie.Need-row-requires
 row-requires c κs =
     let s = c .before in
     let w = s .before .before in
-    let a = w .before .before .before .before .before .before .before in
-    let t = tables (a .args .starts .now) (a .args .images .now) (a .args .holders .now) in
-    let e = row-bits _ t (a .pre .0) _ (a .pre .1) (a .fits .n .fits) _ (record { sfits = s .shift .ok }) (s .shift .ensures) _ (w .weight-of .ensures) in (
+    let a = start w in
+    let t = tables-of a in
+    let e = row-bits _ t (a .pre .0) _ (a .pre .1) (a .fits .n .fits) _ (record { sfits = s .shift .ok })
+    (s .shift .ensures) _ (w .weight-of .ensures) in (
       bits-small _ t (a .pre .0) _ (a .pre .1) (a .fits .n .fits) _ (record { sfits = s .shift .ok }) (s .shift .ensures),
       subst (λ (u : List ℕ). Fits (a .args .page .now) (a .args .at) u) (sym e) (a .pre .2),
     )
@@ -56,9 +64,9 @@ returns c =
     let k = r .before in
     let s = k .before in
     let w = s .before .before in
-    let a = w .before .before .before .before .before .before .before in
-    let t = tables (a .args .starts .now) (a .args .images .now) (a .args .holders .now) in
-    let e = row-bits _ t (a .pre .0) _ (a .pre .1) (a .fits .n .fits) _ (record { sfits = s .shift .ok }) (s .shift .ensures) _ (w .weight-of .ensures) in
+    let a = start w in
+    let e = row-bits _ (tables-of a) (a .pre .0) _ (a .pre .1) (a .fits .n .fits) _ (record { sfits = s .shift .ok })
+    (s .shift .ensures) _ (w .weight-of .ensures) in
     subst (λ (u : List ℕ). Wrote (a .args .page .now) (a .args .at) u (r .row .last .0) (r .row .result)) e (r .row .ensures)
 
 pub interval-row-spec : {M : Type 1} → statement M
