@@ -55,11 +55,13 @@ pub extern "C" fn zibewoka_find(
     starts: &[u32],
     images: &[u32],
     holders: &[u32],
+    lengths: &[u32],
     place: u32,
 ) -> IntervalAnswer
-    ensures { λ r. ⌜ r ≡ findAnswer place (findOf n (tables (now (starts .entry)) (now (images .entry)) (now (holders .entry))) place) ⌝ }
+    ensures { λ r. ⌜ r ≡ findAnswer place (findOf n (tables (now (starts .entry)) (now (images .entry)) (now (holders .entry)) (now (lengths .entry))) place) ⌝ }
 {
-    answers::of_find(walks::find(n, starts, images, holders, place), place)
+    let found = walks::find(n, starts, images, holders, lengths, place);
+    answers::of_find(found, place)
 }
 
 // One move from a place of an interval.
@@ -69,12 +71,21 @@ pub extern "C" fn zibewoka_move(
     starts: &[u32],
     images: &[u32],
     holders: &[u32],
+    lengths: &[u32],
     interval: u32,
     place: u32,
 ) -> MoveAnswer
-    ensures { λ r. ⌜ r ≡ moveAnswer (moveOf n (tables (now (starts .entry)) (now (images .entry)) (now (holders .entry))) interval place) ⌝ }
+    ensures { λ r. ⌜ r ≡ moveAnswer (moveOf n (tables (now (starts .entry)) (now (images .entry)) (now (holders .entry)) (now (lengths .entry))) interval place) ⌝ }
 {
-    let wide = answers::of_moves(walks::move_query(n, starts, images, holders, interval, place));
+    let wide = answers::of_moves(walks::move_query(
+        n,
+        starts,
+        images,
+        holders,
+        lengths,
+        interval,
+        place,
+    ));
     MoveAnswer {
         number: wide.number,
         place: wide.place,
@@ -91,13 +102,23 @@ pub extern "C" fn zibewoka_moves(
     starts: &[u32],
     images: &[u32],
     holders: &[u32],
+    lengths: &[u32],
     interval: u32,
     place: u32,
     m: u32,
 ) -> MovesAnswer
-    ensures { λ r. ⌜ r ≡ movesAnswer (movesOf n (tables (now (starts .entry)) (now (images .entry)) (now (holders .entry))) m interval place) ⌝ }
+    ensures { λ r. ⌜ r ≡ movesAnswer (movesOf n (tables (now (starts .entry)) (now (images .entry)) (now (holders .entry)) (now (lengths .entry))) m interval place) ⌝ }
 {
-    answers::of_moves(walks::repeated_moves(n, starts, images, holders, interval, place, m))
+    answers::of_moves(walks::repeated_moves(
+        n,
+        starts,
+        images,
+        holders,
+        lengths,
+        interval,
+        place,
+        m,
+    ))
 }
 
 // The place that a place is reached from, and its interval.
@@ -107,11 +128,12 @@ pub extern "C" fn zibewoka_inverse(
     starts: &[u32],
     images: &[u32],
     holders: &[u32],
+    lengths: &[u32],
     place: u32,
 ) -> IntervalAnswer
-    ensures { λ r. ⌜ r ≡ inverseAnswer (inverseOf n (tables (now (starts .entry)) (now (images .entry)) (now (holders .entry))) place) ⌝ }
+    ensures { λ r. ⌜ r ≡ inverseAnswer (inverseOf n (tables (now (starts .entry)) (now (images .entry)) (now (holders .entry)) (now (lengths .entry))) place) ⌝ }
 {
-    answers::of_inverse(preimages::inverse(n, starts, images, holders, place))
+    answers::of_inverse(preimages::inverse(n, starts, images, holders, lengths, place))
 }
 
 // How many starts lie under an interval's image.
@@ -121,9 +143,10 @@ pub extern "C" fn zibewoka_weight(
     starts: &[u32],
     images: &[u32],
     holders: &[u32],
+    lengths: &[u32],
     interval: u32,
 ) -> WeightAnswer
-    ensures { λ r. ⌜ r ≡ weightAnswer (weightOf n (tables (now (starts .entry)) (now (images .entry)) (now (holders .entry))) interval) ⌝ }
+    ensures { λ r. ⌜ r ≡ weightAnswer (weightOf n (tables (now (starts .entry)) (now (images .entry)) (now (holders .entry)) (now (lengths .entry))) interval) ⌝ }
 {
-    answers::of_weight(weights::weight(n, starts, images, holders, interval))
+    answers::of_weight(weights::weight(n, starts, images, holders, lengths, interval))
 }

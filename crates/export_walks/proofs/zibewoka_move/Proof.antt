@@ -11,8 +11,8 @@ move-query-requires c κs = search needs
 of-moves-requires : tie.Need-of-moves-requires
 of-moves-requires c κs = search needs
 
-cast-t9 : tie.Need-cast-t9
-cast-t9 c =
+cast-t10 : tie.Need-cast-t10
+cast-t10 c =
     let e = c .before in
     omega (arith, move-answer-count _ _ _ _ _ _ (e .of-moves .ensures) (e .before .move-query .ensures))
 
@@ -22,4 +22,4 @@ returns c =
     move-answer-narrow _ _ _ (e .of-moves .ensures) (e .before .move-query .ensures)
 
 pub zibewoka-move-spec : {M : Type 1} → statement M
-zibewoka-move-spec = tie.close (tie.spec move-query-requires of-moves-requires cast-t9 returns)
+zibewoka-move-spec = tie.close (tie.spec move-query-requires of-moves-requires cast-t10 returns)
