@@ -63,6 +63,7 @@ fn balance_into(
     to_starts: &mut [u32],
     to_images: &mut [u32],
     to_holders: &mut [u32],
+    to_lengths: &mut [u32],
     working: &mut [u32],
 ) {
     let answer = balance::balance(
@@ -73,14 +74,16 @@ fn balance_into(
         to_starts,
         to_images,
         to_holders,
+        to_lengths,
         working,
     );
     answers::balanced(answer);
     print_both(to_starts, to_images);
-    print_both(to_holders, working);
+    print_both(to_holders, to_lengths);
+    out::now(working);
 }
 
-// balance n d, and the sizes of the three lent tables and of the working table
+// balance n d, and the sizes of the four lent tables and of the working table
 pub(crate) fn balance(numbers: &[u32], starts: &[u32], images: &[u32]) {
     let n = rows::number(numbers, 0);
     let d = rows::number(numbers, 1);
@@ -88,9 +91,11 @@ pub(crate) fn balance(numbers: &[u32], starts: &[u32], images: &[u32]) {
     let size_2 = rows::size(numbers, 3);
     let size_3 = rows::size(numbers, 4);
     let size_4 = rows::size(numbers, 5);
+    let size_5 = rows::size(numbers, 6);
     let mut to_starts = [7u32; 256];
     let mut to_images = [7u32; 256];
     let mut to_holders = [7u32; 256];
+    let mut to_lengths = [7u32; 256];
     let mut working = [7u32; 256];
     balance_into(
         n,
@@ -100,7 +105,8 @@ pub(crate) fn balance(numbers: &[u32], starts: &[u32], images: &[u32]) {
         &mut to_starts[0..size],
         &mut to_images[0..size_2],
         &mut to_holders[0..size_3],
-        &mut working[0..size_4],
+        &mut to_lengths[0..size_4],
+        &mut working[0..size_5],
     );
 }
 

@@ -3,7 +3,7 @@
 //
 //     check n : starts : images
 //     inverse-list n, the sizes of two lent tables : starts : images
-//     balance n d, the sizes of three lent tables and of the working table : starts : images
+//     balance n d, the sizes of four lent tables and of the working table : starts : images
 //     file, its count of bytes, the size of a lent text : its words
 //     next-list n, the sizes of two lent tables : starts : images
 //     forecast n d, the size of the working table : starts : images
@@ -23,7 +23,7 @@ fn call(code: usize, numbers: &[u32], a: &[u32], b: &[u32]) {
     match code {
         12 => answers::checked(lists::check(rows::number(numbers, 0), a, b)),
         132 => lent::write_list(numbers, a, b, false),
-        262 => lent::balance(numbers, a, b),
+        272 => lent::balance(numbers, a, b),
         321 => lent::file(numbers, a),
         432 => lent::write_list(numbers, a, b, true),
         532 => lent::size_up(numbers, a, b, false),

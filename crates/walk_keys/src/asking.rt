@@ -1,5 +1,4 @@
 // Questions together, as a row asks them: about at most eight places.
-use few_questions::Few;
 use questions::Answered;
 use questions::Question;
 use rows::out;
@@ -75,9 +74,24 @@ fn records(questions: [Question; 8], count: usize)
 }
 
 // Asks about the places together, and prints the answer and the records.
-pub(crate) fn questions(n: u32, starts: &[u32], images: &[u32], holders: &[u32], places: &[u32]) {
+pub(crate) fn questions(
+    n: u32,
+    starts: &[u32],
+    images: &[u32],
+    holders: &[u32],
+    lengths: &[u32],
+    places: &[u32],
+) {
     let count = eight_of(places.len());
-    let few = few_questions::answer_few(n, starts, images, holders, records_of(places), count);
+    let few = few_questions::answer_few(
+        n,
+        starts,
+        images,
+        holders,
+        lengths,
+        records_of(places),
+        count,
+    );
     let answered = few.answered;
     let left = few.questions;
     answer(answered);

@@ -1,15 +1,15 @@
 // The keys of walks, which are calls on tables: those of the paper that are run and not proved, and each operation with
 // each number that it can refuse with. The library `rows` says what a row is and how it is answered; the calls are
 //
-//     find n i : starts : images : holders
-//     move n x i : starts : images : holders
-//     moves n x i m : starts : images : holders
-//     inverse n j : starts : images : holders
-//     weight n x : starts : images : holders
-//     under n x : starts : images : holders
-//     bookmark n, place, interval, distance, moves, and the count as a high and a low number : starts : images : holders
-//     bookmark-moves n, place, interval and distance of a fresh one, m : starts : images : holders
-//     questions n : starts : images : holders : places, at most eight
+//     find n i : starts : images : holders : lengths
+//     move n x i : starts : images : holders : lengths
+//     moves n x i m : starts : images : holders : lengths
+//     inverse n j : starts : images : holders : lengths
+//     weight n x : starts : images : holders : lengths
+//     under n x : starts : images : holders : lengths
+//     bookmark n, place, interval, distance, moves, and the count as a high and a low number : starts : images : holders : lengths
+//     bookmark-moves n, place, interval and distance of a fresh one, m : starts : images : holders : lengths
+//     questions n : starts : images : holders : lengths : places, at most eight
 //
 // `under` is answered by how many starts there are, and which. A bookmark and the records of questions are lent, so they
 // are printed after the call; a bookmark's move on the spot runs within `bookmark-moves`.
@@ -34,37 +34,51 @@ fn bookmark_at(numbers: &[u32], moves: u32, count: u64) -> Bookmark {
 
 // Moves a bookmark, whose moves stand behind its distance, and behind them its count, as two numbers of 32 bits, the high one
 // first.
-fn advance(n: u32, numbers: &[u32], starts: &[u32], images: &[u32], holders: &[u32]) {
+fn advance(
+    n: u32,
+    numbers: &[u32],
+    starts: &[u32],
+    images: &[u32],
+    holders: &[u32],
+    lengths: &[u32],
+) {
     let high = rows::number(numbers, 5) as u64;
     let low = rows::number(numbers, 6) as u64;
     let before = bookmark_at(numbers, rows::number(numbers, 4), high * 4294967296 + low);
-    answers::marked(bookmarks::advanced(n, starts, images, holders, before));
+    answers::marked(bookmarks::advanced(n, starts, images, holders, lengths, before));
 }
 
 // Moves a bookmark that has made no move, as often as the number behind its distance says.
-fn advance_often(n: u32, numbers: &[u32], starts: &[u32], images: &[u32], holders: &[u32]) {
+fn advance_often(
+    n: u32,
+    numbers: &[u32],
+    starts: &[u32],
+    images: &[u32],
+    holders: &[u32],
+    lengths: &[u32],
+) {
     let fresh = bookmark_at(numbers, 0, 0);
     let m = rows::number(numbers, 4);
-    answers::marked(bookmarks::bookmark_moves(n, starts, images, holders, fresh, m));
+    answers::marked(bookmarks::bookmark_moves(n, starts, images, holders, lengths, fresh, m));
 }
 
-// Runs what is called: a, b and c are starts, images and holders, and d the places of questions. A number or a slice that
-// the row lacks is 0 or empty, and is not looked at.
-fn call(code: usize, numbers: &[u32], a: &[u32], b: &[u32], c: &[u32], d: &[u32]) {
+// Runs what is called: a, b, c and d are starts, images, holders and lengths, and e the places of questions. A number or a slice
+// that the row lacks is 0 or empty, and is not looked at.
+fn call(code: usize, numbers: &[u32], a: &[u32], b: &[u32], c: &[u32], d: &[u32], e: &[u32]) {
     let n = rows::number(numbers, 0);
     let p = rows::number(numbers, 1);
     let q = rows::number(numbers, 2);
     let r = rows::number(numbers, 3);
     match code {
-        23 => answers::found(walks::find(n, a, b, c, p)),
-        133 => answers::moved(walks::move_query(n, a, b, c, p, q)),
-        243 => answers::moved(walks::repeated_moves(n, a, b, c, p, q, r)),
-        323 => answers::inverted(preimages::inverse(n, a, b, c, p)),
-        423 => answers::weighed(weights::weight(n, a, b, c, p)),
-        523 => out::stretch(weights::starts_under(n, a, b, c, p)),
-        673 => advance(n, numbers, a, b, c),
-        753 => advance_often(n, numbers, a, b, c),
-        814 => asking::questions(n, a, b, c, d),
+        24 => answers::found(walks::find(n, a, b, c, d, p)),
+        134 => answers::moved(walks::move_query(n, a, b, c, d, p, q)),
+        244 => answers::moved(walks::repeated_moves(n, a, b, c, d, p, q, r)),
+        324 => answers::inverted(preimages::inverse(n, a, b, c, d, p)),
+        424 => answers::weighed(weights::weight(n, a, b, c, d, p)),
+        524 => out::stretch(weights::starts_under(n, a, b, c, d, p)),
+        674 => advance(n, numbers, a, b, c, d),
+        754 => advance_often(n, numbers, a, b, c, d),
+        815 => asking::questions(n, a, b, c, d, e),
         900..=999 => {}
         _ => out::no_call(),
     }
@@ -85,6 +99,7 @@ fn run_row(line: &[u8], entries: &mut [u32]) {
         rows::part(entries, row, 2),
         rows::part(entries, row, 3),
         rows::part(entries, row, 4),
+        rows::part(entries, row, 5),
     );
 }
 
