@@ -1,12 +1,13 @@
 -- Demand 1. The order of conditions of each operation is read off its definition; what `judge` gives is proved once for
 -- all of them; and a refusal leaves what was lent, since `filled`, `filledTables`, `clearedBy`, `markAfter` and `recordsAfter` do.
-use Prim.Native.Nat.{ℕ, zero, suc, suc-le-suc}
+use Prim.Native.Nat.{ℕ, zero, suc, _<_, suc-le-suc}
 use mathlib.Core.Path.{_≡_, refl, sym, ap, _∙_}
 use mathlib.Core.Bool.{Bool, true, false}
 use mathlib.Core.Logic.{inl, inr}
 use mathlib.Core.List.{List, [], _∷_, map}
 use native.Mathlib.Nat.{not-suc-le-zero, le-of-suc-le-suc}
 use native.Mathlib.Omega.{arith}
+use borrow.Author.Tests.{lt-leb}
 use lib.ListN.{length}
 use Rattle.outcomes.specs.Outcome.{Outcome, done, refused, Test, test, judge, _then_else_}
 use Rattle.outcomes.specs.Refusal.{checkedSays}
@@ -16,18 +17,18 @@ use Rattle.runs.proofs.Written.{writes-kept}
 use Rattle.lists.specs.Inverse.{inverseListOf}
 use Rattle.permutations.specs.Next.{nextOf, nextSays}
 use Rattle.outcomes.proofs.Judging.{done-refused, map-refused}
-use Rattle.tables.specs.Tables.{Tables, sizeOf}
+use Rattle.tables.specs.Tables.{Tables, sizeOf, misshapen, wrongAt}
 use Rattle.walks.specs.Move.{findOf, moveOf, movesOf}
 use Rattle.preimages.specs.Inverse.{inverseOf}
 use Rattle.weights.specs.Under.{weightOf}
-use Rattle.walks.proofs.Moves.{moves-order}
+use Rattle.walks.proofs.Moves.{moves-refused, moves-order}
 use Rattle.weights.proofs.Stretches.{under-length, under-none}
 use Rattle.bookmarks.specs.Bookmark.{bookmarkOf}
 use Rattle.bookmarks.proofs.Marks.{bookmark-kept}
 use Rattle.questions.specs.Questions.{answeredSays, answersOf, filledIn, recordsAfter, Answers}
 use Rattle.questions.specs.declared.Question.{Question}
 use Rattle.questions.specs.declared.Answered.{Answered}
-use Rattle.balance.specs.Lent.{Lent, balancedSays, balanceOf, Balances}
+use Rattle.balance.specs.Lent.{Lent, balancedSays, intervalCount, balanceOf, Balances}
 use Rattle.balance.specs.declared.Balanced.{Balanced}
 use Rattle.balance.proofs.Outcomes.{fill-refused, balance-passed, balance-refused}
 use Rattle.balance.proofs.Heads.{tables-kept}
@@ -84,7 +85,7 @@ module _ {A : Type 0} (a : A) where
       }
       go false q e rest = refused-first t ts k p q (rest e)
 
--- balancing: a refusal goes through to the three tables, and to the working table unless the plan's tests pass
+-- balancing: a refusal goes through to the four tables, and to the working table unless the plan's tests pass
 balance-kept : (n : ℕ) (r : Runs) (d : ℕ) (entry exit : Lent) (o : Balanced) → Balances n r d entry exit o
     → (k p : ℕ) → balancedSays o ≡ refused k p
     → (exit .tables ≡ entry .tables) × KeptUnless 8 (sizeAt n r d) n r d (entry .working) (exit .working) k p
@@ -92,7 +93,7 @@ balance-kept n r d entry exit o c k p e =
     (c .written ∙ tables-kept _ k p (entry .tables) q, go (plannedOf n r d (length (entry .working))) refl)
   where
     q : balanceOf n r d entry ≡ refused k p
-    q = map-refused sizeOf (balanceOf n r d entry) k p (sym (c .says) ∙ e)
+    q = map-refused intervalCount (balanceOf n r d entry) k p (sym (c .says) ∙ e)
 
     go : (u : Outcome (Unit {0})) → plannedOf n r d (length (entry .working)) ≡ u
         → KeptUnless 8 (sizeAt n r d) n r d (entry .working) (exit .working) k p
@@ -130,7 +131,24 @@ questions-kept : (n : ℕ) (t : Tables) (qs : List Question) (a : Answered) (lef
     → (k p : ℕ) → answeredSays a ≡ refused k p → left ≡ qs
 unfolding recordsAfter
 questions-kept n t qs a left w k p e =
-    w .records ∙ ap (λ (o : Outcome ℕ). recordsAfter (filledIn t) o qs) (sym (w .says) ∙ e)
+    w .records ∙ ap (λ (o : Outcome ℕ). recordsAfter (filledIn (t .links)) o qs) (sym (w .says) ∙ e)
+
+-- the tests before one that applies do not
+second-refuses : {A : Type 0} (s t : Test) (ts : List Test) (a : A) → s .applies ≡ false → t .applies ≡ true
+    → judge (s ∷ t ∷ ts) a ≡ refused (t .number) (t .place)
+unfolding judge
+second-refuses s t ts a e f = simp (e, f)
+
+third-refuses : {A : Type 0} (r s t : Test) (ts : List Test) (a : A) → r .applies ≡ false → s .applies ≡ false → t .applies ≡ true
+    → judge (r ∷ s ∷ t ∷ ts) a ≡ refused (t .number) (t .place)
+unfolding judge
+third-refuses r s t ts a d e f = simp (d, e, f)
+
+moves-wrong : (n : ℕ) (t : Tables) (x : ℕ) → misshapen n t ≡ false → x < sizeOf (t .links) → wrongAt n t x ≡ true
+    → (m i : ℕ) → movesOf n t m x i ≡ refused 12 x
+unfolding movesOf
+moves-wrong n t x s h w m i =
+    sym (moves-refused n t 0 m x i 12 x (omega arith) (sym (third-refuses _ _ _ _ _ s (lt-leb _ _ h) w)))
 
 -- what `judge` gives is judged
 judged : {A : Type 0} (order : List ℕ) (ts : List Test) (a : A) → map (λ t. t .number) ts ≡ order → Judged order ts a (judge ts a)
@@ -154,6 +172,13 @@ demand1 = record {
   under-size = λ n t x w e. under-length n t x w (sym e);
   bookmark = λ n t b. judged _ _ _ refl;
   questions = λ n t ps. judged _ _ _ refl;
+  find-wrong = λ n t s w i. second-refuses _ _ _ _ s w;
+  inverse-wrong = λ n t s w j. second-refuses _ _ _ _ s w;
+  questions-wrong = λ n t s w ps. second-refuses _ _ _ _ s w;
+  move-wrong = λ n t x s h w i. third-refuses _ _ _ _ _ s (lt-leb _ _ h) w;
+  moves-wrong = moves-wrong;
+  weight-wrong = λ n t x s h w. third-refuses _ _ _ _ _ s (lt-leb _ _ h) w;
+  bookmark-wrong = λ n t b s h w. third-refuses _ _ _ _ _ s (lt-leb _ _ h) w;
   next-list = λ n r a b. judged _ _ _ refl;
   file = λ most bytes. judged _ _ _ refl;
   inverse-list-kept = λ n r a b a′ b′ o c. writes-kept checkedSays _ (inverseListOf n r a b) a b o a′ b′ c;

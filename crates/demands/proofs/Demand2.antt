@@ -1,8 +1,8 @@
 -- Demand 2: acceptance is `check`'s own theorem (runs/proofs/Sequences, Intervals), and the walks through a list's own tables and
 -- through those of its balanced list are one theorem (Through), since both lists are legal and have one function. What holds
--- of counts, of distances and of questions on any tables is theirs (Moves and Distances of walks, Marks and Distances of bookmarks,
--- Agreeing and Passing of questions, each in proofs/).
-use Prim.Native.Nat.{ℕ, _≤_}
+-- of counts, of distances, of lengths and of questions on any tables is theirs (Moves, Distances and Linked of walks, Lengths of
+-- tables, Marks and Distances of bookmarks, Agreeing and Passing of questions, each in proofs/).
+use Prim.Native.Nat.{ℕ, _≤_, _<_}
 use mathlib.Core.Path.{refl, sym, _∙_}
 use native.Mathlib.Omega.{arith}
 use Rattle.runs.specs.Runs.{Runs, countOf}
@@ -12,6 +12,9 @@ use Rattle.runs.proofs.Accepted.{accepted-legal}
 use Rattle.runs.proofs.Sequences.{accepted-sequence, sequence-accepted}
 use Rattle.runs.proofs.Intervals.{accepted-intervals, intervals-accepted}
 use Rattle.tables.specs.Tables.{maxIntervals}
+use Rattle.order.proofs.Laws.{at-all}
+use Rattle.tables.proofs.Lengths.{right-rise, right-below, right-told}
+use Rattle.walks.proofs.Linked.{find-linked, move-linked, moves-linked, made-linked}
 use Rattle.walks.proofs.Moves.{move-reads}
 use Rattle.walks.proofs.Distances.{move-lies, moves-lie}
 use Rattle.bookmarks.proofs.Marks.{marked-reads}
@@ -56,5 +59,13 @@ demand2 = record {
   questions-agree = records-agree;
   questions-unfound = λ n t qs a left w p e. unfound n t (placesOf qs) p (sym (w .says) ∙ e);
   questions-unmoved = λ n t qs a left w x e. unmoved n t (placesOf qs) x (sym (w .says) ∙ e);
-  questions-pass = λ n t qs a left w c e. passes-once t n qs a left w c e;
+  questions-pass = λ n t qs a left w c e. passes-once n t qs a left w c e;
+  lengths-rise = λ n t right.
+      let l = t .links .list .starts in
+      (right-rise n l (t .lengths) right, at-all (λ s. s < n) l (right-below n l (t .lengths) right));
+  lengths-told = λ n t full right. right-told n (t .links .list .starts) (t .lengths) right full;
+  find-linked = λ n t i full right. find-linked n t full i right;
+  move-linked = λ n t x i full right. move-linked n t full x i right;
+  moves-linked = λ n t m x i full right. moves-linked n t full m x i right;
+  made-linked = λ n t m x i s full e. made-linked n t full m x i s e;
 }

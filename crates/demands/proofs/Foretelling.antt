@@ -13,14 +13,14 @@ use Rattle.outcomes.proofs.Judging.{map-refused, map-done, below-none}
 use Rattle.outcomes.proofs.Searches.{from-le, from-true, from-least, from-none}
 use Rattle.runs.specs.Runs.{Runs, countOf}
 use Rattle.runs.specs.Check.{checkOf}
-use Rattle.tables.specs.Tables.{tablesOf, sizeOf, allColumns}
+use Rattle.tables.specs.Tables.{tablesOf, allColumns}
 use Rattle.cuts.proofs.Balancing.{balanced-cuts}
 use Rattle.cuts.specs.Balance.{balanced, sizeAt}
 use Rattle.plans.specs.Fitting.{fits, leastFrom}
 use Rattle.plans.specs.Working.{workingSize, plannedOf}
 use Rattle.plans.specs.Plan.{soughtOf}
 use Rattle.plans.proofs.Outcomes.{planned-passed, planned-list, planned-sizes, planned-done, planned-number, sought-refused, sought-passed, sought-done, sought-none, fitting-refused}
-use Rattle.balance.specs.Lent.{Lent, balancedSays, Balances}
+use Rattle.balance.specs.Lent.{Lent, balancedSays, intervalCount, Balances}
 use Rattle.balance.specs.Parts.{fillOf}
 use Rattle.balance.specs.declared.Balanced.{Balanced}
 use Rattle.balance.proofs.Outcomes.{balance-passed, fill-short, fill-done}
@@ -52,8 +52,8 @@ module _ (n : ℕ) (r : Runs) (d room : ℕ) (f : BalancedSize) (e : forecastOf 
     short-is : anyShort (sizeAt n r d) (allColumns (entry .tables)) ≡ anyShort (f .intervals) (allColumns (entry .tables))
     short-is = ap (λ (g : BalancedSize). anyShort (g .intervals) (allColumns (entry .tables))) (told .1)
 
-    says : balancedSays answer ≡ mapDone sizeOf (fillOf (sizeAt n r d) (tablesOf n (balanced d n r)) (entry .tables))
-    says = b .says ∙ ap (mapDone sizeOf) (balance-passed n r d entry (planned (length (entry .working)) h))
+    says : balancedSays answer ≡ mapDone intervalCount (fillOf (sizeAt n r d) (tablesOf n (balanced d n r)) (entry .tables))
+    says = b .says ∙ ap (mapDone intervalCount) (balance-passed n r d entry (planned (length (entry .working)) h))
 
     told-balancing : (Long (f .intervals) (allColumns (entry .tables)) → balancedSays answer ≡ done (f .intervals))
         × (anyShort (f .intervals) (allColumns (entry .tables)) ≡ true → balancedSays answer ≡ refused 8 (f .intervals))

@@ -9,6 +9,7 @@ use Rattle.runs.specs.Runs.{Runs, countOf, runAt, mapOf, powerOf}
 use Rattle.runs.specs.Legal.{Legal}
 use Rattle.runs.proofs.Bijection.{map-below, power-below, map-injective, map-onto}
 use Rattle.tables.specs.Tables.{tablesOf, maxIntervals}
+use Rattle.tables.proofs.LegalShape.{legal-length}
 use Rattle.walks.specs.Move.{moveOf, countedAfter}
 use Rattle.preimages.specs.Inverse.{inverseOf}
 use Rattle.walks.specs.declared.Step.{Step}
@@ -93,6 +94,7 @@ through n r t l c few same =
     let move-to : (p : ℕ) → p < n → moveOf n (tablesOf n t) (runAt n t p) p ≡ done (plainMove n r t p) =
     λ p h. legal-move n t c few p h ∙ ap done (move-same n r t p (same p h)) in
     record {
+      lengths = legal-length n t c;
       find = legal-find n t c few;
       move = move-to;
       moves = λ m p h. (legal-moves n t c few m p h ∙ ap done (steps-plain n r t c same m p h), moves-place n r t m p);

@@ -3,11 +3,11 @@
 -- definitions come to. What is promised of small lists beside demand 1 stands in permutations/specs/SmallLists.
 use Prim.Native.Nat.{ℕ, suc, _+_, _*_, _^_, _≤_, _<_}
 use mathlib.Core.Path.{_≡_}
-use mathlib.Core.Bool.{true}
+use mathlib.Core.Bool.{true, false}
 use mathlib.Core.Logic.{_↔_, _⊎_}
 use mathlib.Core.List.{List, [], _∷_, _++_, map}
 use lib.ListN.{length, replicate}
-use Rattle.order.specs.Lists.{All}
+use Rattle.order.specs.Lists.{All, Strict}
 use Rattle.outcomes.specs.Outcome.{done, refused, anyShort, Long, over}
 use Rattle.outcomes.specs.Refusal.{checkedSays}
 use Rattle.runs.specs.Runs.{Runs, countOf, runAt, mapOf, powerOf, carryBack}
@@ -17,10 +17,12 @@ use Rattle.lists.specs.Inverse.{inverseRuns, inverseListOf, InverseListed}
 use Rattle.outcomes.specs.declared.Checked.{Checked}
 use Rattle.permutations.specs.Next.{nextTests, nextRuns, nextOf, nextSays, NextListed}
 use Rattle.permutations.specs.declared.Next.{Next}
-use Rattle.tables.specs.Tables.{Tables, tablesOf, allColumns}
+use Rattle.tables.specs.Tables.{Tables, sizeOf, linksOf, lengthsOf, tablesOf, allColumns, misshapen, wrongAt, allLengths}
+use Rattle.tables.specs.Parts.{Measured}
 use Rattle.walks.specs.Move.{movedSays, findTests, locateTests, moveTests, foundAt, stepOf, stayAt, findOf, moveOf, movesOf, Stopped, ReadsTo, LiesIn}
 use Rattle.preimages.specs.Inverse.{sourceOf, inverseTests, inverseOf}
 use Rattle.weights.specs.Under.{underTests, underCount, weightOf, startsUnderOf}
+use Rattle.walks.specs.Linked.{linkedFind, linkedMove, linkedMoves}
 use Rattle.walks.specs.declared.Step.{Step}
 use Rattle.walks.specs.declared.Moved.{Moved}
 use Rattle.bookmarks.specs.Bookmark.{bookmarkTests, bookmarkOf, fresh, withDistance, Advances, marking, markedSays, markingOf, markingsOf}
@@ -74,29 +76,49 @@ pub record Demand1 : Type 0 where
       → Judged (1 ∷ 2 ∷ 3 ∷ 4 ∷ 5 ∷ 6 ∷ 7 ∷ 8 ∷ []) (planTests n r d room) (forecastAt n r d) (forecastOf n r d room)
   pub least-degree : (n : ℕ) (r : Runs) (entries room : ℕ)
       → Judged (1 ∷ 2 ∷ 3 ∷ 4 ∷ 5 ∷ 6 ∷ 8 ∷ 19 ∷ []) (degreeTests n r entries room) (leastAt n r entries) (leastDegreeOf n r entries room)
+  -- find, inverse and questions test all lengths right after 9: that is the first 12
   pub find : (n : ℕ) (t : Tables) (i : ℕ)
-      → Judged (9 ∷ 11 ∷ []) (findTests n t i) (foundAt t i) (findOf n t i)
+      → Judged (9 ∷ 12 ∷ 11 ∷ []) (findTests n t i) (foundAt (t .links) i) (findOf n t i)
+  -- a move tests the length of its interval between 10 and 11: the first of two 12s
   pub move : (n : ℕ) (t : Tables) (x i : ℕ)
-      → Judged (9 ∷ 10 ∷ 11 ∷ 12 ∷ []) (moveTests n t x i) (stepOf t x i) (moveOf n t x i)
+      → Judged (9 ∷ 10 ∷ 12 ∷ 11 ∷ 12 ∷ []) (moveTests n t x i) (stepOf (t .links) x i) (moveOf n t x i)
   -- a repeated move of no moves; any other is refused exactly where that one is, or where it cannot leave an interval on
   -- the way
   pub no-move : (n : ℕ) (t : Tables) (x i : ℕ)
-      → Judged (9 ∷ 10 ∷ 11 ∷ []) (locateTests n t x i) (stayAt (t .list .starts) x i) (movesOf n t 0 x i)
+      → Judged (9 ∷ 10 ∷ 12 ∷ 11 ∷ []) (locateTests n t x i) (stayAt (t .links .list .starts) x i) (movesOf n t 0 x i)
   pub moves : (n : ℕ) (t : Tables) (m x i k p : ℕ)
       → (movesOf n t m x i ≡ refused k p) ↔ ((movesOf n t 0 x i ≡ refused k p) ⊎ Stopped n t m x i k p)
   pub inverse : (n : ℕ) (t : Tables) (j : ℕ)
-      → Judged (9 ∷ 11 ∷ 14 ∷ []) (inverseTests n t j)
-      (record { place = carryBack (t .list) (sourceOf n (t .list) j) j; interval = sourceOf n (t .list) j }) (inverseOf n t j)
+      → Judged (9 ∷ 12 ∷ 11 ∷ 14 ∷ []) (inverseTests n t j)
+      (record { place = carryBack (t .links .list) (sourceOf t j) j; interval = sourceOf t j }) (inverseOf n t j)
+  -- 12 of the length, and of the rest
   pub weight : (n : ℕ) (t : Tables) (x : ℕ)
-      → Judged (9 ∷ 10 ∷ 12 ∷ []) (underTests n t x) (underCount n t x) (weightOf n t x)
+      → Judged (9 ∷ 10 ∷ 12 ∷ 12 ∷ []) (underTests n t x) (underCount t x) (weightOf n t x)
   -- starts under: none where the weight is refused, else as many as it says
   pub under-refused : (n : ℕ) (t : Tables) (x k p : ℕ) → weightOf n t x ≡ refused k p → startsUnderOf n t x ≡ []
   pub under-size : (n : ℕ) (t : Tables) (x w : ℕ) → weightOf n t x ≡ done w → length (startsUnderOf n t x) ≡ w
   pub bookmark : (n : ℕ) (t : Tables) (b : Bookmark)
-      → Judged (9 ∷ 10 ∷ 11 ∷ 12 ∷ 13 ∷ []) (bookmarkTests n t b) (stepOf t (b .interval) (b .place)) (bookmarkOf n t b)
+      → Judged (9 ∷ 10 ∷ 12 ∷ 11 ∷ 12 ∷ 13 ∷ []) (bookmarkTests n t b) (stepOf (t .links) (b .interval) (b .place))
+      (bookmarkOf n t b)
   -- questions together: 16 before 11, and each over all records before the next
   pub questions : (n : ℕ) (t : Tables) (ps : List ℕ)
-      → Judged (9 ∷ 16 ∷ 11 ∷ 12 ∷ []) (questionTests n t ps) (foundLast t ps (length ps)) (answersOf n t ps)
+      → Judged (9 ∷ 12 ∷ 16 ∷ 11 ∷ 12 ∷ []) (questionTests n t ps) (foundLast (t .links) ps (length ps)) (answersOf n t ps)
+  -- Which of two 12s is meant, told for itself: where a length is wrong in tables of the right shape, that is what is given, whatever
+  -- the place, the number of moves or the records. Of all lengths it is the lowest, and else that of the interval handed in.
+  pub find-wrong : (n : ℕ) (t : Tables) → misshapen n t ≡ false → allLengths n t .applies ≡ true
+      → (i : ℕ) → findOf n t i ≡ refused 12 (allLengths n t .place)
+  pub inverse-wrong : (n : ℕ) (t : Tables) → misshapen n t ≡ false → allLengths n t .applies ≡ true
+      → (j : ℕ) → inverseOf n t j ≡ refused 12 (allLengths n t .place)
+  pub questions-wrong : (n : ℕ) (t : Tables) → misshapen n t ≡ false → allLengths n t .applies ≡ true
+      → (ps : List ℕ) → answersOf n t ps ≡ refused 12 (allLengths n t .place)
+  pub move-wrong : (n : ℕ) (t : Tables) (x : ℕ) → misshapen n t ≡ false → x < sizeOf (t .links) → wrongAt n t x ≡ true
+      → (i : ℕ) → moveOf n t x i ≡ refused 12 x
+  pub moves-wrong : (n : ℕ) (t : Tables) (x : ℕ) → misshapen n t ≡ false → x < sizeOf (t .links) → wrongAt n t x ≡ true
+      → (m i : ℕ) → movesOf n t m x i ≡ refused 12 x
+  pub weight-wrong : (n : ℕ) (t : Tables) (x : ℕ) → misshapen n t ≡ false → x < sizeOf (t .links) → wrongAt n t x ≡ true
+      → weightOf n t x ≡ refused 12 x
+  pub bookmark-wrong : (n : ℕ) (t : Tables) (b : Bookmark) → misshapen n t ≡ false → b .interval < sizeOf (t .links)
+      → wrongAt n t (b .interval) ≡ true → bookmarkOf n t b ≡ refused 12 (b .interval)
   -- the next list: its own 17 and 18, and 8 between them
   pub next-list : (n : ℕ) (r : Runs) (a b : List ℕ)
       → Judged (1 ∷ 2 ∷ 3 ∷ 4 ∷ 5 ∷ 6 ∷ 17 ∷ 8 ∷ 18 ∷ []) (nextTests n r a b) (nextRuns n r) (nextOf n r a b)
@@ -106,7 +128,7 @@ pub record Demand1 : Type 0 where
   -- what is lent, after a refusal
   pub inverse-list-kept : (n : ℕ) (r : Runs) (a b a′ b′ : List ℕ) (o : Checked) → InverseListed n r a b a′ b′ o
       → (k p : ℕ) → checkedSays o ≡ refused k p → (a′ ≡ a) × (b′ ≡ b)
-  -- of balancing: the three tables, always; the working table unless the refusal is 8 with K
+  -- of balancing: the four tables, always; the working table unless the refusal is 8 with K
   pub balance-kept : (n : ℕ) (r : Runs) (d : ℕ) (entry exit : Lent) (o : Balanced) → Balances n r d entry exit o
       → (k p : ℕ) → balancedSays o ≡ refused k p
       → (exit .tables ≡ entry .tables) × KeptUnless 8 (sizeAt n r d) n r d (entry .working) (exit .working) k p
@@ -128,6 +150,8 @@ pub record Demand1 : Type 0 where
 
 -- the walks through the tables of the list t give the function of the list r
 pub record Through (n : ℕ) (r t : Runs) : Type 0 where
+  -- no test of a length applies to them
+  pub lengths : (x : ℕ) → x < countOf t → wrongAt n (tablesOf n t) x ≡ false
   pub find : (p : ℕ) → p < n → findOf n (tablesOf n t) p ≡ done (runAt n t p)
   pub move : (p : ℕ) → p < n → moveOf n (tablesOf n t) (runAt n t p) p ≡ done (plainMove n r t p)
   pub moves : (m p : ℕ) → p < n
@@ -148,7 +172,7 @@ pub record Through (n : ℕ) (r t : Runs) : Type 0 where
   -- are those of places that fall or are not below n
   pub questions : (ps : List ℕ) → answersOf n (tablesOf n t) ps ≡ plainAnswers n t ps
   pub records : (qs : List Question)
-      → recordsAfter (filledIn (tablesOf n t)) (answersOf n (tablesOf n t) (placesOf qs)) qs
+      → recordsAfter (filledIn (linksOf n t)) (answersOf n (tablesOf n t) (placesOf qs)) qs
       ≡ recordsAfter (plainQuestion n r t) (plainAnswers n t (placesOf qs)) qs
   -- the function maps the places one to one onto themselves
   pub onto : (q : ℕ) → q < n → (p : ℕ) × (p < n) × (mapOf n r p ≡ q)
@@ -166,26 +190,28 @@ pub record Demand2 : Type 0 where
   -- The count that a move answers, on any tables: the index of the interval reached minus the holder, which is not above it, and one
   -- more unless that interval is the table's last. So it is for a bookmark, which adds it to its own, and for a question's record; a
   -- repeated move's is the sum (`onwards`).
-  pub move-reads : (n : ℕ) (t : Tables) (x i : ℕ) (s : Step) → moveOf n t x i ≡ done s → ReadsTo t x (s .interval) (s .count)
+  pub move-reads : (n : ℕ) (t : Tables) (x i : ℕ) (s : Step) → moveOf n t x i ≡ done s → ReadsTo (t .links) x (s .interval) (s .count)
   pub bookmark-reads : (n : ℕ) (t : Tables) (b : Bookmark) (m : Moved) (left : Bookmark) → Advances n t b m left
-      → (s : Step) → movedSays m ≡ done s → ReadsTo t (b .interval) (s .interval) (s .count) × (left .count ≡ b .count + s .count)
+      → (s : Step) → movedSays m ≡ done s
+      → ReadsTo (t .links) (b .interval) (s .interval) (s .count) × (left .count ≡ b .count + s .count)
   pub questions-read : (n : ℕ) (t : Tables) (qs : List Question) (a : Answered) (left : List Question) → Answers n t qs a left
-      → (c : ℕ) → answeredSays a ≡ done c → All (λ q. ReadsTo t (q .interval) (q .«to_interval») (q .count)) left
+      → (c : ℕ) → answeredSays a ≡ done c → All (λ q. ReadsTo (t .links) (q .interval) (q .«to_interval») (q .count)) left
   -- The distance that a call answers, on any tables: the interval reached is one of the table's, its start is not above the place
-  -- reached, the difference is exact, and it is below the interval's length. A bookmark holds the same from its first move on.
+  -- reached, the difference is exact, and it is below the interval's length as the starts tell it. A bookmark holds the same from
+  -- its first move on.
   pub move-distance : (n : ℕ) (t : Tables) (x i : ℕ) (s : Step) → moveOf n t x i ≡ done s
-      → LiesIn n t (s .interval) (s .place) (s .distance)
+      → LiesIn n (t .links) (s .interval) (s .place) (s .distance)
   pub moves-distance : (n : ℕ) (t : Tables) (m x i : ℕ) (s : Step) → movesOf n t m x i ≡ done s
-      → LiesIn n t (s .interval) (s .place) (s .distance)
+      → LiesIn n (t .links) (s .interval) (s .place) (s .distance)
   pub bookmark-distance : (n : ℕ) (t : Tables) (b : Bookmark) (m : Moved) (left : Bookmark) → Advances n t b m left
       → (s : Step) → movedSays m ≡ done s
-      → LiesIn n t (s .interval) (s .place) (s .distance) × LiesIn n t (left .interval) (left .place) (left .distance)
+      → LiesIn n (t .links) (s .interval) (s .place) (s .distance) × LiesIn n (t .links) (left .interval) (left .place) (left .distance)
   pub bookmark-moves-distance : (n : ℕ) (t : Tables) (b : Bookmark) (m : ℕ) (s : Step) → markingsOf n t m b .answer ≡ done s
-      → LiesIn n t (s .interval) (s .place) (s .distance)
+      → LiesIn n (t .links) (s .interval) (s .place) (s .distance)
   pub bookmark-moves-left : (n : ℕ) (t : Tables) (b : Bookmark) (m : ℕ)
-      → let c = markingsOf n t m b .bookmark in (c ≡ b) ⊎ LiesIn n t (c .interval) (c .place) (c .distance)
+      → let c = markingsOf n t m b .bookmark in (c ≡ b) ⊎ LiesIn n (t .links) (c .interval) (c .place) (c .distance)
   pub questions-distance : (n : ℕ) (t : Tables) (qs : List Question) (a : Answered) (left : List Question) → Answers n t qs a left
-      → (c : ℕ) → answeredSays a ≡ done c → All (λ q. LiesIn n t (q .«to_interval») (q .«to_place») (q .distance)) left
+      → (c : ℕ) → answeredSays a ≡ done c → All (λ q. LiesIn n (t .links) (q .«to_interval») (q .«to_place») (q .distance)) left
   -- the one that a bookmark held before is not read, on any tables: with any other the answer is the same, to one move and to
   -- many; and where the first move is made, so is the bookmark that one move leaves, and many
   pub distance-unread : (n : ℕ) (t : Tables) (b : Bookmark) (g : ℕ) → bookmarkOf n t (withDistance g b) ≡ bookmarkOf n t b
@@ -198,18 +224,35 @@ pub record Demand2 : Type 0 where
   -- questions that are answered together, on any tables: each record agrees with find and move done alone
   pub questions-agree : (n : ℕ) (t : Tables) (qs : List Question) (a : Answered) (left : List Question) → Answers n t qs a left
       → (c : ℕ) → answeredSays a ≡ done c → All (Agrees n t) left
-  -- where they are refused with 11 or 12, so is find alone for the place given, which is a record's; or a move alone from a
-  -- record's place and the interval given, which find gives for it
+  -- where they are refused with 11, so is find alone for the place given, which is a record's; where with 12, so is find alone for
+  -- every place, by the lengths, or a move alone from a record's place and the interval given, which find gives for it
   pub questions-unfound : (n : ℕ) (t : Tables) (qs : List Question) (a : Answered) (left : List Question) → Answers n t qs a left
       → (p : ℕ) → answeredSays a ≡ refused 11 p
       → (j : ℕ) × (j < length (placesOf qs)) × (placeAt (placesOf qs) j ≡ p) × (findOf n t p ≡ refused 11 p)
   pub questions-unmoved : (n : ℕ) (t : Tables) (qs : List Question) (a : Answered) (left : List Question) → Answers n t qs a left
       → (x : ℕ) → answeredSays a ≡ refused 12 x
-      → (j : ℕ) × (j < length (placesOf qs)) × (findOf n t (placeAt (placesOf qs) j) ≡ done x)
-      × (moveOf n t x (placeAt (placesOf qs) j) ≡ refused 12 x)
+      → ((i : ℕ) → findOf n t i ≡ refused 12 x)
+      ⊎ ((j : ℕ) × (j < length (placesOf qs)) × (findOf n t (placeAt (placesOf qs) j) ≡ done x)
+      × (moveOf n t x (placeAt (placesOf qs) j) ≡ refused 12 x))
   -- where they are answered, one pass over the places finds each record's interval and counts the answer, the last one's
   pub questions-pass : (n : ℕ) (t : Tables) (qs : List Question) (a : Answered) (left : List Question) → Answers n t qs a left
-      → (c : ℕ) → answeredSays a ≡ done c → OnePass t (placesOf qs) left c
+      → (c : ℕ) → answeredSays a ≡ done c → OnePass (t .links) (placesOf qs) left c
+  -- Lengths, on any tables of matched counts. Where all are right the starts rise and lie below n, and find and repeated moves are
+  -- those through the first three columns; so is a move where that of its interval, if there is one, is right.
+  pub lengths-rise : (n : ℕ) (t : Tables) → Measured n t
+      → Strict (t .links .list .starts) × All (λ s. s < n) (t .links .list .starts)
+  -- the starts and n then tell the lengths
+  pub lengths-told : (n : ℕ) (t : Tables) → length (t .lengths) ≡ sizeOf (t .links) → Measured n t
+      → t .lengths ≡ lengthsOf n (t .links .list .starts)
+  pub find-linked : (n : ℕ) (t : Tables) (i : ℕ) → length (t .lengths) ≡ sizeOf (t .links) → Measured n t
+      → findOf n t i ≡ linkedFind n (t .links) i
+  pub move-linked : (n : ℕ) (t : Tables) (x i : ℕ) → length (t .lengths) ≡ sizeOf (t .links)
+      → (x < sizeOf (t .links) → wrongAt n t x ≡ false) → moveOf n t x i ≡ linkedMove n (t .links) x i
+  pub moves-linked : (n : ℕ) (t : Tables) (m x i : ℕ) → length (t .lengths) ≡ sizeOf (t .links) → Measured n t
+      → movesOf n t m x i ≡ linkedMoves n (t .links) m x i
+  -- and repeated moves that are made are those, whatever the other lengths
+  pub made-linked : (n : ℕ) (t : Tables) (m x i : ℕ) (s : Step) → length (t .lengths) ≡ sizeOf (t .links)
+      → movesOf n t m x i ≡ done s → linkedMoves n (t .links) m x i ≡ done s
 
 -- DEMAND 3. An accepted list of k runs, a degree from 2 to 64, a working table of at least B entries and other tables of at least
 -- K, which is at most B: balancing fits and leaves the same permutation. Any list of calls through the filled entries, refused
@@ -221,7 +264,7 @@ pub record Demand2 : Type 0 where
 pub record Serves (n : ℕ) (r t : Runs) (d : ℕ) (τ : Tables) : Type 0 where
   -- they are the tables of t, so that all of demand 2 holds through them, and t has the permutation of r
   pub filled : τ ≡ tablesOf n t
-  pub same-permutation : (p : ℕ) → p < n → mapOf n (τ .list) p ≡ mapOf n r p
+  pub same-permutation : (p : ℕ) → p < n → mapOf n (τ .links .list) p ≡ mapOf n r p
   -- one claim about the whole list of calls
   pub same-replies : (p : ℕ) → p < n → (cs : List Call) → served n τ p (runAt n t p) cs ≡ plainWalk n r t p cs
   -- call by call: one count for each single move, those inside a repeated move too; their sum is what the reply counts

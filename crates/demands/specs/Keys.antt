@@ -1,8 +1,8 @@
 -- The keys that are proved about the definitions: one table, one statement. Its rows are written from document 01: the keys
 -- that it marks to be proved, the example's listing, ψ, and both ends of a shift; and from document 02, what its text comes
 -- to for questions together (A.1), the distance (A.2), the next list (A.3), the starts read (A.4), which every move here
--- counts (what questions answer is still the starts passed in finding), and how large a list will be (A.5). On the left stands
--- what is asked of a definition, on the right the numbers that the document gives, or that were worked out from it by hand.
+-- counts (what questions answer is still the starts passed in finding), how large a list will be (A.5), and lengths (A.7). On the
+-- left stands what is asked of a definition, on the right the numbers that the document gives, or that were worked out from it by hand.
 use Prim.Native.Nat.{ℕ, suc}
 use mathlib.Core.Path.{_≡_, refl}
 use mathlib.Core.List.{List, [], _∷_, _++_, map}
@@ -11,10 +11,11 @@ use lib.ListN.{replicate}
 use Rattle.outcomes.specs.Outcome.{Outcome, done, refused, judge, mapDone, andThen, filled}
 use Rattle.runs.specs.Runs.{Runs, runs, countOf, startOf, imageOf, shiftOf}
 use Rattle.runs.specs.Check.{unmatched, unordered, outOfRange, overlap, overlaps, listTests, testsUpTo, checkOf}
-use Rattle.tables.specs.Tables.{Tables, tables, tablesOf, sizeOf, holderOf, misshapen, outside, unheld, broken}
-use Rattle.walks.specs.Move.{passed, foundAt, unfindable, startsRead, walkCount, stepTo, stepOf, moveOf, onwards, movesOf}
+use Rattle.tables.specs.Tables.{Tables, tables, tablesOf, sizeOf, holderOf, allColumns, misshapen, mismatch, outside, unheld, broken}
+use Rattle.walks.specs.Move.{passed, foundAt, unfindable, startsRead, walkCount, stepTo, stepOf, findOf, moveOf, onwards, movesOf}
 use Rattle.walks.specs.Plain.{plainMove, plainMoves}
 use Rattle.preimages.specs.Inverse.{sends, sourceOf, inverseOf}
+use Rattle.weights.specs.Under.{unplaced, underFirst, underCount, weightOf}
 use Rattle.runs.specs.Weight.{weight}
 use Rattle.walks.specs.declared.Step.{Step}
 use Rattle.preimages.specs.declared.Source.{Source}
@@ -39,6 +40,9 @@ rowFrom values (refused number place) = number ∷ place ∷ []
 
 abbrev pub checkedRow : Outcome (Unit {0}) → List ℕ
 checkedRow o = rowFrom (λ u. []) o
+
+abbrev pub foundRow : Outcome ℕ → List ℕ
+foundRow o = rowFrom (λ x. x ∷ []) o
 
 abbrev pub movedRow : Outcome Step → List ℕ
 movedRow o = rowFrom (λ s. s .place ∷ s .interval ∷ s .distance ∷ s .count ∷ []) o
@@ -66,10 +70,10 @@ abbrev pub asked : ℕ → Question
 asked p = record { place = p; interval = 9; «to_place» = 9; «to_interval» = 9; count = 9; distance = 9 }
 
 abbrev pub answeredRow : ℕ → Tables → List ℕ → List ℕ
-answeredRow n t ps = rowFrom (λ c. c ∷ []) (answersOf n t ps)
+answeredRow n t ps = foundRow (answersOf n t ps)
 
 abbrev pub leftRow : ℕ → Tables → List ℕ → List ℕ
-leftRow n t ps = recordsRow (recordsAfter (filledIn t) (answersOf n t ps) (map asked ps))
+leftRow n t ps = recordsRow (recordsAfter (filledIn (t .links)) (answersOf n t ps) (map asked ps))
 
 -- the next list's run count, and both lent tables after the call
 abbrev pub nextRow : ℕ → Runs → List ℕ → List ℕ → List ℕ
@@ -79,6 +83,11 @@ nextRow n r a b =
 
 abbrev pub nines : ℕ → List ℕ
 nines k = replicate k 9
+
+-- lists one after the other
+abbrev pub joined : List (List ℕ) → List ℕ
+joined [] = []
+joined (l ∷ ls) = l ++ joined ls
 
 -- a working table of nines after a call: b zeros, and m nines behind them
 abbrev pub zeros : ℕ → ℕ → List ℕ
@@ -91,13 +100,12 @@ forecastRow n r d w = rowFrom (λ f. f .intervals ∷ f .cuts ∷ []) (forecastO
 abbrev pub degreeRow : ℕ → Runs → ℕ → ℕ → List ℕ
 degreeRow n r entries w = rowFrom (λ a. a .degree ∷ a .intervals ∷ []) (leastDegreeOf n r entries w) ++ clearedBy n r 2 (nines w)
 
--- K, and three tables of a, b and c nines and a working table of w after balancing
-abbrev pub balanceRow : ℕ → Runs → ℕ → ℕ → ℕ → ℕ → ℕ → List ℕ
-balanceRow n r d a b c w =
-    let l = lent (nines a) (nines b) (nines c) (nines w) in
+-- K, and four tables of a, b, c and e nines and a working table of w after balancing
+abbrev pub balanceRow : ℕ → Runs → ℕ → ℕ → ℕ → ℕ → ℕ → ℕ → List ℕ
+balanceRow n r d a b c e w =
+    let l = lent (nines a) (nines b) (nines c) (nines e) (nines w) in
     let t = filledTables (balanceOf n r d l) (l .tables) in
-    rowFrom (λ q. sizeOf q ∷ []) (balanceOf n r d l)
-    ++ (t .list .starts ++ (t .list .images ++ (t .holders ++ clearedBy n r d (nines w))))
+    rowFrom (λ q. sizeOf (q .links) ∷ []) (balanceOf n r d l) ++ (joined (allColumns t) ++ clearedBy n r d (nines w))
 
 -- starts and images, list after list
 abbrev pub listsRow : List Runs → List ℕ
@@ -112,7 +120,8 @@ signedRow (negsuc v) = 1 ∷ suc v ∷ []
 -- interval x of the listing: index, start, image, shift, holder, weight
 abbrev pub listedRow : ℕ → Tables → ℕ → List ℕ
 listedRow n t x =
-    x ∷ startOf (t .list) x ∷ imageOf (t .list) x ∷ [] ++ (signedRow (shiftOf (t .list) x) ++ (holderOf t x ∷ weight n (t .list) x ∷ []))
+    let r = t .links .list in
+    x ∷ startOf r x ∷ imageOf r x ∷ [] ++ (signedRow (shiftOf r x) ++ (holderOf (t .links) x ∷ weight n r x ∷ []))
 
 -- the lists of the keys
 abbrev pub example : Runs
@@ -123,7 +132,9 @@ exampleTables = tablesOf 16 (balanced 2 16 example)
 
 -- the same written out, for keys that look at the tables often
 abbrev pub listedTables : Tables
-listedTables = tables (0 ∷ 2 ∷ 4 ∷ 6 ∷ 8 ∷ 12 ∷ []) (14 ∷ 12 ∷ 10 ∷ 8 ∷ 0 ∷ 4 ∷ []) (5 ∷ 5 ∷ 4 ∷ 4 ∷ 0 ∷ 2 ∷ [])
+listedTables =
+    tables (0 ∷ 2 ∷ 4 ∷ 6 ∷ 8 ∷ 12 ∷ []) (14 ∷ 12 ∷ 10 ∷ 8 ∷ 0 ∷ 4 ∷ []) (5 ∷ 5 ∷ 4 ∷ 4 ∷ 0 ∷ 2 ∷ [])
+    (2 ∷ 2 ∷ 2 ∷ 2 ∷ 4 ∷ 4 ∷ [])
 
 abbrev pub uncut : Runs
 uncut = runs (0 ∷ 2 ∷ 4 ∷ 6 ∷ []) (10 ∷ 8 ∷ 6 ∷ 0 ∷ [])
@@ -150,12 +161,21 @@ psi =
     runs (0 ∷ 1 ∷ 5 ∷ 6 ∷ 12 ∷ 17 ∷ 19 ∷ 22 ∷ 25 ∷ 32 ∷ 34 ∷ 42 ∷ 43 ∷ [])
     (11 ∷ 28 ∷ 2 ∷ 22 ∷ 32 ∷ 38 ∷ 42 ∷ 12 ∷ 15 ∷ 0 ∷ 3 ∷ 37 ∷ 40 ∷ [])
 
--- the example's tables with two holders that are no interval's index, and tables whose starts do not rise
+-- the example's tables with two holders that are no interval's index; with other lengths, and with one that is wrong; and tables
+-- whose starts do not rise, with a length that would be right if it could wrap
 abbrev pub lostHolder : Tables
-lostHolder = record { list = exampleTables .list; holders = 5 ∷ 9 ∷ 4 ∷ 9 ∷ 0 ∷ 2 ∷ [] }
+lostHolder = let t = exampleTables in
+    record { links = record { list = t .links .list; holders = 5 ∷ 9 ∷ 4 ∷ 9 ∷ 0 ∷ 2 ∷ [] }; lengths = t .lengths }
+
+abbrev pub measuredBy : List ℕ → Tables
+measuredBy l = record { links = listedTables .links; lengths = l }
+
+abbrev pub wrongFour : Tables
+wrongFour = measuredBy (2 ∷ 2 ∷ 2 ∷ 2 ∷ 5 ∷ 4 ∷ [])
 
 abbrev pub mixedStarts : Tables
-mixedStarts = tables (0 ∷ 9 ∷ 4 ∷ 12 ∷ []) (0 ∷ 9 ∷ 4 ∷ 12 ∷ []) (0 ∷ 1 ∷ 0 ∷ 3 ∷ [])
+mixedStarts =
+    tables (0 ∷ 9 ∷ 4 ∷ 12 ∷ []) (0 ∷ 9 ∷ 4 ∷ 12 ∷ []) (0 ∷ 1 ∷ 0 ∷ 3 ∷ []) (9 ∷ 4294967291 ∷ 8 ∷ 4 ∷ [])
 
 -- a row of the table
 infix 4 _is_
@@ -192,8 +212,8 @@ keys =
     (countOf (balanced 2 15 fullest) ∷ [] is 5 ∷ []) ∷
     (movedRow (moveOf 15 (tablesOf 15 (balanced 2 15 fullest)) 4 14) is 0 ∷ 7 ∷ 3 ∷ 0 ∷ 4 ∷ []) ∷
     -- the plain walk's own answers: place 11; four moves from place 0; the most starts; and a walk that ends with the starts
-    (movedRow (done (plainMove 16 example (listedTables .list) 11)) is 0 ∷ 3 ∷ 1 ∷ 1 ∷ 2 ∷ []) ∷
-    (movedRow (done (plainMoves 16 example (listedTables .list) 4 0)) is 0 ∷ 0 ∷ 0 ∷ 0 ∷ 4 ∷ []) ∷
+    (movedRow (done (plainMove 16 example (listedTables .links .list) 11)) is 0 ∷ 3 ∷ 1 ∷ 1 ∷ 2 ∷ []) ∷
+    (movedRow (done (plainMoves 16 example (listedTables .links .list) 4 0)) is 0 ∷ 0 ∷ 0 ∷ 0 ∷ 4 ∷ []) ∷
     (movedRow (done (plainMove 15 fullest fullest 14)) is 0 ∷ 7 ∷ 3 ∷ 0 ∷ 4 ∷ []) ∷
     (movedRow (done (plainMove 45 psi psi 20)) is 0 ∷ 43 ∷ 12 ∷ 0 ∷ 1 ∷ []) ∷
     -- accepted and refused lists
@@ -236,19 +256,43 @@ keys =
     (answeredRow 16 exampleTables (5 ∷ 3 ∷ 1 ∷ []) is 16 ∷ 1 ∷ []) ∷
     (leftRow 16 exampleTables (3 ∷ 2 ∷ []) is 3 ∷ 9 ∷ 9 ∷ 9 ∷ 9 ∷ 9 ∷ 2 ∷ 9 ∷ 9 ∷ 9 ∷ 9 ∷ 9 ∷ []) ∷
     (answeredRow 16 exampleTables (3 ∷ 16 ∷ 20 ∷ []) is 11 ∷ 16 ∷ []) ∷
-    (answeredRow 16 (tables (2 ∷ 4 ∷ []) (10 ∷ 8 ∷ []) (0 ∷ 0 ∷ [])) (1 ∷ 3 ∷ []) is 11 ∷ 1 ∷ []) ∷
+    (answeredRow 16 (tables (2 ∷ 4 ∷ []) (10 ∷ 8 ∷ []) (0 ∷ 0 ∷ []) (2 ∷ 12 ∷ [])) (1 ∷ 3 ∷ []) is 11 ∷ 1 ∷ []) ∷
     -- intervals 1 and 3 cannot be left: 16 and 11 of a later record come first; 12 with the lower one; and records that
     -- lie elsewhere are answered. A move that would reach n
     (answeredRow 16 lostHolder (3 ∷ 2 ∷ []) is 16 ∷ 1 ∷ []) ∷
     (answeredRow 16 lostHolder (2 ∷ 3 ∷ 99 ∷ []) is 11 ∷ 99 ∷ []) ∷
     (answeredRow 16 lostHolder (0 ∷ 3 ∷ 7 ∷ []) is 12 ∷ 1 ∷ []) ∷
     (answeredRow 16 lostHolder (0 ∷ 1 ∷ 4 ∷ []) is 0 ∷ 2 ∷ []) ∷
-    (answeredRow 15 exampleTables (0 ∷ 1 ∷ []) is 12 ∷ 0 ∷ []) ∷
-    -- starts in any order: found 0, 0, 2 and 3
-    (answeredRow 16 mixedStarts (0 ∷ 5 ∷ 9 ∷ 13 ∷ []) is 0 ∷ 3 ∷ []) ∷
-    (leftRow 16 mixedStarts (0 ∷ 5 ∷ 9 ∷ 13 ∷ []) is
-    0 ∷ 0 ∷ 0 ∷ 0 ∷ 1 ∷ 0 ∷ 5 ∷ 0 ∷ 5 ∷ 0 ∷ 1 ∷ 5 ∷
-    9 ∷ 2 ∷ 9 ∷ 2 ∷ 3 ∷ 5 ∷ 13 ∷ 3 ∷ 13 ∷ 3 ∷ 0 ∷ 1 ∷ []) ∷
+    (answeredRow 15 (measuredBy (2 ∷ 2 ∷ 2 ∷ 2 ∷ 4 ∷ 3 ∷ [])) (0 ∷ 1 ∷ []) is 12 ∷ 0 ∷ []) ∷
+    -- the length of interval 4 is wrong: find and inverse test all of them before the place, and questions before places that fall;
+    -- the lowest is given
+    (foundRow (findOf 16 wrongFour 11) is 12 ∷ 4 ∷ []) ∷
+    (foundRow (findOf 16 wrongFour 99) is 12 ∷ 4 ∷ []) ∷
+    (foundRow (findOf 16 (measuredBy (2 ∷ 2 ∷ 2 ∷ 1 ∷ 5 ∷ 4 ∷ [])) 99) is 12 ∷ 3 ∷ []) ∷
+    (foundRow (findOf 16 (measuredBy (2 ∷ 2 ∷ 2 ∷ 2 ∷ 4 ∷ 3 ∷ [])) 0) is 12 ∷ 5 ∷ []) ∷
+    (foundRow (findOf 16 (measuredBy (2 ∷ 2 ∷ 2 ∷ 2 ∷ 4 ∷ [])) 11) is 9 ∷ 0 ∷ []) ∷
+    (foundRow (findOf 16 listedTables 11) is 0 ∷ 4 ∷ []) ∷
+    (foundRow (findOf 16 listedTables 12) is 0 ∷ 5 ∷ []) ∷
+    (invertedRow (inverseOf 16 wrongFour 9) is 12 ∷ 4 ∷ []) ∷
+    (answeredRow 16 wrongFour (3 ∷ 2 ∷ []) is 12 ∷ 4 ∷ []) ∷
+    (answeredRow 16 wrongFour [] is 12 ∷ 4 ∷ []) ∷
+    (leftRow 16 wrongFour (3 ∷ []) is 3 ∷ 9 ∷ 9 ∷ 9 ∷ 9 ∷ 9 ∷ []) ∷
+    -- a move from interval 4 is refused before its place is tested, one that leads there is made, and the next one is refused; a
+    -- bookmark stays there; an interval's weight reads its own length alone
+    (movedRow (moveOf 16 wrongFour 4 11) is 12 ∷ 4 ∷ []) ∷
+    (movedRow (moveOf 16 wrongFour 4 99) is 12 ∷ 4 ∷ []) ∷
+    (movedRow (moveOf 16 wrongFour 3 7) is 0 ∷ 9 ∷ 4 ∷ 1 ∷ 1 ∷ []) ∷
+    (movedRow (movesOf 16 wrongFour 0 4 99) is 12 ∷ 4 ∷ []) ∷
+    (movedRow (movesOf 16 wrongFour 2 5 14) is 0 ∷ 8 ∷ 4 ∷ 0 ∷ 3 ∷ []) ∷
+    (movedRow (movesOf 16 wrongFour 3 5 14) is 12 ∷ 4 ∷ []) ∷
+    (markingRow (markingsOf 16 wrongFour 3 (fresh 14 5 999)) is 12 ∷ 4 ∷ 8 ∷ 4 ∷ 0 ∷ 2 ∷ 3 ∷ []) ∷
+    (foundRow (weightOf 16 wrongFour 4) is 12 ∷ 4 ∷ []) ∷
+    (foundRow (weightOf 16 wrongFour 5) is 0 ∷ 2 ∷ []) ∷
+    -- starts that fall, or stand twice: no length is right there, and an interval that has a right one can be left
+    (movedRow (moveOf 16 mixedStarts 1 9) is 12 ∷ 1 ∷ []) ∷
+    (movedRow (moveOf 16 (tables (0 ∷ 4 ∷ 4 ∷ []) (0 ∷ 4 ∷ 8 ∷ []) (0 ∷ 1 ∷ 2 ∷ []) (4 ∷ 0 ∷ 12 ∷ [])) 1 4) is 12 ∷ 1 ∷ []) ∷
+    (movedRow (moveOf 16 mixedStarts 2 9) is 0 ∷ 9 ∷ 2 ∷ 5 ∷ 3 ∷ []) ∷
+    (answeredRow 16 mixedStarts (0 ∷ 5 ∷ 9 ∷ 13 ∷ []) is 12 ∷ 1 ∷ []) ∷
     -- the next list, from the identity to the last of three places; entries beyond its runs stay
     (nextRow 3 single (nines 3) (nines 3) is 0 ∷ 3 ∷ 0 ∷ 1 ∷ 2 ∷ 0 ∷ 2 ∷ 1 ∷ []) ∷
     (nextRow 3 (runs (0 ∷ 1 ∷ 2 ∷ []) (0 ∷ 2 ∷ 1 ∷ [])) (nines 3) (nines 3) is 0 ∷ 3 ∷ 0 ∷ 1 ∷ 2 ∷ 1 ∷ 0 ∷ 2 ∷ []) ∷
@@ -279,15 +323,17 @@ keys =
     (degreeRow 16 example 5 12 is 0 ∷ 3 ∷ 5 ∷ zeros 10 2) ∷
     (degreeRow 16 example 4 12 is 19 ∷ 4 ∷ zeros 10 2) ∷
     -- balancing into tables of 9 with a working table of 10; into one table too short for K; and a short working table first
-    (balanceRow 16 example 2 9 9 9 10 is
-    0 ∷ 6 ∷ 0 ∷ 2 ∷ 4 ∷ 6 ∷ 8 ∷ 12 ∷ 9 ∷ 9 ∷ 9 ∷ 14 ∷ 12 ∷ 10 ∷ 8 ∷ 0 ∷ 4 ∷ 9 ∷ 9 ∷ 9 ∷ 5 ∷ 5 ∷ 4 ∷ 4 ∷ 0 ∷ 2 ∷ 9 ∷ 9 ∷ 9 ∷ zeros 10 0) ∷
-    (balanceRow 16 example 2 6 6 5 12 is 8 ∷ 6 ∷ (nines 17 ++ zeros 10 2)) ∷
-    (balanceRow 16 example 2 5 5 5 9 is 8 ∷ 10 ∷ nines 24) ∷
+    (balanceRow 16 example 2 9 9 9 9 10 is
+    0 ∷ 6 ∷ 0 ∷ 2 ∷ 4 ∷ 6 ∷ 8 ∷ 12 ∷ 9 ∷ 9 ∷ 9 ∷ 14 ∷ 12 ∷ 10 ∷ 8 ∷ 0 ∷ 4 ∷ 9 ∷ 9 ∷ 9 ∷
+    5 ∷ 5 ∷ 4 ∷ 4 ∷ 0 ∷ 2 ∷ 9 ∷ 9 ∷ 9 ∷ 2 ∷ 2 ∷ 2 ∷ 2 ∷ 4 ∷ 4 ∷ 9 ∷ 9 ∷ 9 ∷ zeros 10 0) ∷
+    (balanceRow 16 example 2 6 6 5 6 12 is 8 ∷ 6 ∷ (nines 23 ++ zeros 10 2)) ∷
+    (balanceRow 16 example 2 6 6 6 5 12 is 8 ∷ 6 ∷ (nines 23 ++ zeros 10 2)) ∷
+    (balanceRow 16 example 2 5 5 5 5 9 is 8 ∷ 10 ∷ nines 29) ∷
     -- at d 64 B and K are both 5: the two refusals look alike, and only that by K clears the working table
-    (balanceRow 16 example 64 5 5 4 6 is 8 ∷ 5 ∷ (nines 14 ++ zeros 5 1)) ∷
-    (balanceRow 16 example 64 5 5 4 4 is 8 ∷ 5 ∷ nines 18) ∷
+    (balanceRow 16 example 64 5 5 5 4 6 is 8 ∷ 5 ∷ (nines 19 ++ zeros 5 1)) ∷
+    (balanceRow 16 example 64 5 5 5 4 4 is 8 ∷ 5 ∷ nines 23) ∷
     []
 
 pub keys-hold : map computed keys ≡ map given keys
-unfolding judge mapDone andThen unmatched unordered outOfRange overlap overlaps listTests testsUpTo misshapen outside unheld broken passed foundAt unfindable startsRead walkCount stepTo stepOf moveOf onwards movesOf plainMove plainMoves sends sourceOf inverseOf overflows bookmarkOf markAfter markingOf markingsOf fallsAt unfindableAt brokenAt answersOf filledIn recordsAfter cutting balanced filled breaks maximalRuns valuesOf lastAscent lastAbove changed successor falls nextRuns nextOf listsFrom plannedOf clearedBy forecastOf leastDegreeOf balanceOf filledTables
+unfolding judge mapDone andThen unmatched unordered outOfRange overlap overlaps listTests testsUpTo misshapen mismatch outside unheld broken passed foundAt unfindable startsRead walkCount stepTo stepOf findOf moveOf onwards movesOf plainMove plainMoves sends sourceOf inverseOf unplaced underFirst underCount weightOf overflows bookmarkOf markAfter markingOf markingsOf fallsAt unfindableAt brokenAt answersOf filledIn recordsAfter cutting balanced filled breaks maximalRuns valuesOf lastAscent lastAbove changed successor falls nextRuns nextOf listsFrom plannedOf clearedBy forecastOf leastDegreeOf balanceOf filledTables
 keys-hold = refl
