@@ -77,12 +77,35 @@ fn library_step<C: Into<u64>>(peer::Step { place, interval, distance, count }: p
     Step { place, interval, distance, count: count.into() }
 }
 
-/// The peer moves as the library does, once and m times.
-fn assert_moved_alike(n: u32, s: &[u32], i: &[u32], h: &[u32], x: u32, place: u32, m: u32) {
-    let once = peer::move_once(n, s, i, h, x, place).map(library_step);
-    assert_eq!(zibewoka::move_once(n, s, i, h, x, place).expect("a move"), once.expect("a move"));
-    let often = peer::moves(n, s, i, h, x, place, m).map(library_step);
-    assert_eq!(zibewoka::moves(n, s, i, h, x, place, m).expect("moves"), often.expect("moves"));
+/// These lengths, but that of x: it is too long by one, or 0.
+fn wrong_lengths(lengths: &[u32], x: usize) -> [Vec<u32>; 2] {
+    [lengths[x] + 1, 0].map(|length| [&lengths[..x], &[length], &lengths[x + 1..]].concat())
+}
+
+/// The peer finds as the library does: these places, the first one and one that there is not; also with no places at all, with too
+/// few lengths and with a wrong one.
+fn assert_found_alike(n: u32, [s, i, h, l]: [&[u32]; 4], places: &[u32]) {
+    let [longer, none] = &wrong_lengths(l, l.len() / 2);
+    for (n, l) in [(n, l), (0, l), (n, &l[1..]), (n, longer), (n, none)] {
+        for &place in places.iter().chain([&0, &n]) {
+            assert_eq!(zibewoka::find(n, s, i, h, l, place), refusal(peer::find(n, s, i, h, l, place)));
+        }
+    }
+}
+
+/// The peer moves as the library does, once and up to m times, also from or into an interval of a wrong length.
+fn assert_moved_alike(n: u32, [s, i, h, l]: [&[u32]; 4], x: u32, place: u32, m: u32) {
+    let y = zibewoka::move_once(n, s, i, h, l, x, place).expect("a move").interval;
+    let wrong = [x, y].map(|interval| wrong_lengths(l, interval as usize)).concat();
+    let lengths = wrong.iter().map(|wrong| &wrong[..]).chain([l]);
+    for (l, place) in lengths.flat_map(|l| [(l, place), (l, n)]) {
+        let once = peer::move_once(n, s, i, h, l, x, place).map(library_step);
+        assert_eq!(zibewoka::move_once(n, s, i, h, l, x, place), refusal(once));
+        for m in [0, 1, 2, m] {
+            let often = peer::moves(n, s, i, h, l, x, place, m).map(library_step);
+            assert_eq!(zibewoka::moves(n, s, i, h, l, x, place, m), refusal(often));
+        }
+    }
 }
 
 /// B, how many entries the working table has.
@@ -96,14 +119,14 @@ fn intervals(List { n, starts, images }: &List, d: u32) -> usize {
     zibewoka::forecast(*n, starts, images, d, &mut working).expect("legal").intervals as usize
 }
 
-/// Starts, images and holders of the list as it is balanced.
-fn tables(list: &List, d: u32) -> [Vec<u32>; 3] {
+/// Starts, images, holders and lengths of the list as it is balanced.
+fn tables(list: &List, d: u32) -> [Vec<u32>; 4] {
     let size = intervals(list, d);
     let List { n, starts, images } = list;
-    let [mut s, mut i, mut h] = [0; 3].map(|_| vec![0; size]);
+    let [mut s, mut i, mut h, mut l] = [0; 4].map(|_| vec![0; size]);
     let mut w = vec![0; bound(d, starts.len())];
-    zibewoka::balance(*n, starts, images, d, &mut s, &mut i, &mut h, &mut w).expect("tables of K entries");
-    [s, i, h]
+    zibewoka::balance(*n, starts, images, d, &mut s, &mut i, &mut h, &mut l, &mut w).expect("tables of K entries");
+    [s, i, h, l]
 }
 
 /// What the peer comes to, as the library says it.
@@ -114,62 +137,86 @@ fn refusal<T>(outcome: peer::Outcome<T>) -> Result<T, Refusal> {
 /// How many lists of a line are checked in turn: one alone would teach the processor where the jumps of a short sort go.
 const LISTS: usize = 16;
 
+/// A call's time in a unit, and its ratio to the peer's.
+fn cell(unit: f64, [library, peer]: [f64; 2]) -> String {
+    format!("{:.1} | {:.2}", library * unit, library / peer)
+}
+
+/// The cells of find, a move and repeated moves.
+fn walk_cells(r: &mut Random, n: u32, columns: [&[u32]; 4]) -> [String; 3] {
+    let [s, i, h, l] = columns;
+    let places: Vec<u32> = (0..64).map(|_| r.below(u64::from(n)) as u32).collect();
+    assert_found_alike(n, columns, &places);
+    let find = seconds(
+        || places.iter().map(|&p| zibewoka::find(n, s, i, h, l, p).expect("a place")).sum::<u32>(),
+        || places.iter().map(|&p| peer::find(n, s, i, h, l, p).expect("a place")).sum::<u32>(),
+    );
+
+    let m = 10_000;
+    let first = places[0];
+    let interval = zibewoka::find(n, s, i, h, l, first).expect("a place");
+    assert_moved_alike(n, columns, interval, first, m);
+    let once = seconds(
+        || {
+            (0..m).fold((first, interval), |(place, interval), _| {
+                let step = zibewoka::move_once(n, s, i, h, l, interval, place).expect("a move");
+                (step.place, step.interval)
+            })
+        },
+        || {
+            (0..m).fold((first, interval), |(place, interval), _| {
+                let step = peer::move_once(n, s, i, h, l, interval, place).expect("a move");
+                (step.place, step.interval)
+            })
+        },
+    );
+    let repeated = seconds(
+        || zibewoka::moves(n, s, i, h, l, interval, first, m),
+        || peer::moves(n, s, i, h, l, interval, first, m),
+    );
+    let per_move = 1e9 / f64::from(m);
+    [cell(1e9 / places.len() as f64, find), cell(per_move, once), cell(per_move, repeated)]
+}
+
 /// One line of the table: for each call the library's time and its ratio to the peer's.
 fn line(r: &mut Random, shape: &str, k: usize, d: u32) -> String {
     let lists: Vec<List> = (0..LISTS).map(|_| list(r, shape, k)).collect();
     let List { n, starts, images } = &lists[0];
     let n = *n;
-    let mut cells = Vec::new();
-    let mut cell =
-        |unit: f64, [library, peer]: [f64; 2]| cells.push(format!("{:.1} | {:.2}", library * unit, library / peer));
 
-    let times = seconds(
+    let check = seconds(
         || lists.iter().filter(|l| zibewoka::check(l.n, &l.starts, &l.images).is_ok()).count(),
         || lists.iter().filter(|l| peer::check(l.n, &l.starts, &l.images).is_ok()).count(),
     );
-    cell(1e6 / LISTS as f64, times);
 
     let size = intervals(&lists[0], d);
-    let [mut s, mut i, mut h, mut peer_s, mut peer_i, mut peer_h] = [0; 6].map(|_| vec![0; size]);
+    let mut lent = [0; 4].map(|_| vec![0; size]);
+    let mut peer_lent = lent.clone();
     let [mut w, mut peer_w] = [0; 2].map(|_| vec![0; bound(d, k)]);
-    let times = seconds(
-        || zibewoka::balance(n, starts, images, d, &mut s, &mut i, &mut h, &mut w),
-        || peer::balance(n, starts, images, d, &mut peer_s, &mut peer_i, &mut peer_h, &mut peer_w),
+    let [s, i, h, l] = &mut lent;
+    let [peer_s, peer_i, peer_h, peer_l] = &mut peer_lent;
+    let balance = seconds(
+        || zibewoka::balance(n, starts, images, d, s, i, h, l, &mut w),
+        || peer::balance(n, starts, images, d, peer_s, peer_i, peer_h, peer_l, &mut peer_w),
     );
-    assert!(s == peer_s && i == peer_i && h == peer_h && w == peer_w, "the peer balances alike");
-    cell(1e6, times);
+    assert!(lent == peer_lent && w == peer_w, "the peer balances alike");
 
-    let (s, i, h) = (&s[..], &i[..], &h[..]);
-    let places: Vec<u32> = (0..64).map(|_| r.below(u64::from(n)) as u32).collect();
-    let times = seconds(
-        || places.iter().map(|&p| zibewoka::find(n, s, i, h, p).expect("a place")).sum::<u32>(),
-        || places.iter().map(|&p| peer::find(n, s, i, h, p).expect("a place")).sum::<u32>(),
-    );
-    cell(1e9 / places.len() as f64, times);
+    let [find, once, repeated] = walk_cells(r, n, lent.each_ref().map(|column| &column[..]));
+    let [check, balance] = [cell(1e6 / LISTS as f64, check), cell(1e6, balance)];
+    format!("| {shape} | {k} | {d} | {size} | {check} | {balance} | {find} | {once} | {repeated} |")
+}
 
-    let m = 10_000;
-    let first = places[0];
-    let interval = zibewoka::find(n, s, i, h, first).expect("a place");
-    assert_moved_alike(n, s, i, h, interval, first, m);
-    let times = seconds(
-        || {
-            (0..m).fold((first, interval), |(place, interval), _| {
-                let step = zibewoka::move_once(n, s, i, h, interval, place).expect("a move");
-                (step.place, step.interval)
-            })
-        },
-        || {
-            (0..m).fold((first, interval), |(place, interval), _| {
-                let step = peer::move_once(n, s, i, h, interval, place).expect("a move");
-                (step.place, step.interval)
-            })
-        },
-    );
-    cell(1e9 / f64::from(m), times);
-    let times =
-        seconds(|| zibewoka::moves(n, s, i, h, interval, first, m), || peer::moves(n, s, i, h, interval, first, m));
-    cell(1e9 / f64::from(m), times);
-    format!("| {shape} | {k} | {d} | {size} | {} |", cells.join(" | "))
+/// The most intervals that tables may have, twice as many as a list may have runs.
+const MOST_INTERVALS: usize = 32768;
+
+/// One line of the table of the longest tables: those of a list of that many runs, whose images lie over few starts as they are.
+fn longest_line(r: &mut Random, shape: &str) -> String {
+    let List { n, starts, images } = list(r, shape, MOST_INTERVALS);
+    let holders: Vec<u32> =
+        images.iter().map(|&image| starts.partition_point(|&start| start <= image) as u32 - 1).collect();
+    let lengths: Vec<u32> = starts.iter().zip(starts[1..].iter().chain([&n])).map(|(start, end)| end - start).collect();
+    let [find, once, repeated] = walk_cells(r, n, [&starts, &images, &holders, &lengths]);
+    format!("| {shape} | {MOST_INTERVALS} | {find} | {once} | {repeated} |")
 }
 
 /// How many questions a line asks, k in a call: one call alone would teach the processor its jumps, as one list would.
@@ -186,15 +233,25 @@ fn questions(r: &mut Random, n: u32, k: usize) -> Vec<Question> {
     places.into_iter().map(|place| Question { place, ..Question::default() }).collect()
 }
 
-/// The peer refuses as the library does: no places at all, places that fall, a place beyond n, intervals without a holder.
-fn assert_refused_alike(n: u32, s: &[u32], i: &[u32], h: &[u32], asked: &[Question]) {
+/// The peer refuses as the library does: no places at all, a wrong length, places that fall, a place beyond n, intervals without a
+/// holder.
+fn assert_refused_alike(n: u32, [s, i, h, l]: [&[u32]; 4], asked: &[Question]) {
     let falling: Vec<Question> = asked.iter().rev().copied().collect();
+    let beyond: Vec<Question> = asked.iter().map(|q| Question { place: q.place + n, ..*q }).collect();
     let broken = vec![u32::MAX; h.len()];
-    for (number, n, h, asked) in [(9, 0, h, asked), (16, n, h, &falling), (11, 1, h, asked), (12, n, &broken, asked)] {
+    let [longer, none] = &wrong_lengths(l, l.len() / 2);
+    for (number, n, h, l, asked) in [
+        (9, 0, h, l, asked),
+        (12, n, h, longer, &falling),
+        (12, n, h, none, asked),
+        (16, n, h, l, &falling),
+        (11, n, h, l, &beyond),
+        (12, n, &broken, l, asked),
+    ] {
         let [mut records, mut peer_records] = [asked.to_vec(), asked.to_vec()];
-        let refused = zibewoka::questions(n, s, i, h, &mut records).expect_err("damaged");
+        let refused = zibewoka::questions(n, s, i, h, l, &mut records).expect_err("damaged");
         assert_eq!(refused.number, number);
-        assert_eq!(peer::questions(n, s, i, h, &mut peer_records), Err((number, refused.place)));
+        assert_eq!(peer::questions(n, s, i, h, l, &mut peer_records), Err((number, refused.place)));
         assert!(records == asked && peer_records == asked, "a refusal fills no record");
     }
 }
@@ -203,17 +260,17 @@ fn assert_refused_alike(n: u32, s: &[u32], i: &[u32], h: &[u32], asked: &[Questi
 fn questions_line(r: &mut Random, shape: &str, k: usize, d: u32) -> String {
     let list = list(r, shape, k);
     let n = list.n;
-    let [s, i, h] = &tables(&list, d);
+    let [s, i, h, l] = &tables(&list, d);
     let size = s.len();
 
     let mut asked = questions(r, n, k);
     let mut peer_asked = asked.clone();
-    assert_refused_alike(n, s, i, h, &asked[..k]);
+    assert_refused_alike(n, [s, i, h, l], &asked[..k]);
     let ask = |asked: &mut [Question]| {
-        asked.chunks_mut(k).map(|call| zibewoka::questions(n, s, i, h, call).expect("in order")).sum::<u32>()
+        asked.chunks_mut(k).map(|call| zibewoka::questions(n, s, i, h, l, call).expect("in order")).sum::<u32>()
     };
     let ask_peer = |asked: &mut [Question]| {
-        asked.chunks_mut(k).map(|call| peer::questions(n, s, i, h, call).expect("in order")).sum::<u32>()
+        asked.chunks_mut(k).map(|call| peer::questions(n, s, i, h, l, call).expect("in order")).sum::<u32>()
     };
     let [library, peer] = seconds(|| ask(&mut asked), || ask_peer(&mut peer_asked));
     assert_eq!(ask(&mut asked), ask_peer(&mut peer_asked));
@@ -221,8 +278,8 @@ fn questions_line(r: &mut Random, shape: &str, k: usize, d: u32) -> String {
 
     let places: Vec<u32> = asked.iter().step_by(APART).map(|question| question.place).collect();
     let answer_alone = |&place: &u32| {
-        let interval = zibewoka::find(n, s, i, h, place).expect("a place");
-        zibewoka::move_once(n, s, i, h, interval, place).expect("a move").interval
+        let interval = zibewoka::find(n, s, i, h, l, place).expect("a place");
+        zibewoka::move_once(n, s, i, h, l, interval, place).expect("a move").interval
     };
     let [again, alone] = seconds(|| ask(&mut asked), || places.iter().map(answer_alone).sum::<u32>());
     let each = |whole: f64| whole * 1e9 / QUESTIONS as f64;
@@ -252,12 +309,13 @@ fn total<'a>(orders: &mut impl Iterator<Item = &'a Vec<u32>>, weight: impl Fn(u3
 }
 
 /// The peer weighs as the library does: every interval and one that there is not; no places at all; too few, so that images end
-/// beyond them; intervals without a holder, and with the last one for a holder, whose start is above most images.
-fn assert_weighed_alike(n: u32, s: &[u32], i: &[u32], h: &[u32]) {
+/// beyond them; intervals without a holder, and with the last one for a holder, whose start is above most images; lengths that are
+/// none.
+fn assert_weighed_alike(n: u32, [s, i, h, l]: [&[u32]; 4]) {
     let [none, last] = [u32::MAX, h.len() as u32 - 1].map(|holder| vec![holder; h.len()]);
-    for (n, h) in [(n, h), (0, h), (n / 2, h), (n, &none), (n, &last)] {
+    for (n, h, l) in [(n, h, l), (0, h, l), (n / 2, h, l), (n, &none, l), (n, &last, l), (n, h, &vec![0; l.len()])] {
         for x in 0..=h.len() as u32 {
-            assert_eq!(zibewoka::weight(n, s, i, h, x), refusal(peer::weight(n, s, i, h, x)));
+            assert_eq!(zibewoka::weight(n, s, i, h, l, x), refusal(peer::weight(n, s, i, h, l, x)));
         }
     }
 }
@@ -266,17 +324,17 @@ fn assert_weighed_alike(n: u32, s: &[u32], i: &[u32], h: &[u32]) {
 fn weights_line(r: &mut Random, shape: &str, k: usize, d: u32) -> String {
     let list = list(r, shape, k);
     let n = list.n;
-    let [s, i, h] = &tables(&list, d);
+    let [s, i, h, l] = &tables(&list, d);
     let size = s.len();
-    assert_weighed_alike(n, s, i, h);
+    assert_weighed_alike(n, [s, i, h, l]);
     let at_a_start = i.iter().zip(h).filter(|&(&image, &holder)| s[holder as usize] == image).count();
 
     let orders: Vec<Vec<u32>> = (0..ORDERS).map(|_| shuffled(r, size)).collect();
     let mut turns = orders.iter().cycle();
     let mut peer_turns = turns.clone();
     let [library, peer] = seconds(
-        || total(&mut turns, |x| zibewoka::weight(n, s, i, h, x).expect("whole")),
-        || total(&mut peer_turns, |x| peer::weight(n, s, i, h, x).expect("whole")),
+        || total(&mut turns, |x| zibewoka::weight(n, s, i, h, l, x).expect("whole")),
+        || total(&mut peer_turns, |x| peer::weight(n, s, i, h, l, x).expect("whole")),
     );
     format!(
         "| {shape} | {k} | {d} | {size} | {:.2} | {:.1} | {:.2} |",
@@ -303,6 +361,19 @@ fn print_calls(r: &mut Random) {
                 println!("{}", line(r, shape, k, d));
             }
         }
+    }
+}
+
+fn print_longest(r: &mut Random) {
+    println!(
+        "Walks through tables of as many intervals as there may be. Find tests every length on either side; then the"
+    );
+    println!("library searches, and the peer walks from the first start: the goal is 0.7. For moves it is 1.0.");
+    println!();
+    println!("| list | K | find ns | × | move ns | × | repeated, ns a move | × |");
+    println!("|---|---|---|---|---|---|---|---|");
+    for shape in ["tiny", "shuffled", "reversed"] {
+        println!("{}", longest_line(r, shape));
     }
 }
 
@@ -398,12 +469,13 @@ fn assert_forecast_alike(list: &List, d: u32) {
             assert!(w == peer_w, "the peer forecasts alike");
             let tables = size.map_or(k, |size| size.intervals as usize);
             for count in [tables - 1, tables] {
-                let [mut s, mut i, mut h, mut peer_s, mut peer_i, mut peer_h] = [9; 6].map(|nine| vec![nine; count]);
-                let [mut w, mut peer_w] = [9; 2].map(|nine| vec![nine; working]);
-                let answer = zibewoka::balance(n, starts, images, d, &mut s, &mut i, &mut h, &mut w);
-                let peer = peer::balance(n, starts, images, d, &mut peer_s, &mut peer_i, &mut peer_h, &mut peer_w);
-                assert_eq!(answer, refusal(peer));
-                assert!(s == peer_s && i == peer_i && h == peer_h && w == peer_w, "the peer balances alike");
+                let mut lent = [count, count, count, count, working].map(|count| vec![9; count]);
+                let mut peer_lent = lent.clone();
+                let [s, i, h, l, w] = &mut lent;
+                let answer = zibewoka::balance(n, starts, images, d, s, i, h, l, w);
+                let [s, i, h, l, w] = &mut peer_lent;
+                assert_eq!(answer, refusal(peer::balance(n, starts, images, d, s, i, h, l, w)));
+                assert!(lent == peer_lent, "the peer balances alike");
             }
         }
     }
@@ -415,13 +487,13 @@ fn forecast_line(r: &mut Random, shape: &str, k: usize, d: u32) -> String {
     assert_forecast_alike(&list, d);
     let size = intervals(&list, d);
     let List { n, starts, images } = &list;
-    let [mut s, mut i, mut h] = [0; 3].map(|_| vec![0; size]);
+    let [mut s, mut i, mut h, mut l] = [0; 4].map(|_| vec![0; size]);
     let [mut w, mut balance_w, mut peer_w] = [0; 3].map(|_| vec![0; bound(d, k)]);
     let [library, balance, peer] = seconds_of(
         100,
         [
             &mut || zibewoka::forecast(*n, starts, images, d, &mut w).is_ok(),
-            &mut || zibewoka::balance(*n, starts, images, d, &mut s, &mut i, &mut h, &mut balance_w).is_ok(),
+            &mut || zibewoka::balance(*n, starts, images, d, &mut s, &mut i, &mut h, &mut l, &mut balance_w).is_ok(),
             &mut || peer::forecast(*n, starts, images, d, &mut peer_w).is_ok(),
         ],
     );
@@ -545,6 +617,8 @@ fn print_least_degrees(r: &mut Random) {
 fn main() {
     let r = &mut Random::new(7);
     print_calls(r);
+    println!();
+    print_longest(&mut Random::new(8)); // of its own, so that the tables behind it keep their lists
     println!();
     print_questions(r);
     println!();

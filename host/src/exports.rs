@@ -161,7 +161,8 @@ unsafe extern "C" {
     fn zibewoka_check(n: u32, starts: Ptr, k: usize, images: Ptr, ki: usize) -> ListAnswer;
     fn zibewoka_balance(
         n: u32, starts: Ptr, k: usize, images: Ptr, ki: usize, d: u32,
-        to_starts: MutPtr, ls: usize, to_images: MutPtr, li: usize, to_holders: MutPtr, lh: usize, working: MutPtr, lw: usize,
+        to_starts: MutPtr, ls: usize, to_images: MutPtr, li: usize, to_holders: MutPtr, lh: usize,
+        to_lengths: MutPtr, ll: usize, working: MutPtr, lw: usize,
     ) -> BalanceAnswer;
     fn zibewoka_forecast(
         n: u32, starts: Ptr, k: usize, images: Ptr, ki: usize, d: u32, working: MutPtr, lw: usize,
@@ -176,22 +177,27 @@ unsafe extern "C" {
         n: u32, starts: Ptr, k: usize, images: Ptr, ki: usize, to_starts: MutPtr, ls: usize, to_images: MutPtr, li: usize,
     ) -> NextAnswer;
     fn zibewoka_find(
-        n: u32, starts: Ptr, k: usize, images: Ptr, ki: usize, holders: Ptr, kh: usize, place: u32,
+        n: u32, starts: Ptr, k: usize, images: Ptr, ki: usize, holders: Ptr, kh: usize, lengths: Ptr, kl: usize,
+        place: u32,
     ) -> IntervalAnswer;
     fn zibewoka_move(
-        n: u32, starts: Ptr, k: usize, images: Ptr, ki: usize, holders: Ptr, kh: usize, interval: u32, place: u32,
+        n: u32, starts: Ptr, k: usize, images: Ptr, ki: usize, holders: Ptr, kh: usize, lengths: Ptr, kl: usize,
+        interval: u32, place: u32,
     ) -> MoveAnswer;
     fn zibewoka_moves(
-        n: u32, starts: Ptr, k: usize, images: Ptr, ki: usize, holders: Ptr, kh: usize, interval: u32, place: u32, m: u32,
+        n: u32, starts: Ptr, k: usize, images: Ptr, ki: usize, holders: Ptr, kh: usize, lengths: Ptr, kl: usize,
+        interval: u32, place: u32, m: u32,
     ) -> MovesAnswer;
     fn zibewoka_inverse(
-        n: u32, starts: Ptr, k: usize, images: Ptr, ki: usize, holders: Ptr, kh: usize, place: u32,
+        n: u32, starts: Ptr, k: usize, images: Ptr, ki: usize, holders: Ptr, kh: usize, lengths: Ptr, kl: usize,
+        place: u32,
     ) -> IntervalAnswer;
     fn zibewoka_weight(
-        n: u32, starts: Ptr, k: usize, images: Ptr, ki: usize, holders: Ptr, kh: usize, interval: u32,
+        n: u32, starts: Ptr, k: usize, images: Ptr, ki: usize, holders: Ptr, kh: usize, lengths: Ptr, kl: usize,
+        interval: u32,
     ) -> WeightAnswer;
     fn zibewoka_questions(
-        n: u32, starts: Ptr, k: usize, images: Ptr, ki: usize, holders: Ptr, kh: usize,
+        n: u32, starts: Ptr, k: usize, images: Ptr, ki: usize, holders: Ptr, kh: usize, lengths: Ptr, kl: usize,
         questions: *mut Question, lq: usize,
     ) -> QuestionsAnswer;
 }
@@ -227,9 +233,10 @@ pub fn balance(
     to_starts: &mut [u32],
     to_images: &mut [u32],
     to_holders: &mut [u32],
+    to_lengths: &mut [u32],
     working: &mut [u32],
 ) -> BalanceAnswer {
-    call!(zibewoka_balance, n, [starts, images], [d], [to_starts, to_images, to_holders, working])
+    call!(zibewoka_balance, n, [starts, images], [d], [to_starts, to_images, to_holders, to_lengths, working])
 }
 
 /// `zibewoka_forecast`.
@@ -264,40 +271,50 @@ pub fn next_list(n: u32, starts: &[u32], images: &[u32], to_starts: &mut [u32], 
 
 /// `zibewoka_find`.
 #[inline]
-pub fn find(n: u32, starts: &[u32], images: &[u32], holders: &[u32], place: u32) -> IntervalAnswer {
-    call!(zibewoka_find, n, [starts, images, holders], [place], [])
+pub fn find(n: u32, starts: &[u32], images: &[u32], holders: &[u32], lengths: &[u32], place: u32) -> IntervalAnswer {
+    call!(zibewoka_find, n, [starts, images, holders, lengths], [place], [])
 }
 
 /// `zibewoka_move`.
 #[inline]
-pub fn move_once(n: u32, starts: &[u32], images: &[u32], holders: &[u32], interval: u32, place: u32) -> MoveAnswer {
-    call!(zibewoka_move, n, [starts, images, holders], [interval, place], [])
+pub fn move_once(
+    n: u32,
+    starts: &[u32],
+    images: &[u32],
+    holders: &[u32],
+    lengths: &[u32],
+    interval: u32,
+    place: u32,
+) -> MoveAnswer {
+    call!(zibewoka_move, n, [starts, images, holders, lengths], [interval, place], [])
 }
 
 /// `zibewoka_moves`.
+#[allow(clippy::too_many_arguments)] // the export's own
 #[inline]
 pub fn moves(
     n: u32,
     starts: &[u32],
     images: &[u32],
     holders: &[u32],
+    lengths: &[u32],
     interval: u32,
     place: u32,
     m: u32,
 ) -> MovesAnswer {
-    call!(zibewoka_moves, n, [starts, images, holders], [interval, place, m], [])
+    call!(zibewoka_moves, n, [starts, images, holders, lengths], [interval, place, m], [])
 }
 
 /// `zibewoka_inverse`.
 #[inline]
-pub fn inverse(n: u32, starts: &[u32], images: &[u32], holders: &[u32], place: u32) -> IntervalAnswer {
-    call!(zibewoka_inverse, n, [starts, images, holders], [place], [])
+pub fn inverse(n: u32, starts: &[u32], images: &[u32], holders: &[u32], lengths: &[u32], place: u32) -> IntervalAnswer {
+    call!(zibewoka_inverse, n, [starts, images, holders, lengths], [place], [])
 }
 
 /// `zibewoka_weight`.
 #[inline]
-pub fn weight(n: u32, starts: &[u32], images: &[u32], holders: &[u32], interval: u32) -> WeightAnswer {
-    call!(zibewoka_weight, n, [starts, images, holders], [interval], [])
+pub fn weight(n: u32, starts: &[u32], images: &[u32], holders: &[u32], lengths: &[u32], interval: u32) -> WeightAnswer {
+    call!(zibewoka_weight, n, [starts, images, holders, lengths], [interval], [])
 }
 
 /// `zibewoka_questions`.
@@ -307,7 +324,8 @@ pub fn questions(
     starts: &[u32],
     images: &[u32],
     holders: &[u32],
+    lengths: &[u32],
     questions: &mut [Question],
 ) -> QuestionsAnswer {
-    call!(zibewoka_questions, n, [starts, images, holders], [], [questions])
+    call!(zibewoka_questions, n, [starts, images, holders, lengths], [], [questions])
 }

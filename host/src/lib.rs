@@ -3,7 +3,7 @@
 //! A run list is a length `n` with two slices of one length: run i sends the places from `starts[i]` up to the next start
 //! (or `n`) to as many places from `images[i]` on. [`check`] says whether a list is a permutation of the places below
 //! `n`; [`next_list`] goes from a list of a few places to the next; [`balance`] writes a list's balanced tables
-//! (starts, images, holders) into lent slices; [`forecast`] says beforehand how many entries these need, and
+//! (starts, images, holders, lengths) into lent slices; [`forecast`] says beforehand how many entries these need, and
 //! [`least_degree`] at which degree a given number of entries is enough; [`find`], [`move_once`], [`moves`], [`inverse`] and
 //! [`weight`] walk through any tables, and [`questions`] finds and moves for many places in one call.
 //!
@@ -46,7 +46,7 @@ struct Readme;
 /// | 9 | `n` is 0, or the tables are empty, of unequal count, or above 32,768 entries | 0 |
 /// | 10 | there is no interval of that index | the index |
 /// | 11 | the place is not below `n`, outside the interval, or (find, questions) below the first start | the place |
-/// | 12 | the interval's entries do not fit: its holder, or where it leads | the interval |
+/// | 12 | the interval's entries do not fit: its length, its holder, or where it leads | the interval |
 /// | 14 | no interval sends a place there | the place |
 /// | 16 | a question's place is below that of the one before | the question's index |
 /// | 17 | the next list is asked for of more than 7 places | `n` |
@@ -54,7 +54,8 @@ struct Readme;
 /// | 19 | at each degree from 2 to 64 the balanced list has more intervals than the stated entries | these entries |
 ///
 /// k is the number of runs, K the number of intervals of the balanced list, and B, for degree d, the whole part of
-/// d·k/(d−1); K is at most B. 13 and 15 are the numbers of bookmarks and of files, which have no export.
+/// d·k/(d−1); K is at most B. An interval's length is wrong where it is 0 or differs from the next start (or `n`) minus its
+/// own. 13 and 15 are the numbers of bookmarks and of files, which have no export.
 #[derive(Clone, Copy, Debug, PartialEq, Eq, Hash)]
 pub struct Refusal {
     /// A number of the table.
@@ -132,7 +133,7 @@ pub fn check(n: u32, starts: &[u32], images: &[u32]) -> Result<(), Refusal> {
 
 /// Balances the list at degree `d`, 2 to 64, and answers K, how many intervals the balanced list has.
 ///
-/// Its tables come to stand in the first K entries of the three lent ones, which need no more than these ([`forecast`]
+/// Its tables come to stand in the first K entries of the four lent ones, which need no more than these ([`forecast`]
 /// gives K), and the first B entries of `working` are 0 then; B is the whole part of d·k/(d−1), for k runs. All other
 /// entries stay.
 ///
@@ -150,9 +151,10 @@ pub fn balance(
     to_starts: &mut [u32],
     to_images: &mut [u32],
     to_holders: &mut [u32],
+    to_lengths: &mut [u32],
     working: &mut [u32],
 ) -> Result<u32, Refusal> {
-    let answer = exports::balance(n, starts, images, d, to_starts, to_images, to_holders, working);
+    let answer = exports::balance(n, starts, images, d, to_starts, to_images, to_holders, to_lengths, working);
     done(answer.number, answer.place)?;
     Ok(answer.intervals)
 }
@@ -167,8 +169,8 @@ pub fn balance(
 /// let mut working = [0; 10]; // B entries: 2·5/(2 − 1) at degree 2
 /// let size = zibewoka::forecast(n, &starts, &images, 2, &mut working)?;
 /// assert_eq!(size, zibewoka::Forecast { intervals: 6, cuts: 1 });
-/// let [mut s, mut i, mut h] = [0; 3].map(|_| vec![0; size.intervals as usize]);
-/// assert_eq!(zibewoka::balance(n, &starts, &images, 2, &mut s, &mut i, &mut h, &mut working), Ok(6));
+/// let [mut s, mut i, mut h, mut l] = [0; 4].map(|_| vec![0; size.intervals as usize]);
+/// assert_eq!(zibewoka::balance(n, &starts, &images, 2, &mut s, &mut i, &mut h, &mut l, &mut working), Ok(6));
 /// # Ok::<(), zibewoka::Refusal>(())
 /// ```
 ///
@@ -266,10 +268,17 @@ pub fn next_list(
 /// The interval that has `place`.
 ///
 /// # Errors
-/// Numbers 9 and 11.
+/// Number 9; then 12, with the lowest interval whose length is wrong; then 11.
 #[inline]
-pub fn find(n: u32, starts: &[u32], images: &[u32], holders: &[u32], place: u32) -> Result<u32, Refusal> {
-    let answer = exports::find(n, starts, images, holders, place);
+pub fn find(
+    n: u32,
+    starts: &[u32],
+    images: &[u32],
+    holders: &[u32],
+    lengths: &[u32],
+    place: u32,
+) -> Result<u32, Refusal> {
+    let answer = exports::find(n, starts, images, holders, lengths, place);
     done(answer.number, answer.place)?;
     Ok(answer.interval)
 }
@@ -277,17 +286,18 @@ pub fn find(n: u32, starts: &[u32], images: &[u32], holders: &[u32], place: u32)
 /// One move from `place`, which `interval` has.
 ///
 /// # Errors
-/// Numbers 9 to 12.
+/// Numbers 9 and 10; then 12 where the interval's length is wrong; then 11; then 12 where it can't be left.
 #[inline]
 pub fn move_once(
     n: u32,
     starts: &[u32],
     images: &[u32],
     holders: &[u32],
+    lengths: &[u32],
     interval: u32,
     place: u32,
 ) -> Result<Step, Refusal> {
-    let answer = exports::move_once(n, starts, images, holders, interval, place);
+    let answer = exports::move_once(n, starts, images, holders, lengths, interval, place);
     done(answer.number, answer.place)?;
     let exports::MoveAnswer { place, interval, distance, count, .. } = answer;
     Ok(Step { place, interval, distance, count: u64::from(count) })
@@ -296,18 +306,21 @@ pub fn move_once(
 /// `m` moves from `place`, which `interval` has.
 ///
 /// # Errors
-/// Numbers 9 to 12; 12 with the interval that could not be left, and then there is no part result.
+/// Numbers 9 and 10; then 12 where the interval's length is wrong; then 11; then 12 at each move, with the interval whose
+/// length is wrong or that can't be left, and then there is no part result.
+#[allow(clippy::too_many_arguments)] // the paper's own
 #[inline]
 pub fn moves(
     n: u32,
     starts: &[u32],
     images: &[u32],
     holders: &[u32],
+    lengths: &[u32],
     interval: u32,
     place: u32,
     m: u32,
 ) -> Result<Step, Refusal> {
-    let answer = exports::moves(n, starts, images, holders, interval, place, m);
+    let answer = exports::moves(n, starts, images, holders, lengths, interval, place, m);
     done(answer.number, answer.place)?;
     let exports::MovesAnswer { place, interval, distance, count, .. } = answer;
     Ok(Step { place, interval, distance, count })
@@ -316,10 +329,17 @@ pub fn moves(
 /// The place that `place` is reached from, and its interval.
 ///
 /// # Errors
-/// Numbers 9, 11 and 14.
+/// Number 9; then 12, with the lowest interval whose length is wrong; then 11; then 14.
 #[inline]
-pub fn inverse(n: u32, starts: &[u32], images: &[u32], holders: &[u32], place: u32) -> Result<Position, Refusal> {
-    let answer = exports::inverse(n, starts, images, holders, place);
+pub fn inverse(
+    n: u32,
+    starts: &[u32],
+    images: &[u32],
+    holders: &[u32],
+    lengths: &[u32],
+    place: u32,
+) -> Result<Position, Refusal> {
+    let answer = exports::inverse(n, starts, images, holders, lengths, place);
     done(answer.number, answer.place)?;
     Ok(Position { place: answer.place, interval: answer.interval })
 }
@@ -329,8 +349,15 @@ pub fn inverse(n: u32, starts: &[u32], images: &[u32], holders: &[u32], place: u
 /// # Errors
 /// Numbers 9, 10 and 12.
 #[inline]
-pub fn weight(n: u32, starts: &[u32], images: &[u32], holders: &[u32], interval: u32) -> Result<u32, Refusal> {
-    let answer = exports::weight(n, starts, images, holders, interval);
+pub fn weight(
+    n: u32,
+    starts: &[u32],
+    images: &[u32],
+    holders: &[u32],
+    lengths: &[u32],
+    interval: u32,
+) -> Result<u32, Refusal> {
+    let answer = exports::weight(n, starts, images, holders, lengths, interval);
     done(answer.number, answer.place)?;
     Ok(answer.weight)
 }
@@ -345,23 +372,26 @@ pub fn weight(n: u32, starts: &[u32], images: &[u32], holders: &[u32], interval:
 /// ```
 /// use zibewoka::Question;
 ///
-/// let (starts, images, holders) = ([0, 2, 4, 6, 8, 12], [14, 12, 10, 8, 0, 4], [5, 5, 4, 4, 0, 2]);
+/// let (starts, images) = ([0, 2, 4, 6, 8, 12], [14, 12, 10, 8, 0, 4]);
+/// let (holders, lengths) = ([5, 5, 4, 4, 0, 2], [2, 2, 2, 2, 4, 4]);
 /// let mut records = [3, 11].map(|place| Question { place, ..Question::default() });
-/// assert_eq!(zibewoka::questions(16, &starts, &images, &holders, &mut records), Ok(4));
+/// assert_eq!(zibewoka::questions(16, &starts, &images, &holders, &lengths, &mut records), Ok(4));
 /// assert_eq!(records[1], Question { place: 11, interval: 4, to_place: 3, to_interval: 1, count: 2, distance: 1 });
 /// ```
 ///
 /// # Errors
-/// Number 9; then 16, with the record's index; then 11; then 12: each of the lowest record that it applies to.
+/// Number 9; then 12, with the lowest interval whose length is wrong; then 16, with the record's index; then 11; then 12: each
+/// of these three of the lowest record that it applies to.
 #[inline]
 pub fn questions(
     n: u32,
     starts: &[u32],
     images: &[u32],
     holders: &[u32],
+    lengths: &[u32],
     questions: &mut [Question],
 ) -> Result<u32, Refusal> {
-    let answer = exports::questions(n, starts, images, holders, questions);
+    let answer = exports::questions(n, starts, images, holders, lengths, questions);
     done(answer.number, answer.place)?;
     Ok(answer.count)
 }

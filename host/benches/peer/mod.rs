@@ -161,13 +161,14 @@ pub fn balance(
     to_starts: &mut [u32],
     to_images: &mut [u32],
     to_holders: &mut [u32],
+    to_lengths: &mut [u32],
     working: &mut [u32],
 ) -> Outcome<u32> {
     let (order, b) = check_with_room(n, starts, images, d, working)?;
     let cuts = balancing_cuts(n, starts, images, &order, d);
     working[..b].fill(0);
     let k = starts.len() + cuts.len();
-    if to_starts.len().min(to_images.len()).min(to_holders.len()) < k {
+    if to_starts.len().min(to_images.len()).min(to_holders.len()).min(to_lengths.len()) < k {
         return Err((8, k as u32));
     }
     let mut rest = &cuts[..];
@@ -182,19 +183,67 @@ pub fn balance(
             rest = others;
         }
     }
-    let to_starts = &to_starts[..k];
-    for (holder, &image) in to_holders[..k].iter_mut().zip(&to_images[..k]) {
-        *holder = to_starts.partition_point(|&s| s <= image) as u32 - 1;
-    }
+    link(&to_starts[..k], &to_images[..k], &mut to_holders[..k]);
+    measure(n, &to_starts[..k], &mut to_lengths[..k]);
     Ok(k as u32)
 }
 
-fn fits(n: u32, starts: &[u32], images: &[u32], holders: &[u32]) -> Outcome<()> {
+/// The holder of each image.
+fn link(starts: &[u32], images: &[u32], holders: &mut [u32]) {
+    for (holder, &image) in holders.iter_mut().zip(images) {
+        *holder = starts.partition_point(|&s| s <= image) as u32 - 1;
+    }
+}
+
+/// The length of each interval.
+fn measure(n: u32, starts: &[u32], lengths: &mut [u32]) {
+    for (length, pair) in lengths.iter_mut().zip(starts.windows(2)) {
+        *length = pair[1] - pair[0];
+    }
+    let last = starts.len() - 1;
+    lengths[last] = n - starts[last];
+}
+
+fn fits(n: u32, starts: &[u32], images: &[u32], holders: &[u32], lengths: &[u32]) -> Outcome<()> {
     let k = starts.len();
-    if n == 0 || k == 0 || k != images.len() || k != holders.len() || k > 32768 {
+    if n == 0 || k == 0 || k != images.len() || k != holders.len() || k != lengths.len() || k > 32768 {
         return Err((9, 0));
     }
     Ok(())
+}
+
+/// Whether a length is 0 or is not the end minus the start. Both tests are made at once: a jump between them would keep the
+/// compiler from testing several intervals at a time.
+#[inline(always)]
+fn differs(start: u32, end: u32, length: u32) -> bool {
+    (end <= start) | (end.wrapping_sub(start) != length)
+}
+
+/// The same of interval x.
+#[inline(always)]
+fn is_wrong_length(n: u32, starts: &[u32], lengths: &[u32], x: usize) -> bool {
+    differs(starts[x], starts.get(x + 1).copied().unwrap_or(n), lengths[x])
+}
+
+/// The lowest interval whose length is wrong, if there is one. It is looked for only where a pass without an exit, which is quicker,
+/// has seen one.
+fn first_wrong_length(n: u32, starts: &[u32], lengths: &[u32]) -> Option<usize> {
+    let last = starts.len() - 1;
+    let others = starts[..last].iter().zip(&starts[1..]).zip(&lengths[..last]);
+    let is_any = others.fold(false, |is_any, ((&start, &end), &length)| is_any | differs(start, end, length));
+    if !is_any && !differs(starts[last], n, lengths[last]) {
+        return None;
+    }
+    (0..=last).find(|&x| is_wrong_length(n, starts, lengths, x))
+}
+
+/// Tests 9, and 12 of all lengths.
+fn fits_throughout(n: u32, starts: &[u32], images: &[u32], holders: &[u32], lengths: &[u32]) -> Outcome<()> {
+    fits(n, starts, images, holders, lengths)?;
+    match first_wrong_length(n, starts, lengths) {
+        Some(x) => Err((12, x as u32)),
+        None => Ok(()),
+    }
 }
 
 /// Tests 1 to 6, 17, 8 and 18, and the next list: the values are changed in place, and written as maximal runs.
@@ -228,21 +277,26 @@ pub fn next_list(n: u32, starts: &[u32], images: &[u32], to_starts: &mut [u32], 
 }
 
 #[inline(never)]
-pub fn find(n: u32, starts: &[u32], images: &[u32], holders: &[u32], i: u32) -> Outcome<u32> {
-    fits(n, starts, images, holders)?;
+pub fn find(n: u32, starts: &[u32], images: &[u32], holders: &[u32], lengths: &[u32], i: u32) -> Outcome<u32> {
+    fits_throughout(n, starts, images, holders, lengths)?;
     if n <= i || i < starts[0] {
         return Err((11, i));
     }
     Ok(starts[1..].iter().take_while(|&&s| s <= i).count() as u32)
 }
 
-fn located(n: u32, starts: &[u32], images: &[u32], holders: &[u32], x: u32, i: u32) -> Outcome<()> {
-    fits(n, starts, images, holders)?;
+/// Tests 9, 10, 12 of x's length, and 11.
+fn located(n: u32, starts: &[u32], images: &[u32], holders: &[u32], lengths: &[u32], x: u32, i: u32) -> Outcome<()> {
+    fits(n, starts, images, holders, lengths)?;
     let at = x as usize;
     if starts.len() <= at {
         return Err((10, x));
     }
-    if n <= i || i < starts[at] || starts.get(at + 1).copied().unwrap_or(n) <= i {
+    if is_wrong_length(n, starts, lengths, at) {
+        return Err((12, x));
+    }
+    // Below its start a place's distance wraps, and is above any length that is right.
+    if n <= i || lengths[at] <= i.wrapping_sub(starts[at]) {
         return Err((11, i));
     }
     Ok(())
@@ -250,17 +304,19 @@ fn located(n: u32, starts: &[u32], images: &[u32], holders: &[u32], x: u32, i: u
 
 /// Tests 9, 10 and 12, and how many starts lie under x's image.
 #[inline(never)]
-pub fn weight(n: u32, starts: &[u32], images: &[u32], holders: &[u32], x: u32) -> Outcome<u32> {
-    fits(n, starts, images, holders)?;
+pub fn weight(n: u32, starts: &[u32], images: &[u32], holders: &[u32], lengths: &[u32], x: u32) -> Outcome<u32> {
+    fits(n, starts, images, holders, lengths)?;
     let at = x as usize;
     if starts.len() <= at {
         return Err((10, x));
     }
+    if is_wrong_length(n, starts, lengths, at) {
+        return Err((12, x));
+    }
     let (image, h) = (images[at], holders[at] as usize);
-    let end = starts.get(at + 1).copied().unwrap_or(n);
-    let image_end = u64::from(image) + u64::from(end.saturating_sub(starts[at]));
+    let image_end = u64::from(image) + u64::from(lengths[at]);
     match starts.get(h) {
-        Some(&start) if start <= image && starts[at] < end && image_end <= u64::from(n) => {
+        Some(&start) if start <= image && image_end <= u64::from(n) => {
             let first = if start == image { h } else { h + 1 };
             Ok(starts[first..].iter().take_while(|&&s| u64::from(s) < image_end).count() as u32)
         }
@@ -268,8 +324,8 @@ pub fn weight(n: u32, starts: &[u32], images: &[u32], holders: &[u32], x: u32) -
     }
 }
 
-/// The place that a move reaches from a place that its interval has, and the holder to go on from; or nothing where the
-/// interval is broken.
+/// The place that a move reaches from a place that its interval, of a right length, has, and the holder to go on from; or
+/// nothing where the interval is broken.
 #[inline(always)]
 fn landing(n: u32, starts: &[u32], images: &[u32], holders: &[u32], x: usize, i: u32) -> Option<(u32, usize)> {
     let image = images[x];
@@ -306,8 +362,8 @@ pub struct Step<C> {
     pub count: C,
 }
 
-/// A move from a place that its interval has: the place and the interval reached, and the holder; or nothing where the
-/// interval is broken.
+/// A move from a place that its interval, of a right length, has: the place and the interval reached, and the holder; or
+/// nothing where the interval is broken.
 #[inline(always)]
 fn step(n: u32, starts: &[u32], images: &[u32], holders: &[u32], x: usize, i: u32) -> Option<(u32, usize, usize)> {
     let (j, h) = landing(n, starts, images, holders, x, i)?;
@@ -315,8 +371,16 @@ fn step(n: u32, starts: &[u32], images: &[u32], holders: &[u32], x: usize, i: u3
 }
 
 #[inline(never)]
-pub fn move_once(n: u32, starts: &[u32], images: &[u32], holders: &[u32], x: u32, i: u32) -> Outcome<Step<u32>> {
-    located(n, starts, images, holders, x, i)?;
+pub fn move_once(
+    n: u32,
+    starts: &[u32],
+    images: &[u32],
+    holders: &[u32],
+    lengths: &[u32],
+    x: u32,
+    i: u32,
+) -> Outcome<Step<u32>> {
+    located(n, starts, images, holders, lengths, x, i)?;
     match step(n, starts, images, holders, x as usize, i) {
         None => Err((12, x)),
         Some((j, y, h)) => {
@@ -326,13 +390,27 @@ pub fn move_once(n: u32, starts: &[u32], images: &[u32], holders: &[u32], x: u32
     }
 }
 
+#[allow(clippy::too_many_arguments)]
 #[inline(never)]
-pub fn moves(n: u32, starts: &[u32], images: &[u32], holders: &[u32], x: u32, i: u32, m: u32) -> Outcome<Step<u64>> {
-    located(n, starts, images, holders, x, i)?;
-    // Of one length, as was tested: the indexes into two of them need no test of their own.
-    let (images, holders) = (&images[..starts.len()], &holders[..starts.len()]);
+pub fn moves(
+    n: u32,
+    starts: &[u32],
+    images: &[u32],
+    holders: &[u32],
+    lengths: &[u32],
+    x: u32,
+    i: u32,
+    m: u32,
+) -> Outcome<Step<u64>> {
+    located(n, starts, images, holders, lengths, x, i)?;
+    // Of one length, as was tested: the indexes into three of them need no test of their own.
+    let k = starts.len();
+    let (images, holders, lengths) = (&images[..k], &holders[..k], &lengths[..k]);
     let (mut place, mut interval, mut count) = (i, x as usize, 0);
     for _ in 0..m {
+        if is_wrong_length(n, starts, lengths, interval) {
+            return Err((12, interval as u32));
+        }
         let Some((j, y, h)) = step(n, starts, images, holders, interval, place) else {
             return Err((12, interval as u32));
         };
@@ -360,9 +438,10 @@ pub fn questions(
     starts: &[u32],
     images: &[u32],
     holders: &[u32],
+    lengths: &[u32],
     questions: &mut [Question],
 ) -> Outcome<u32, u64> {
-    fits(n, starts, images, holders).map_err(|(number, place)| (number, u64::from(place)))?;
+    fits_throughout(n, starts, images, holders, lengths).map_err(|(number, place)| (number, u64::from(place)))?;
     in_order(n, starts[0], questions)?;
     // Of one length, as was tested.
     let (images, holders) = (&images[..starts.len()], &holders[..starts.len()]);

@@ -69,15 +69,24 @@ pub fn check(n: u32, starts: &[u32], images: &[u32]) -> Outcome<()> {
     Ok(())
 }
 
-/// Starts, images and holders.
+/// Starts, images, holders and lengths.
 #[derive(Clone, Debug, PartialEq, Eq)]
 pub struct Tables {
     pub starts: Vec<u32>,
     pub images: Vec<u32>,
     pub holders: Vec<u32>,
+    pub lengths: Vec<u32>,
 }
 
-/// The tables of a legal list: the holder is "the index of the interval in which x's image lies".
+impl Tables {
+    /// The columns in the order in which a call takes them.
+    pub fn columns(&self) -> [&[u32]; 4] {
+        [&self.starts, &self.images, &self.holders, &self.lengths]
+    }
+}
+
+/// The tables of a legal list: the holder is "the index of the interval in which x's image lies", and each length is "equal to
+/// end minus start".
 pub fn tables(n: u32, starts: &[u32], images: &[u32]) -> Tables {
     let mut holders = Vec::new();
     for &image in images {
@@ -87,7 +96,8 @@ pub fn tables(n: u32, starts: &[u32], images: &[u32]) -> Tables {
         }
         holders.push(h as u32);
     }
-    Tables { starts: starts.to_vec(), images: images.to_vec(), holders }
+    let lengths = (0..starts.len()).map(|x| (end(n, starts, x) - u64::from(starts[x])) as u32).collect();
+    Tables { starts: starts.to_vec(), images: images.to_vec(), holders, lengths }
 }
 
 /// "The number of starts at or above its image and below its image plus length."
@@ -193,7 +203,7 @@ fn room(n: u32, starts: &[u32], images: &[u32], d: u32, working: usize) -> Outco
 
 /// The balanced list's tables. "A short working table gives 8 with B first; short tables then give 8 with K." `lent` has the
 /// lent tables' counts of entries, that of the working table last.
-pub fn balance(n: u32, starts: &[u32], images: &[u32], d: u32, lent: [usize; 4]) -> Worked<Tables> {
+pub fn balance(n: u32, starts: &[u32], images: &[u32], d: u32, lent: [usize; 5]) -> Worked<Tables> {
     let [to_tables @ .., working] = lent;
     worked(room(n, starts, images, d, working), || {
         let (to_starts, to_images) = balanced(n, starts, images, d as usize);
@@ -295,7 +305,7 @@ pub fn next_list(n: u32, starts: &[u32], images: &[u32], lent: [usize; 2]) -> Ou
 /// Test 9.
 fn fits(n: u32, t: &Tables) -> Outcome<()> {
     let k = t.starts.len();
-    if n == 0 || k == 0 || t.images.len() != k || t.holders.len() != k || k > 32768 {
+    if n == 0 || k == 0 || t.columns().iter().any(|column| column.len() != k) || k > 32768 {
         return Err((9, 0));
     }
     Ok(())
@@ -309,9 +319,34 @@ fn known(t: &Tables, x: u32) -> Outcome<()> {
     Ok(())
 }
 
+/// "A length of 0, or one that differs from end minus start."
+pub fn is_wrong_length(n: u32, t: &Tables, x: usize) -> bool {
+    let length = i64::from(t.lengths[x]);
+    length == 0 || length != end(n, &t.starts, x) as i64 - i64::from(t.starts[x])
+}
+
+/// Test 12 of the length of x, an interval that there is.
+fn measured(n: u32, t: &Tables, x: usize) -> Outcome<()> {
+    if is_wrong_length(n, t, x) {
+        return Err((12, x as u32));
+    }
+    Ok(())
+}
+
+/// "In find, inverse and A.1 all lengths are tested, lowest first, right after 9."
+fn fits_and_measured(n: u32, t: &Tables) -> Outcome<()> {
+    fits(n, t)?;
+    (0..t.starts.len()).try_for_each(|x| measured(n, t, x))
+}
+
+/// "Each operation on one interval reads its end as start plus length."
+fn end_by_length(t: &Tables, x: usize) -> u64 {
+    u64::from(t.starts[x]) + u64::from(t.lengths[x])
+}
+
 /// "From interval 0, go on while the next start is at most i."
 pub fn find(n: u32, t: &Tables, i: u32) -> Outcome<u32> {
-    fits(n, t)?;
+    fits_and_measured(n, t)?;
     if i >= n || i < t.starts[0] {
         return Err((11, i));
     }
@@ -322,11 +357,13 @@ pub fn find(n: u32, t: &Tables, i: u32) -> Outcome<u32> {
     Ok(x as u32)
 }
 
-/// Tests 9 to 11 of a move.
+/// Tests 9, 10, 12 of the length of x, "tested between 10 and 11", and 11.
 fn stands(n: u32, t: &Tables, x: u32, i: u32) -> Outcome<()> {
     fits(n, t)?;
     known(t, x)?;
-    if i >= n || i < t.starts[x as usize] || u64::from(i) >= end(n, &t.starts, x as usize) {
+    let at = x as usize;
+    measured(n, t, at)?;
+    if i >= n || i < t.starts[at] || u64::from(i) >= end_by_length(t, at) {
         return Err((11, i));
     }
     Ok(())
@@ -388,14 +425,14 @@ pub fn steps(n: u32, t: &Tables, x: u32, i: u32, m: u32) -> Outcome<Reached> {
 
 /// "The lowest x whose image is at most j and for which start + (j − image) is below x's end": that sum, and x.
 pub fn inverse(n: u32, t: &Tables, j: u32) -> Outcome<(u32, u32)> {
-    fits(n, t)?;
+    fits_and_measured(n, t)?;
     if j >= n {
         return Err((11, j));
     }
     for x in 0..t.starts.len() {
         if t.images[x] <= j {
             let sum = u64::from(t.starts[x]) + u64::from(j - t.images[x]);
-            if sum < end(n, &t.starts, x) {
+            if sum < end_by_length(t, x) {
                 return Ok((sum as u32, x as u32));
             }
         }
@@ -408,15 +445,15 @@ pub fn weight(n: u32, t: &Tables, x: u32) -> Outcome<u32> {
     fits(n, t)?;
     known(t, x)?;
     let at = x as usize;
+    measured(n, t, at)?;
     let h = t.holders[at] as usize;
     if h >= t.starts.len() || t.starts[h] > t.images[at] {
         return Err((12, x));
     }
-    let (start, end) = (u64::from(t.starts[at]), end(n, &t.starts, at));
-    if end <= start || u64::from(t.images[at]) + (end - start) > u64::from(n) {
+    let image_end = u64::from(t.images[at]) + u64::from(t.lengths[at]);
+    if image_end > u64::from(n) {
         return Err((12, x));
     }
-    let image_end = u64::from(t.images[at]) + (end - start);
     let first = if t.starts[h] == t.images[at] { h } else { h + 1 };
     let mut size = 0;
     while first + size < t.starts.len() && u64::from(t.starts[first + size]) < image_end {
@@ -436,7 +473,7 @@ pub type Record = [u32; 6];
 /// move. Answers the starts passed in finding, "equal to the last record's interval, or 0 for an empty list", and the
 /// records.
 pub fn questions(n: u32, t: &Tables, places: &[u32]) -> Outcome<(u32, Vec<Record>), u64> {
-    widened(fits(n, t))?;
+    widened(fits_and_measured(n, t))?;
     for x in 1..places.len() {
         if places[x] < places[x - 1] {
             return Err((16, x as u64));
@@ -480,7 +517,7 @@ fn file(bytes: &[u8]) -> Outcome<(u32, u32, usize, Tables)> {
         return Err((15, 20));
     }
     let (starts, images) = (&words[5..5 + k], &words[5 + k..]);
-    let tables = balance(n, starts, images, d, [usize::MAX; 4]).outcome?;
+    let tables = balance(n, starts, images, d, [usize::MAX; 5]).outcome?;
     Ok((n, d, k, tables))
 }
 

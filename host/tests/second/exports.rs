@@ -27,6 +27,18 @@ impl Numbers {
     }
 }
 
+/// What 12 is noted as where it was given for a wrong length, apart from the other reasons for it.
+const WRONG_LENGTH: u32 = 1200;
+
+/// The number that a call on tables gave, as it is noted.
+fn noted<T, P: Copy + Into<u64>>(n: u32, t: &Tables, outcome: &Outcome<T, P>) -> u32 {
+    match *outcome {
+        Ok(_) => 0,
+        Err((12, interval)) if second::is_wrong_length(n, t, interval.into() as usize) => WRONG_LENGTH,
+        Err((number, _)) => number,
+    }
+}
+
 /// The numbers that each export gave.
 #[derive(Default)]
 pub struct Given {
@@ -40,7 +52,15 @@ pub struct Given {
     next_list: Numbers,
     find: Numbers,
     step: Numbers,
+    /// How often find, inverse or a move was refused for a length though the place was not below n, so that 11 comes after.
+    length_before_place: u32,
+    /// How often questions were refused for a length though their places fell, so that 16 comes after.
+    length_before_fall: u32,
+    /// How often a move reached an interval of a wrong length, which is not tested by that move.
+    into_wrong_length: u32,
     steps: Numbers,
+    /// How often repeated moves were refused for the length of another interval than the one that they began in.
+    length_on_the_way: u32,
     inverse: Numbers,
     weight: Numbers,
     questions: Numbers,
@@ -101,29 +121,29 @@ impl Given {
     }
 
     /// Balances into tables of these counts, that of the working table last, with any numbers in them.
-    pub fn balance(&mut self, r: &mut Random, list: &List, d: u32, counts: [usize; 4]) -> Option<Tables> {
+    pub fn balance(&mut self, r: &mut Random, list: &List, d: u32, counts: [usize; 5]) -> Option<Tables> {
         let List { n, starts, images } = list;
         let Worked { outcome: wanted, cleared } = second::balance(*n, starts, images, d, counts);
         let before = counts.map(|count| r.words(count));
         let mut after = before.clone();
-        after[3][..cleared].fill(0);
+        after[4][..cleared].fill(0);
         let (number, place) = wanted.as_ref().err().copied().unwrap_or((0, 0));
         let mut intervals = 0;
         if let Ok(tables) = &wanted {
             let k = tables.starts.len();
             intervals = k as u32;
-            after[0][..k].copy_from_slice(&tables.starts);
-            after[1][..k].copy_from_slice(&tables.images);
-            after[2][..k].copy_from_slice(&tables.holders);
+            for (table, column) in after.iter_mut().zip(tables.columns()) {
+                table[..k].copy_from_slice(column);
+            }
         }
-        let [mut s, mut i, mut h, mut w] = before.clone();
-        let answer = exports::balance(*n, starts, images, d, &mut s, &mut i, &mut h, &mut w);
+        let [mut s, mut i, mut h, mut l, mut w] = before.clone();
+        let answer = exports::balance(*n, starts, images, d, &mut s, &mut i, &mut h, &mut l, &mut w);
         assert_eq!(answer, BalanceAnswer { number, place, intervals });
-        assert!([s, i, h, w] == after, "the lent tables after balancing");
-        let [mut s, mut i, mut h, mut w] = before;
-        let safe = zibewoka::balance(*n, starts, images, d, &mut s, &mut i, &mut h, &mut w);
+        assert!([s, i, h, l, w] == after, "the lent tables after balancing");
+        let [mut s, mut i, mut h, mut l, mut w] = before;
+        let safe = zibewoka::balance(*n, starts, images, d, &mut s, &mut i, &mut h, &mut l, &mut w);
         assert_eq!(safe, refusal(wanted.as_ref().map(|_| intervals).map_err(|&e| e)));
-        assert!([s, i, h, w] == after, "the same through the wrapper");
+        assert!([s, i, h, l, w] == after, "the same through the wrapper");
         self.balance.add(number);
         self.fewer_than_intervals += u32::from(number == 8 && cleared > 0);
         wanted.ok()
@@ -205,59 +225,73 @@ impl Given {
 
     fn find(&mut self, n: u32, t: &Tables, i: u32) {
         let wanted = second::find(n, t, i);
-        let answer = exports::find(n, &t.starts, &t.images, &t.holders, i);
+        let [starts, images, holders, lengths] = t.columns();
+        let answer = exports::find(n, starts, images, holders, lengths, i);
         let (number, place, interval) = match wanted {
             Ok(x) => (0, i, x),
             Err((number, place)) => (number, place, 0),
         };
         assert_eq!(answer, IntervalAnswer { number, place, interval });
-        assert_eq!(zibewoka::find(n, &t.starts, &t.images, &t.holders, i), refusal(wanted));
-        self.find.add(number);
+        assert_eq!(zibewoka::find(n, starts, images, holders, lengths, i), refusal(wanted));
+        let noted = noted(n, t, &wanted);
+        self.length_before_place += u32::from(noted == WRONG_LENGTH && n <= i);
+        self.find.add(noted);
     }
 
     fn step(&mut self, n: u32, t: &Tables, x: u32, i: u32) {
         let wanted = second::step(n, t, x, i);
-        let answer = exports::move_once(n, &t.starts, &t.images, &t.holders, x, i);
+        let [starts, images, holders, lengths] = t.columns();
+        let answer = exports::move_once(n, starts, images, holders, lengths, x, i);
         let (number, Reached { place, interval, distance, count }) = fields(wanted);
         assert_eq!(answer, MoveAnswer { number, place, interval, distance, count: count as u32 });
-        let safe = zibewoka::move_once(n, &t.starts, &t.images, &t.holders, x, i);
+        let safe = zibewoka::move_once(n, starts, images, holders, lengths, x, i);
         assert_eq!(safe, refusal(wanted.map(safe_step)));
-        self.step.add(number);
+        let noted = noted(n, t, &wanted);
+        self.length_before_place += u32::from(noted == WRONG_LENGTH && n <= i);
+        self.into_wrong_length += u32::from(noted == 0 && second::is_wrong_length(n, t, interval as usize));
+        self.step.add(noted);
     }
 
     fn steps(&mut self, n: u32, t: &Tables, x: u32, i: u32, m: u32) {
         let wanted = second::steps(n, t, x, i, m);
-        let answer = exports::moves(n, &t.starts, &t.images, &t.holders, x, i, m);
+        let [starts, images, holders, lengths] = t.columns();
+        let answer = exports::moves(n, starts, images, holders, lengths, x, i, m);
         let (number, Reached { place, interval, distance, count }) = fields(wanted);
         assert_eq!(answer, MovesAnswer { number, place, interval, distance, count });
-        let safe = zibewoka::moves(n, &t.starts, &t.images, &t.holders, x, i, m);
+        let safe = zibewoka::moves(n, starts, images, holders, lengths, x, i, m);
         assert_eq!(safe, refusal(wanted.map(safe_step)));
-        self.steps.add(number);
+        let noted = noted(n, t, &wanted);
+        self.length_on_the_way += u32::from(noted == WRONG_LENGTH && place != x);
+        self.steps.add(noted);
     }
 
     fn inverse(&mut self, n: u32, t: &Tables, j: u32) {
         let wanted = second::inverse(n, t, j);
-        let answer = exports::inverse(n, &t.starts, &t.images, &t.holders, j);
+        let [starts, images, holders, lengths] = t.columns();
+        let answer = exports::inverse(n, starts, images, holders, lengths, j);
         let (number, place, interval) = match wanted {
             Ok((place, interval)) => (0, place, interval),
             Err((number, place)) => (number, place, 0),
         };
         assert_eq!(answer, IntervalAnswer { number, place, interval });
-        let safe = zibewoka::inverse(n, &t.starts, &t.images, &t.holders, j);
+        let safe = zibewoka::inverse(n, starts, images, holders, lengths, j);
         assert_eq!(safe.map(|s| (s.place, s.interval)), refusal(wanted));
-        self.inverse.add(number);
+        let noted = noted(n, t, &wanted);
+        self.length_before_place += u32::from(noted == WRONG_LENGTH && n <= j);
+        self.inverse.add(noted);
     }
 
     fn weight(&mut self, n: u32, t: &Tables, x: u32) {
         let wanted = second::weight(n, t, x);
-        let answer = exports::weight(n, &t.starts, &t.images, &t.holders, x);
+        let [starts, images, holders, lengths] = t.columns();
+        let answer = exports::weight(n, starts, images, holders, lengths, x);
         let (number, place, weight) = match wanted {
             Ok(weight) => (0, 0, weight),
             Err((number, place)) => (number, place, 0),
         };
         assert_eq!(answer, WeightAnswer { number, place, weight });
-        assert_eq!(zibewoka::weight(n, &t.starts, &t.images, &t.holders, x), refusal(wanted));
-        self.weight.add(number);
+        assert_eq!(zibewoka::weight(n, starts, images, holders, lengths, x), refusal(wanted));
+        self.weight.add(noted(n, t, &wanted));
     }
 
     /// Questions at these places, with any numbers in the other fields. They are lent out of a longer slice, whose records
@@ -276,18 +310,22 @@ impl Given {
             }
             Err((number, place)) => (*number, 0, *place),
         };
+        let [starts, images, holders, lengths] = t.columns();
         let mut records = before.clone();
-        let answer = exports::questions(n, &t.starts, &t.images, &t.holders, &mut records[lent.clone()]);
+        let answer = exports::questions(n, starts, images, holders, lengths, &mut records[lent.clone()]);
         assert_eq!(answer, QuestionsAnswer { number, count, place });
         assert!(records == after, "the records after the questions");
         let mut records = before;
-        let safe = zibewoka::questions(n, &t.starts, &t.images, &t.holders, &mut records[lent.clone()]);
+        let safe = zibewoka::questions(n, starts, images, holders, lengths, &mut records[lent.clone()]);
+        let noted = noted(n, t, &wanted);
+        let falls = places.windows(2).any(|pair| pair[1] < pair[0]);
+        self.length_before_fall += u32::from(noted == WRONG_LENGTH && falls);
+        self.questions.add(noted);
         assert_eq!(safe, refusal(wanted.map(|(count, _)| count)));
         assert!(records == after, "the same through the wrapper");
         if number == 0 {
             records[lent].iter().for_each(|record| agrees_alone(n, t, record));
         }
-        self.questions.add(number);
     }
 
     /// A forecast and a least degree. Working tables are long enough, or not. Answers K, or k where it is not given.
@@ -312,13 +350,13 @@ impl Given {
         let k = list.starts.len();
         let b = second::bound(d.max(2), k);
         let size = if sized { self.sizes(r, list, d) } else { b };
-        let mut counts = [size, size, size, b].map(|count| count + r.below(3) as usize);
+        let mut counts = [size, size, size, size, b].map(|count| count + r.below(3) as usize);
         let mut pair = [0; 2].map(|_| k + r.below(3) as usize);
         let places = list.n.min(8) as usize;
         let mut places_pair = [0; 2].map(|_| places + r.below(3) as usize);
         if r.one_in(6) {
             places_pair[r.below(2) as usize] = r.below(places as u64 + 1) as usize;
-            counts[r.below(4) as usize] = r.below(b as u64 + 1) as usize;
+            counts[r.below(5) as usize] = r.below(b as u64 + 1) as usize;
             pair[r.below(2) as usize] = r.below(k as u64 + 1) as usize;
         }
         self.inverse_list(r, list, pair);
@@ -366,7 +404,11 @@ impl Given {
         self.next_list.add_all(other.next_list);
         self.find.add_all(other.find);
         self.step.add_all(other.step);
+        self.length_before_place += other.length_before_place;
+        self.length_before_fall += other.length_before_fall;
+        self.into_wrong_length += other.into_wrong_length;
         self.steps.add_all(other.steps);
+        self.length_on_the_way += other.length_on_the_way;
         self.inverse.add_all(other.inverse);
         self.weight.add_all(other.weight);
         self.questions.add_all(other.questions);
@@ -383,12 +425,12 @@ impl Given {
             ("least_degree", &self.least_degree, &[0, 1, 2, 3, 4, 5, 6, 8, 19], 1),
             ("inverse_list", &self.inverse_list, &[0, 1, 2, 3, 4, 5, 6, 8], 1),
             ("next_list", &self.next_list, &[0, 1, 2, 3, 4, 5, 6, 8, 17, 18], 1),
-            ("find", &self.find, &[0, 9, 11], 10_000),
-            ("move", &self.step, &[0, 9, 10, 11, 12], 10_000),
-            ("moves", &self.steps, &[0, 9, 10, 11, 12], 10_000),
-            ("inverse", &self.inverse, &[0, 9, 11, 14], 10_000),
-            ("weight", &self.weight, &[0, 9, 10, 12], 10_000),
-            ("questions", &self.questions, &[0, 9, 11, 12, 16], 10_000),
+            ("find", &self.find, &[0, 9, 11, WRONG_LENGTH], 10_000),
+            ("move", &self.step, &[0, 9, 10, 11, 12, WRONG_LENGTH], 10_000),
+            ("moves", &self.steps, &[0, 9, 10, 11, 12, WRONG_LENGTH], 10_000),
+            ("inverse", &self.inverse, &[0, 9, 11, 14, WRONG_LENGTH], 10_000),
+            ("weight", &self.weight, &[0, 9, 10, 12, WRONG_LENGTH], 10_000),
+            ("questions", &self.questions, &[0, 9, 11, 12, 16, WRONG_LENGTH], 10_000),
         ]
     }
 }
@@ -396,9 +438,10 @@ impl Given {
 /// Find and a move, done alone, give what the record was filled with.
 fn agrees_alone(n: u32, t: &Tables, record: &Question) {
     let Question { place, interval, to_place, to_interval, count, distance } = *record;
-    assert_eq!(zibewoka::find(n, &t.starts, &t.images, &t.holders, place), Ok(interval));
+    let [s, i, h, l] = t.columns();
+    assert_eq!(zibewoka::find(n, s, i, h, l, place), Ok(interval));
     let step = Step { place: to_place, interval: to_interval, distance, count: u64::from(count) };
-    assert_eq!(zibewoka::move_once(n, &t.starts, &t.images, &t.holders, interval, place), Ok(step));
+    assert_eq!(zibewoka::move_once(n, s, i, h, l, interval, place), Ok(step));
 }
 
 /// Entries for a least degree: near the count of runs, near that of intervals, between both ends of what cuts may add, or any.
@@ -429,6 +472,9 @@ fn places(r: &mut Random, n: u32, t: &Tables, most: usize) -> Vec<u32> {
     }
     let twice = r.below(places.len() as u64 + 1) as usize;
     places.extend_from_within(..twice);
+    if r.one_in(8) {
+        places.push(damaged(r, n, n));
+    }
     places.sort();
     if r.one_in(8) {
         r.shuffle(&mut places);
@@ -440,31 +486,73 @@ fn places(r: &mut Random, n: u32, t: &Tables, most: usize) -> Vec<u32> {
     places
 }
 
-/// A table entry, a count or n becomes something else.
+/// Ends minus starts in 32 bits: the right lengths where starts rise and stay below n, and wrapped ones, which are wrong,
+/// elsewhere.
+fn wrapped_lengths(n: u32, starts: &[u32]) -> Vec<u32> {
+    let ends = starts.iter().skip(1).chain([&n]);
+    starts.iter().zip(ends).map(|(start, end)| end.wrapping_sub(*start)).collect()
+}
+
+fn damage_length(r: &mut Random, n: u32, length: &mut u32) {
+    *length = if r.one_in(4) { 0 } else { damaged(r, *length, n) };
+}
+
+/// A table entry, a count or n becomes something else. Where it is n or a start, the lengths stay or follow it.
 fn damage_tables(r: &mut Random, n: &mut u32, t: &mut Tables) {
     let x = r.below(t.starts.len() as u64) as usize;
-    match r.below(12) {
-        0 => *n = damaged(r, *n, *n),
-        1 => drop(t.holders.pop()),
-        2 => t.images.push(0),
-        3..=5 => t.starts[x] = damaged(r, t.starts[x], *n),
-        6..=8 => t.images[x] = damaged(r, t.images[x], *n),
-        _ => t.holders[x] = damaged(r, t.holders[x], t.starts.len() as u32),
+    match r.below(16) {
+        0 => drop(t.holders.pop()),
+        1 => t.images.push(0),
+        2 => drop(t.lengths.pop()),
+        3..=6 => {
+            match r.below(4) {
+                0 => *n = damaged(r, *n, *n),
+                _ => t.starts[x] = damaged(r, t.starts[x], *n),
+            }
+            if r.one_in(2) {
+                t.lengths = wrapped_lengths(*n, &t.starts);
+            }
+        }
+        7..=9 => t.images[x] = damaged(r, t.images[x], *n),
+        10..=12 => t.holders[x] = damaged(r, t.holders[x], t.starts.len() as u32),
+        _ => damage_length(r, *n, &mut t.lengths[x]),
     }
 }
 
-/// Numbers that mean nothing, small enough at times that some calls come through.
+/// Numbers that mean nothing, small enough at times that some calls come through: any numbers, or all below the limit.
+fn senseless_column(r: &mut Random, k: usize, limit: u64) -> Vec<u32> {
+    let any = r.one_in(3);
+    (0..k).map(|_| if any { r.word() } else { r.below(limit) as u32 }).collect()
+}
+
+/// Tables of such numbers. In half of them the starts rise, and in most the lengths go with the starts; where they do not, nothing
+/// that tests all lengths comes through.
 fn senseless(r: &mut Random) -> (u32, Tables) {
-    let k = r.below(40) as usize;
     let n = if r.one_in(2) { r.word() } else { r.below(100) as u32 };
-    let mut column = |limit: u64| -> Vec<u32> {
-        let any = r.one_in(3);
-        (0..k).map(|_| if any { r.word() } else { r.below(limit) as u32 }).collect()
-    };
-    let starts = column(u64::from(n) + 1);
-    let images = column(u64::from(n) + 1);
-    let holders = column(k as u64 + 1);
-    (n, Tables { starts, images, holders })
+    let limit = u64::from(n) + 1;
+    let most = r.below(40) as usize;
+    let mut starts = senseless_column(r, most, limit);
+    if r.one_in(2) {
+        starts.sort();
+        starts.dedup();
+    }
+    let k = starts.len();
+    let images = senseless_column(r, k, limit);
+    let holders = senseless_column(r, k, k as u64 + 1);
+    let lengths = if r.one_in(4) { senseless_column(r, k, limit) } else { wrapped_lengths(n, &starts) };
+    (n, Tables { starts, images, holders, lengths })
+}
+
+/// A move, and up to two of them, that reach an interval of a wrong length from one whose length is right, or from that one itself.
+fn try_into_wrong_length(given: &mut Given, r: &mut Random, n: u32, sound: &Tables) {
+    let (x, i) = somewhere(r, n, sound);
+    if let Ok(reached) = second::step(n, sound, x, i) {
+        let mut t = sound.clone();
+        damage_length(r, n, &mut t.lengths[reached.interval as usize]);
+        for m in 0..3 {
+            given.on_tables(n, &t, x, i, m);
+        }
+    }
 }
 
 /// The degrees, and some that are none.
@@ -488,6 +576,7 @@ fn try_list(given: &mut Given, r: &mut Random, k: usize, questions: usize) {
     given.on_tables_somewhere(r, list.n, &plain, questions);
     if let Some(balanced) = given.on_list(r, &list, d, sized) {
         given.on_tables_somewhere(r, list.n, &balanced, questions);
+        try_into_wrong_length(given, r, list.n, &balanced);
         let (mut n, mut tables) = (list.n, balanced);
         damage_tables(r, &mut n, &mut tables);
         given.on_tables_somewhere(r, n, &tables, questions);
@@ -542,6 +631,11 @@ fn random_lists_and_tables() {
         assert!(numbers.0.values().all(|&times| times >= often), "{export} gave {numbers:?}");
     }
     assert!(given.fewer_than_intervals >= 1000, "balance gave 8 with K");
+    let telling =
+        [given.length_before_place, given.length_before_fall, given.into_wrong_length, given.length_on_the_way];
+    for times in telling {
+        assert!(times >= 10_000, "wrong lengths where they matter most");
+    }
 }
 
 /// Lists of 16,384 runs and one more, and tables of 32,768 intervals and one more.
@@ -553,20 +647,21 @@ fn longest_lists(given: &mut Given, r: &mut Random) {
     }
     for k in [32768, 32769] {
         let entries: Vec<u32> = (0..k).collect();
-        let tables = Tables { starts: entries.clone(), images: entries.clone(), holders: entries };
+        let lengths = wrapped_lengths(k, &entries);
+        let tables = Tables { starts: entries.clone(), images: entries.clone(), holders: entries, lengths };
         given.on_tables(k, &tables, k - 1, k - 1, 3);
         given.questions(r, k, &tables, &tables.starts);
     }
 }
 
-/// A list's balanced tables: starts, images, holders. They are lent with as many entries as forecast.
-fn tables_at(list: &List, d: u32) -> Result<[Vec<u32>; 3], Refusal> {
+/// A list's balanced tables: starts, images, holders, lengths. They are lent with as many entries as forecast.
+fn tables_at(list: &List, d: u32) -> Result<[Vec<u32>; 4], Refusal> {
     let List { n, starts, images } = list;
     let mut w = vec![0; second::bound(d, starts.len())];
     let size = zibewoka::forecast(*n, starts, images, d, &mut w)?;
-    let [mut s, mut i, mut h] = [0; 3].map(|_| vec![0; size.intervals as usize]);
-    zibewoka::balance(*n, starts, images, d, &mut s, &mut i, &mut h, &mut w)?;
-    Ok([s, i, h])
+    let [mut s, mut i, mut h, mut l] = [0; 4].map(|_| vec![0; size.intervals as usize]);
+    zibewoka::balance(*n, starts, images, d, &mut s, &mut i, &mut h, &mut l, &mut w)?;
+    Ok([s, i, h, l])
 }
 
 /// The keys of document 01 that an export can answer.
@@ -574,30 +669,30 @@ fn tables_at(list: &List, d: u32) -> Result<[Vec<u32>; 3], Refusal> {
 fn known_keys() {
     let list = |n: u32, starts: &[u32], images: &[u32]| List { n, starts: starts.to_vec(), images: images.to_vec() };
     let listing = list(16, &[0, 2, 4, 6, 8], &[14, 12, 10, 8, 0]);
-    let [s, i, h] = tables_at(&listing, 2).expect("legal");
+    let [s, i, h, l] = tables_at(&listing, 2).expect("legal");
     assert_eq!((&s[..], &i[..]), (&[0, 2, 4, 6, 8, 12][..], &[14, 12, 10, 8, 0, 4][..]));
-    assert_eq!(h, [5, 5, 4, 4, 0, 2]);
+    assert_eq!((&h[..], &l[..]), (&[5, 5, 4, 4, 0, 2][..], &[2, 2, 2, 2, 4, 4][..]));
     assert_eq!(
-        (0..6).map(|x| zibewoka::weight(16, &s, &i, &h, x).expect("whole")).collect::<Vec<_>>(),
+        (0..6).map(|x| zibewoka::weight(16, &s, &i, &h, &l, x).expect("whole")).collect::<Vec<_>>(),
         [0, 1, 0, 1, 2, 2]
     );
     let step = |place, interval, distance, count| Ok(Step { place, interval, distance, count });
-    assert_eq!(zibewoka::move_once(16, &s, &i, &h, 4, 11), step(3, 1, 1, 2));
-    assert_eq!(zibewoka::moves(16, &s, &i, &h, 4, 11, 0), step(11, 4, 3, 0));
+    assert_eq!(zibewoka::move_once(16, &s, &i, &h, &l, 4, 11), step(3, 1, 1, 2));
+    assert_eq!(zibewoka::moves(16, &s, &i, &h, &l, 4, 11, 0), step(11, 4, 3, 0));
     let from_zero = [step(14, 5, 2, 0), step(6, 3, 0, 2), step(8, 4, 0, 3), step(0, 0, 0, 4)];
-    assert_eq!([1, 2, 3, 4].map(|m| zibewoka::moves(16, &s, &i, &h, 0, 0, m)), from_zero);
-    assert_eq!(zibewoka::moves(16, &s, &i, &h, 4, 11, 4), step(11, 4, 3, 4));
-    assert_eq!(zibewoka::inverse(16, &s, &i, &h, 9), Ok(zibewoka::Position { place: 7, interval: 3 }));
-    let [mut s, mut i, mut h, mut w] = [0; 4].map(|_| vec![0; 9]);
-    let short = zibewoka::balance(16, &listing.starts, &listing.images, 2, &mut s, &mut i, &mut h, &mut w);
+    assert_eq!([1, 2, 3, 4].map(|m| zibewoka::moves(16, &s, &i, &h, &l, 0, 0, m)), from_zero);
+    assert_eq!(zibewoka::moves(16, &s, &i, &h, &l, 4, 11, 4), step(11, 4, 3, 4));
+    assert_eq!(zibewoka::inverse(16, &s, &i, &h, &l, 9), Ok(zibewoka::Position { place: 7, interval: 3 }));
+    let [mut s, mut i, mut h, mut l, mut w] = [0; 5].map(|_| vec![0; 9]);
+    let short = zibewoka::balance(16, &listing.starts, &listing.images, 2, &mut s, &mut i, &mut h, &mut l, &mut w);
     assert_eq!(short, Err(Refusal { number: 8, place: 10 }));
 
     let light = list(12, &[0, 2, 4, 6], &[10, 8, 6, 0]);
     assert_eq!(tables_at(&light, 2).expect("legal")[0], light.starts);
     let most = list(15, &[0, 3, 5, 7, 8], &[8, 11, 13, 0, 1]);
-    let [s, i, h] = tables_at(&most, 2).expect("legal");
+    let [s, i, h, l] = tables_at(&most, 2).expect("legal");
     assert_eq!(s, most.starts);
-    assert_eq!(zibewoka::move_once(15, &s, &i, &h, 4, 14), step(7, 3, 0, 4));
+    assert_eq!(zibewoka::move_once(15, &s, &i, &h, &l, 4, 14), step(7, 3, 0, 4));
     assert_eq!(tables_at(&list(1, &[0], &[0]), 2).expect("legal")[0].len(), 1);
     assert_eq!(zibewoka::check(4, &[0, 2], &[2, 0]), Ok(()));
     assert_eq!(zibewoka::check(4, &[0, 2], &[0, 1]), Err(Refusal { number: 6, place: 0 }));
@@ -605,18 +700,74 @@ fn known_keys() {
     assert_eq!(zibewoka::check(u32::MAX, &[0, u32::MAX - 1], &[1, 0]), Ok(()));
     let psi =
         list(45, &[0, 1, 5, 6, 12, 17, 19, 22, 25, 32, 34, 42, 43], &[11, 28, 2, 22, 32, 38, 42, 12, 15, 0, 3, 37, 40]);
-    let [s, i, h] = tables_at(&psi, 2).expect("legal");
+    let [s, i, h, l] = tables_at(&psi, 2).expect("legal");
     assert_eq!(s, psi.starts);
-    assert_eq!(zibewoka::moves(45, &s, &i, &h, 4, 15, 0), step(15, 4, 3, 0));
-    assert_eq!(zibewoka::move_once(45, &s, &i, &h, 4, 15), step(35, 10, 1, 2));
-    assert_eq!(zibewoka::move_once(45, &s, &i, &h, 6, 20), step(43, 12, 0, 1));
+    assert_eq!(zibewoka::moves(45, &s, &i, &h, &l, 4, 15, 0), step(15, 4, 3, 0));
+    assert_eq!(zibewoka::move_once(45, &s, &i, &h, &l, 4, 15), step(35, 10, 1, 2));
+    assert_eq!(zibewoka::move_once(45, &s, &i, &h, &l, 6, 20), step(43, 12, 0, 1));
+}
+
+/// The balanced tables, at degree 2, of document 01's list; n is 16.
+fn listing() -> Tables {
+    Tables {
+        starts: vec![0, 2, 4, 6, 8, 12],
+        images: vec![14, 12, 10, 8, 0, 4],
+        holders: vec![5, 5, 4, 4, 0, 2],
+        lengths: vec![2, 2, 2, 2, 4, 4],
+    }
+}
+
+/// Tables with n 16 whose starts fall once; the length there is what 32 bits make of the difference.
+fn falling() -> Tables {
+    let starts = vec![0, 9, 4, 12];
+    Tables { images: starts.clone(), starts, holders: vec![0, 1, 0, 3], lengths: vec![9, 4_294_967_291, 8, 4] }
+}
+
+#[test]
+fn known_lengths() {
+    let refused = |number, place| Refusal { number, place };
+    let step = |place, interval, distance, count| Ok(Step { place, interval, distance, count });
+
+    let mut torn = listing();
+    torn.lengths[4] = 5;
+    let [s, i, h, l] = torn.columns();
+    assert_eq!([11, 99].map(|place| zibewoka::find(16, s, i, h, l, place)), [Err(refused(12, 4)); 2]);
+    assert_eq!([9, 99].map(|place| zibewoka::inverse(16, s, i, h, l, place)), [Err(refused(12, 4)); 2]);
+    assert_eq!([11, 99].map(|place| zibewoka::move_once(16, s, i, h, l, 4, place)), [Err(refused(12, 4)); 2]);
+    assert_eq!([0, 1].map(|m| zibewoka::moves(16, s, i, h, l, 4, 11, m)), [Err(refused(12, 4)); 2]);
+    assert_eq!([3, 4].map(|x| zibewoka::weight(16, s, i, h, l, x)), [Ok(1), Err(refused(12, 4))]);
+    assert_eq!(zibewoka::move_once(16, s, i, h, l, 3, 7), step(9, 4, 1, 1));
+    assert_eq!(zibewoka::move_once(16, s, i, h, l, 3, 8), Err(refused(11, 8)));
+    assert_eq!(zibewoka::move_once(16, s, i, h, l, 6, 8), Err(refused(10, 6)));
+    assert_eq!(zibewoka::moves(16, s, i, h, l, 5, 14, 2), step(8, 4, 0, 3));
+    assert_eq!(zibewoka::moves(16, s, i, h, l, 5, 14, 3), Err(refused(12, 4)));
+
+    let mut twice = torn.clone();
+    twice.lengths[1] = 0;
+    assert_eq!(zibewoka::find(16, s, i, h, &twice.lengths, 11), Err(refused(12, 1)));
+    assert_eq!(zibewoka::moves(16, s, i, h, &twice.lengths, 5, 14, 2), step(8, 4, 0, 3));
+
+    let short = &l[..5];
+    assert_eq!(zibewoka::find(16, s, i, h, short, 11), Err(refused(9, 0)));
+    assert_eq!(zibewoka::inverse(16, s, i, h, short, 9), Err(refused(9, 0)));
+    assert_eq!(zibewoka::move_once(16, s, i, h, short, 3, 7), Err(refused(9, 0)));
+    assert_eq!(zibewoka::moves(16, s, i, h, short, 3, 7, 0), Err(refused(9, 0)));
+    assert_eq!(zibewoka::weight(16, s, i, h, short, 3), Err(refused(9, 0)));
+    assert_eq!(zibewoka::questions(16, s, i, h, short, &mut []), Err(refused(9, 0)));
+
+    let falling = falling();
+    let [s, i, h, l] = falling.columns();
+    assert_eq!(zibewoka::move_once(16, s, i, h, l, 1, 9), Err(refused(12, 1)));
+    assert_eq!(zibewoka::move_once(16, s, i, h, l, 2, 9), step(9, 2, 5, 3));
+    assert_eq!(zibewoka::find(16, s, i, h, l, 9), Err(refused(12, 1)));
 }
 
 /// What questions at these places, on tables with n 16, come to. A refusal leaves the records as they were.
 fn answered(t: &Tables, places: &[u32]) -> Result<(u32, Vec<Question>), Refusal> {
     let before: Vec<Question> = places.iter().map(|&place| question([place, 9, 9, 9, 9, 9])).collect();
     let mut records = before.clone();
-    match zibewoka::questions(16, &t.starts, &t.images, &t.holders, &mut records) {
+    let [s, i, h, l] = t.columns();
+    match zibewoka::questions(16, s, i, h, l, &mut records) {
         Ok(count) => Ok((count, records)),
         Err(refusal) => {
             assert_eq!(records, before);
@@ -629,16 +780,14 @@ fn answered(t: &Tables, places: &[u32]) -> Result<(u32, Vec<Question>), Refusal>
 fn known_questions() {
     let refused = |number, place| Err(Refusal { number, place });
     let done = |count, records: &[second::Record]| Ok((count, records.iter().copied().map(question).collect()));
-    let listing = second::tables(16, &[0, 2, 4, 6, 8, 12], &[14, 12, 10, 8, 0, 4]);
-    assert_eq!(listing.holders, [5, 5, 4, 4, 0, 2]);
     let records =
         [[0, 0, 14, 5, 0, 2], [3, 1, 13, 5, 0, 1], [3, 1, 13, 5, 0, 1], [11, 4, 3, 1, 2, 1], [15, 5, 7, 3, 2, 1]];
-    assert_eq!(answered(&listing, &[0, 3, 3, 11, 15]), done(5, &records));
-    assert_eq!(answered(&listing, &[]), done(0, &[]));
-    assert_eq!(answered(&listing, &[3, 2, 99]), refused(16, 1));
-    assert_eq!(answered(&listing, &[3, 16, 20]), refused(11, 16));
+    assert_eq!(answered(&listing(), &[0, 3, 3, 11, 15]), done(5, &records));
+    assert_eq!(answered(&listing(), &[]), done(0, &[]));
+    assert_eq!(answered(&listing(), &[3, 2, 99]), refused(16, 1));
+    assert_eq!(answered(&listing(), &[3, 16, 20]), refused(11, 16));
 
-    let mut broken = listing;
+    let mut broken = listing();
     broken.holders[1] = 9;
     assert_eq!(answered(&broken, &[2, 3, 99]), refused(11, 99));
     assert_eq!(answered(&broken, &[0, 3, 4]), refused(12, 1));
@@ -647,10 +796,12 @@ fn known_questions() {
         done(2, &[[0, 0, 14, 5, 0, 2], [1, 0, 15, 5, 0, 3], [4, 2, 10, 4, 1, 2]])
     );
 
-    let starts = vec![0, 9, 4, 12];
-    let mixed = Tables { images: starts.clone(), starts, holders: vec![0, 1, 0, 3] };
-    let records = [[0, 0, 0, 0, 1, 0], [5, 0, 5, 0, 1, 5], [9, 2, 9, 2, 3, 5], [13, 3, 13, 3, 0, 1]];
-    assert_eq!(answered(&mixed, &[0, 5, 9, 13]), done(3, &records));
+    let mut torn = listing();
+    torn.lengths[4] = 5;
+    for places in [&[0, 1][..], &[], &[3, 2, 99], &[3, 16, 20]] {
+        assert_eq!(answered(&torn, places), refused(12, 4));
+    }
+    assert_eq!(answered(&falling(), &[0, 5, 9, 13]), refused(12, 1));
 }
 
 #[test]
@@ -708,8 +859,10 @@ fn all_permutations_of_up_to_six_places() {
             let size = literally.0.len();
             assert_eq!(given.forecast(r, &list, d, b), Some(size as u32));
             given.least_degree(r, &list, size as u32 - 1, 2 * k);
-            assert!(given.balance(r, &list, d, [size, size - 1, size, b]).is_none());
-            let tables = given.balance(r, &list, d, [size, size + 1, size, b]).expect("a permutation's list is legal");
+            assert!(given.balance(r, &list, d, [size, size - 1, size, size, b]).is_none());
+            assert!(given.balance(r, &list, d, [size, size, size, size - 1, b]).is_none());
+            let lent = [size, size + 1, size, size, b];
+            let tables = given.balance(r, &list, d, lent).expect("a permutation's list is legal");
             assert_eq!((&tables.starts, &tables.images), (&literally.0, &literally.1));
             every_place(&mut given, r, &permutation, &tables, d);
         }
@@ -771,14 +924,16 @@ fn every_place(given: &mut Given, r: &mut Random, permutation: &[u32], t: &Table
             given.on_tables(n, t, x, p, p);
         }
     }
+    let [s, i, h, l] = t.columns();
     for p in 0..n {
-        let x = zibewoka::find(n, &t.starts, &t.images, &t.holders, p).expect("p is a place");
-        let step = zibewoka::move_once(n, &t.starts, &t.images, &t.holders, x, p).expect("x has p");
+        let x = zibewoka::find(n, s, i, h, l, p).expect("p is a place");
+        let step = zibewoka::move_once(n, s, i, h, l, x, p).expect("x has p");
         assert_eq!(step.place, permutation[p as usize]);
-        assert_eq!(step.place - step.distance, t.starts[step.interval as usize]);
+        assert_eq!(step.place - step.distance, s[step.interval as usize]);
+        assert!(step.distance < l[step.interval as usize]);
         assert_eq!(step.count, second::plain_count(t, x, step.place));
         assert!(step.count <= u64::from(2 * d));
-        let back = zibewoka::inverse(n, &t.starts, &t.images, &t.holders, step.place).expect("each place is an image");
+        let back = zibewoka::inverse(n, s, i, h, l, step.place).expect("each place is an image");
         assert_eq!((back.place, back.interval), (p, x));
     }
 }
@@ -791,18 +946,18 @@ fn a_walk_of_millions_of_moves() {
         let m = 4_000_000;
         let list = legal(r, 2000);
         let List { n, starts, images } = &list;
-        let [s, i, h] = &tables_at(&list, d).expect("a legal list");
+        let [s, i, h, l] = &tables_at(&list, d).expect("a legal list");
         let first = r.below(u64::from(*n)) as u32;
-        let first_interval = zibewoka::find(*n, s, i, h, first).expect("a place");
+        let first_interval = zibewoka::find(*n, s, i, h, l, first).expect("a place");
         let (mut place, mut interval, mut distance, mut count) = (first, first_interval, 0, 0);
         for _ in 0..m {
-            let step = zibewoka::move_once(*n, s, i, h, interval, place).expect("the interval has the place");
+            let step = zibewoka::move_once(*n, s, i, h, l, interval, place).expect("the interval has the place");
             let run = starts.partition_point(|&start| start <= place) - 1;
             assert_eq!(step.place, images[run] + (place - starts[run]));
             assert!(step.count <= u64::from(2 * d));
             (place, interval, distance, count) = (step.place, step.interval, step.distance, count + step.count);
         }
-        let whole = zibewoka::moves(*n, s, i, h, first_interval, first, m).expect("the same walk");
+        let whole = zibewoka::moves(*n, s, i, h, l, first_interval, first, m).expect("the same walk");
         assert_eq!(whole, Step { place, interval, distance, count });
         assert!(count <= u64::from(m) * u64::from(2 * d));
     }

@@ -16,7 +16,7 @@ fn degree(r: &mut Random) -> u32 {
     }
 }
 
-/// Working tables of one entry fewer than B, of B and of more, and with each of them the three others of one entry fewer than
+/// Working tables of one entry fewer than B, of B and of more, and with each of them the four others of one entry fewer than
 /// K, of K and of B, in every combination; and the least degree for every count of entries that an answer may turn on. Answers
 /// K, or k where the list or the degree is refused.
 fn every_count(given: &mut Given, r: &mut Random, list: &List, d: u32) -> usize {
@@ -29,7 +29,9 @@ fn every_count(given: &mut Given, r: &mut Random, list: &List, d: u32) -> usize 
         for s in counts {
             for i in counts {
                 for h in counts {
-                    given.balance(r, list, d, [s, i, h, working]);
+                    for l in counts {
+                        given.balance(r, list, d, [s, i, h, l, working]);
+                    }
                 }
             }
         }
@@ -82,7 +84,7 @@ fn every_degree() {
         for d in (0..=70).chain([100, 1 << 16, 1 << 31, u32::MAX]) {
             let b = second::bound(d.max(2), k);
             let size = given.forecast(r, &list, d, b).map_or(k, |intervals| intervals as usize);
-            given.balance(r, &list, d, [size, size, size, b]);
+            given.balance(r, &list, d, [size, size, size, size, b]);
         }
     }
     assert!(given.forecast.0 == given.balance.0 && given.forecast.0.keys().eq(&[0, 7]));
@@ -94,10 +96,10 @@ fn forecast_and_balanced(r: &mut Random, list: &List, d: u32) -> Forecast {
     let mut w = r.words(second::bound(d, starts.len()));
     let size = zibewoka::forecast(*n, starts, images, d, &mut w).expect("a legal list");
     let k = size.intervals as usize;
-    let [mut s, mut i, mut h] = [0; 3].map(|_| vec![0; k]);
-    let fewer = zibewoka::balance(*n, starts, images, d, &mut s, &mut i[1..], &mut h, &mut w);
+    let [mut s, mut i, mut h, mut l] = [0; 4].map(|_| vec![0; k]);
+    let fewer = zibewoka::balance(*n, starts, images, d, &mut s, &mut i, &mut h, &mut l[1..], &mut w);
     assert_eq!(fewer, Err(Refusal { number: 8, place: k as u64 }));
-    assert_eq!(zibewoka::balance(*n, starts, images, d, &mut s, &mut i, &mut h, &mut w), Ok(size.intervals));
+    assert_eq!(zibewoka::balance(*n, starts, images, d, &mut s, &mut i, &mut h, &mut l, &mut w), Ok(size.intervals));
     let added = s.iter().filter(|start| starts.binary_search(start).is_err()).count();
     assert_eq!((added, starts.len() + added), (size.cuts as usize, k));
     size
@@ -186,10 +188,10 @@ fn least_degree(list: &List, entries: u32, working: usize) -> (Result<LeastDegre
 }
 
 /// What balance comes to, with all tables of nines, and these tables.
-fn balance(list: &List, d: u32, counts: [usize; 4]) -> (Result<u32, Refusal>, [Vec<u32>; 4]) {
+fn balance(list: &List, d: u32, counts: [usize; 5]) -> (Result<u32, Refusal>, [Vec<u32>; 5]) {
     let mut lent = counts.map(|count| vec![9; count]);
-    let [s, i, h, w] = &mut lent;
-    (zibewoka::balance(list.n, &list.starts, &list.images, d, s, i, h, w), lent)
+    let [s, i, h, l, w] = &mut lent;
+    (zibewoka::balance(list.n, &list.starts, &list.images, d, s, i, h, l, w), lent)
 }
 
 #[test]
@@ -214,25 +216,27 @@ fn known_forecasts() {
 #[test]
 fn known_tables_of_k_entries() {
     let e = &document();
-    let nines = |counts: [usize; 3], working: Vec<u32>| {
-        let [s, i, h] = counts.map(|count| vec![9; count]);
-        [s, i, h, working]
+    let nines = |counts: [usize; 4], working: Vec<u32>| {
+        let [s, i, h, l] = counts.map(|count| vec![9; count]);
+        [s, i, h, l, working]
     };
     let filled = |nines: usize, working: Vec<u32>| {
-        let columns = [[0, 2, 4, 6, 8, 12], [14, 12, 10, 8, 0, 4], [5, 5, 4, 4, 0, 2]];
-        let [s, i, h] = columns.map(|column| [&column[..], &vec![9; nines]].concat());
-        [s, i, h, working]
+        let columns = [[0, 2, 4, 6, 8, 12], [14, 12, 10, 8, 0, 4], [5, 5, 4, 4, 0, 2], [2, 2, 2, 2, 4, 4]];
+        let [s, i, h, l] = columns.map(|column| [&column[..], &vec![9; nines]].concat());
+        [s, i, h, l, working]
     };
-    assert_eq!(balance(e, 2, [9, 9, 9, 10]), (Ok(6), filled(3, zeros_and_nines(10, 0))));
-    assert_eq!(balance(e, 2, [6, 6, 6, 12]), (Ok(6), filled(0, zeros_and_nines(10, 2))));
-    assert_eq!(balance(e, 2, [6, 6, 5, 12]), (refused(8, 6), nines([6, 6, 5], zeros_and_nines(10, 2))));
-    assert_eq!(balance(e, 2, [5, 5, 5, 9]), (refused(8, 10), nines([5, 5, 5], zeros_and_nines(0, 9))));
-    assert_eq!(balance(e, 2, [9, 9, 9, 9]), (refused(8, 10), nines([9, 9, 9], zeros_and_nines(0, 9))));
+    assert_eq!(balance(e, 2, [9, 9, 9, 9, 10]), (Ok(6), filled(3, zeros_and_nines(10, 0))));
+    assert_eq!(balance(e, 2, [6, 6, 6, 6, 12]), (Ok(6), filled(0, zeros_and_nines(10, 2))));
+    assert_eq!(balance(e, 2, [6, 6, 5, 6, 12]), (refused(8, 6), nines([6, 6, 5, 6], zeros_and_nines(10, 2))));
+    assert_eq!(balance(e, 2, [6, 6, 6, 5, 12]), (refused(8, 6), nines([6, 6, 6, 5], zeros_and_nines(10, 2))));
+    assert_eq!(balance(e, 2, [5, 5, 5, 5, 9]), (refused(8, 10), nines([5, 5, 5, 5], zeros_and_nines(0, 9))));
+    assert_eq!(balance(e, 2, [9, 9, 9, 9, 9]), (refused(8, 10), nines([9, 9, 9, 9], zeros_and_nines(0, 9))));
 
     // At degree 64 both B and K are 5: one answer, whichever table is too short.
-    assert_eq!(balance(e, 64, [5, 4, 5, 6]), (refused(8, 5), nines([5, 4, 5], zeros_and_nines(5, 1))));
-    assert_eq!(balance(e, 64, [5, 5, 5, 4]), (refused(8, 5), nines([5, 5, 5], zeros_and_nines(0, 4))));
-    assert_eq!(balance(e, 64, [4, 4, 4, 4]), (refused(8, 5), nines([4, 4, 4], zeros_and_nines(0, 4))));
+    assert_eq!(balance(e, 64, [5, 4, 5, 5, 6]), (refused(8, 5), nines([5, 4, 5, 5], zeros_and_nines(5, 1))));
+    assert_eq!(balance(e, 64, [5, 5, 5, 4, 6]), (refused(8, 5), nines([5, 5, 5, 4], zeros_and_nines(5, 1))));
+    assert_eq!(balance(e, 64, [5, 5, 5, 5, 4]), (refused(8, 5), nines([5, 5, 5, 5], zeros_and_nines(0, 4))));
+    assert_eq!(balance(e, 64, [4, 4, 4, 4, 4]), (refused(8, 5), nines([4, 4, 4, 4], zeros_and_nines(0, 4))));
 }
 
 /// A list that has more intervals at degree d + 1 than at degree d, for d from 5 to 63.
