@@ -12,8 +12,8 @@ use Rattle.runs.proofs.Walks.{under-first, under-count, under-is}
 use Rattle.tables.specs.Tables.{linksOf, tablesOf, maxIntervals}
 use Rattle.tables.proofs.Lengths.{lengths-at}
 use Rattle.tables.proofs.LegalShape.{shape, holder-is, legal-held, legal-length}
-use Rattle.weights.specs.Under.{imageEndAt, underFirst, underCount, weightOf, stretch, startsUnderOf}
-use Rattle.weights.proofs.Stretches.{placed, stretch-done, weight-indexed}
+use Rattle.weights.specs.Under.{imageEndAt, underFirst, underCount, weightOf, underOf, stretch, startsUnderOf}
+use Rattle.weights.proofs.Stretches.{placed, size-done, weight-indexed, under-done}
 
 module _ (n : ℕ) (r : Runs) (c : Legal n r) (few : countOf r ≤ maxIntervals) (x : ℕ) (h : x < countOf r) where
   legal-end : imageEndAt (tablesOf n r) x ≡ imageEnd n r x
@@ -31,9 +31,13 @@ module _ (n : ℕ) (r : Runs) (c : Legal n r) (few : countOf r ≤ maxIntervals)
   legal-weight =
       let p = placed n (tablesOf n r) x (legal-held n r c few x h) (rw legal-end (c .within x h)) in
       weight-indexed n (tablesOf n r) x (record { shape = shape n r c few; index = h })
-      ∙ sym (stretch-done n (tablesOf n r) x (legal-length n r c x h) p)
+      ∙ sym (size-done n (tablesOf n r) x (legal-length n r c x h) p)
       ∙ ap done legal-count
+
+  pub legal-stretch : done (record { first = countBelow (imageOf r x) (r .starts); count = weight n r x })
+      ≡ underOf n (tablesOf n r) x
+  legal-stretch = under-done n (tablesOf n r) x _ (sym legal-weight) _ (sym legal-first)
 
   pub legal-under : startsUnderOf n (tablesOf n r) x ≡ under n r x
   unfolding startsUnderOf stretch
-  legal-under = rw (legal-weight, legal-first) (sym (under-is n r c x))
+  legal-under = rw (← legal-stretch) (sym (under-is n r c x))

@@ -8,15 +8,18 @@ use lib.ListN.{length, take, drop, length-take, length-drop}
 use lib.Dec.{ltb, leb, eqb}
 use borrow.Author.Tests.{lt-ltb, le-ltb, le-leb, lt-leb, leb-false}
 use Rattle.order.proofs.Laws.{or-false}
-use Rattle.outcomes.specs.Outcome.{done, refused, test, judge, _then_else_}
+use Rattle.outcomes.specs.Outcome.{Outcome, done, refused, test, judge, mapDone, _then_else_}
 use Rattle.order.specs.Lists.{leading}
 use Rattle.runs.specs.Runs.{startOf, imageOf}
 use Rattle.runs.proofs.Walks.{up-to-end}
-use Rattle.outcomes.proofs.Judging.{judge-first, judge-done}
-use Rattle.tables.specs.Tables.{Links, Tables, sizeOf, holderOf, misshapen, unheld, wrongAt, shapeTest, indexTest, lengthTest}
-use Rattle.weights.specs.Under.{imageEndAt, unplaced, underFirst, underCount, weightOf, stretch, startsUnderOf}
+use Rattle.outcomes.proofs.Judging.{judge-map, judge-first, judge-done}
+use Rattle.tables.specs.Tables.{Links, Tables, sizeOf, maxIntervals, holderOf, misshapen, unheld, wrongAt}
+use Rattle.tables.specs.Tables.{shapeTest, indexTest, lengthTest}
+use Rattle.weights.specs.Under.{imageEndAt, unplaced, underFirst, underCount, underTests}
+use Rattle.weights.specs.Under.{weightOf, underAt, underOf, stretch, startsUnderOf}
+use Rattle.weights.specs.declared.Stretch.{Stretch}
 use Rattle.tables.specs.Parts.{Shaped, Indexed, Entered}
-use Rattle.weights.specs.Parts.{stretchOf}
+use Rattle.weights.specs.Parts.{sizeUnder}
 use Rattle.order.proofs.Leading.{leading-within}
 use Rattle.tables.proofs.Passing.{shaped, held-is}
 
@@ -55,28 +58,28 @@ module _ (n : ℕ) (t : Tables) (x : ℕ) where
 
 module _ (n : ℕ) (t : Tables) (x : ℕ) where
   -- 12 and the size
-  pub stretch-mismatch : wrongAt n t x ≡ true → refused 12 x ≡ stretchOf n t x
-  unfolding stretchOf judge
-  stretch-mismatch w = simp w
+  pub size-mismatch : wrongAt n t x ≡ true → refused 12 x ≡ sizeUnder n t x
+  unfolding sizeUnder judge
+  size-mismatch w = simp w
 
   module _ (w : wrongAt n t x ≡ false) where
-    pub stretch-broken : unplaced n t x ≡ true → refused 12 x ≡ stretchOf n t x
-    unfolding stretchOf judge
-    stretch-broken b = simp (w, b)
+    pub size-broken : unplaced n t x ≡ true → refused 12 x ≡ sizeUnder n t x
+    unfolding sizeUnder judge
+    size-broken b = simp (w, b)
 
-    pub stretch-done : unplaced n t x ≡ false → done (underCount t x) ≡ stretchOf n t x
-    unfolding stretchOf judge
-    stretch-done b = simp (w, b)
+    pub size-done : unplaced n t x ≡ false → done (underCount t x) ≡ sizeUnder n t x
+    unfolding sizeUnder judge
+    size-done b = simp (w, b)
 
-    pub stretch-to : unplaced n t x ≡ false
+    pub size-to : unplaced n t x ≡ false
         → (f e o : ℕ) → f ≡ underFirst (t .links) x → e ≡ imageEndAt t x → 0 < e
         → o ≡ leading (λ s. leb s (e - 1)) (drop f (t .links .list .starts))
-        → done o ≡ stretchOf n t x
+        → done o ≡ sizeUnder n t x
     unfolding underCount
-    stretch-to b f e o p q h r =
+    size-to b f e o p q h r =
         let u = ap (λ (g : ℕ → Bool). leading g (drop f (t .links .list .starts))) (up-to-end e h) in
         let z : o ≡ underCount t x = r ∙ u ∙ simp (q, p) in
-        ap done z ∙ stretch-done b
+        ap done z ∙ size-done b
 
   -- 9 and 10, and what is left of a weight
   pub weight-shape : (b : Bool) → b ≡ misshapen n t → b ≡ true → refused 9 0 ≡ weightOf n t x
@@ -87,8 +90,8 @@ module _ (n : ℕ) (t : Tables) (x : ℕ) where
   unfolding weightOf judge
   weight-index s h = simp (s .fits, le-leb _ _ h)
 
-  pub weight-indexed : Indexed n t x → weightOf n t x ≡ stretchOf n t x
-  unfolding weightOf stretchOf judge
+  pub weight-indexed : Indexed n t x → weightOf n t x ≡ sizeUnder n t x
+  unfolding weightOf sizeUnder judge
   weight-indexed i = simp (i .shape .fits, lt-leb _ _ (i .index))
 
   -- a weight that was given
@@ -118,22 +121,63 @@ module _ (n : ℕ) (t : Tables) (x : ℕ) where
         let l = leading-within (λ s. ltb s (imageEndAt t x)) (t .links .list .starts) (underFirst (t .links) x) h in
         omega (arith, p, passes .2)
 
-    pub under-part : (f : ℕ) → f ≡ underFirst (t .links) x → take (f + w - f) (drop f (t .links .list .starts)) ≡ startsUnderOf n t x
-    unfolding startsUnderOf stretch
-    under-part f p = let z : f + w - f ≡ w = omega arith in rw (← e, z, p)
+    pub first-fits : (f : ℕ) → f ≡ underFirst (t .links) x → f ≤ maxIntervals
+    first-fits f p = omega (arith, stretch-within f p, passes .0 .shape .linked .few)
 
-    -- the part handed back has as many starts as the weight says
-    pub under-length : length (startsUnderOf n t x) ≡ w
+  -- the tests of the stretch are a weight's, and the weight is its count
+  under-by-weight : underOf n t x ≡ mapDone (λ _. underAt t x) (weightOf n t x)
+  unfolding underOf weightOf
+  under-by-weight = judge-map (underTests n t x) (underCount t x) (underAt t x)
+
+  pub weight-counts : weightOf n t x ≡ mapDone (λ s. s .count) (underOf n t x)
+  unfolding underOf weightOf mapDone
+  weight-counts = judge-map (underTests n t x) (underAt t x) (underCount t x) ∙ go (underOf n t x) refl
+    where
+      go : (o : Outcome Stretch) → underOf n t x ≡ o → mapDone (λ _. underCount t x) o ≡ mapDone (λ s. s .count) o
+      go (done s) e = ap (λ (a : Stretch). done (a .count)) (judge-done (underTests n t x) (underAt t x) s e)
+      go (refused k p) e = refl
+
+  pub under-done : (w : ℕ) (e : done w ≡ weightOf n t x) (f : ℕ) → f ≡ underFirst (t .links) x
+      → done (record { first = f; count = w }) ≡ underOf n t x
+  unfolding mapDone
+  under-done w e f p = rw (under-by-weight, ← e, p, passes w e .2)
+
+  pub under-unweighed : (k p : ℕ) → refused k p ≡ weightOf n t x → refused k p ≡ underOf n t x
+  unfolding mapDone
+  under-unweighed k p e = rw (under-by-weight, ← e)
+
+  -- a stretch that was given
+  module _ (s : Stretch) (e : done s ≡ underOf n t x) where
+    first-told : s .first ≡ underFirst (t .links) x
+    unfolding underOf
+    first-told = ap (λ (a : Stretch). a .first) (sym (judge-done (underTests n t x) (underAt t x) s (sym e)))
+
+    pub under-within : s .first + s .count ≤ sizeOf (t .links)
+    unfolding mapDone
+    under-within = stretch-within (s .count) (rw (weight-counts, ← e)) (s .first) first-told
+
+    -- the part handed back, named by its two ends
+    pub under-part : take (s .first + s .count - s .first) (drop (s .first) (t .links .list .starts)) ≡ startsUnderOf n t x
     unfolding startsUnderOf stretch
-    under-length =
-        rw (← e)
-        (omega (
-          arith,
-          length-take w (drop (underFirst (t .links) x) (t .links .list .starts)),
-          length-drop (underFirst (t .links) x) (t .links .list .starts),
-          stretch-within (underFirst (t .links) x) refl,
-        ))
+    under-part = let z : s .first + s .count - s .first ≡ s .count = omega arith in rw (z, ← e)
+
+  -- it has as many starts as the weight says
+  pub under-length : (w : ℕ) (e : done w ≡ weightOf n t x) → length (startsUnderOf n t x) ≡ w
+  unfolding startsUnderOf stretch
+  under-length w e =
+      let f = underFirst (t .links) x in
+      rw (← under-done w e f refl)
+      (omega (
+        arith,
+        length-take w (drop f (t .links .list .starts)),
+        length-drop f (t .links .list .starts),
+        stretch-within w e f refl,
+      ))
+
+  -- a refusal, of the stretch or of a weight
+  pub under-empty : (k p : ℕ) → refused k p ≡ underOf n t x → [] ≡ startsUnderOf n t x
+  unfolding startsUnderOf stretch
+  under-empty k p e = rw (← e)
 
   pub under-none : (k p : ℕ) → refused k p ≡ weightOf n t x → [] ≡ startsUnderOf n t x
-  unfolding startsUnderOf stretch
-  under-none k p e = rw (← e)
+  under-none k p e = under-empty k p (under-unweighed k p e)

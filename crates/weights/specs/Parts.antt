@@ -5,5 +5,5 @@ use Rattle.tables.specs.Tables.{Tables}
 use Rattle.weights.specs.Under.{stretchTests, underCount}
 
 -- after 9 and 10: 12 and the size
-unfoldable pub stretchOf : ℕ → Tables → ℕ → Outcome ℕ
-stretchOf n t x = judge (stretchTests n t x) (underCount t x)
+unfoldable pub sizeUnder : ℕ → Tables → ℕ → Outcome ℕ
+sizeUnder n t x = judge (stretchTests n t x) (underCount t x)

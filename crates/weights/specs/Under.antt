@@ -12,10 +12,17 @@ use Rattle.runs.specs.Runs.{startOf, imageOf}
 use Rattle.tables.specs.Tables.{Links, Tables, holderOf, unheld, shapeTest, indexTest, lengthTest}
 use Rattle.weights.specs.declared.Weighed.{Weighed}
 use Rattle.weights.specs.declared.Weighed.the-variants.{Weight, Refused}
+use Rattle.weights.specs.declared.Stretch.{Stretch}
+use Rattle.weights.specs.declared.Stretched.{Stretched}
+use Rattle.weights.specs.declared.Stretched.the-variants.{At, Refused as NotStretched}
 
 abbrev pub weighedSays : Weighed → Outcome ℕ
 weighedSays (Weight w) = done w
 weighedSays (Refused r) = refusalSays r
+
+abbrev pub stretchedSays : Stretched → Outcome Stretch
+stretchedSays (At s) = done s
+stretchedSays (NotStretched r) = refusalSays r
 
 -- the end of x's image as it is read: the image plus x's length
 abbrev pub imageEndAt : Tables → ℕ → ℕ
@@ -44,10 +51,17 @@ underTests n t x = shapeTest n t ∷ indexTest (t .links) x ∷ stretchTests n t
 unfoldable pub weightOf : ℕ → Tables → ℕ → Outcome ℕ
 weightOf n t x = judge (underTests n t x) (underCount t x)
 
--- the stretch itself, and nothing on a refusal
-unfoldable pub stretch : Outcome ℕ → List ℕ → List ℕ
-stretch (done w) starts = take w starts
+-- where the stretch begins, and its size; told by the same tests
+abbrev pub underAt : Tables → ℕ → Stretch
+underAt t x = record { first = underFirst (t .links) x; count = underCount t x }
+
+unfoldable pub underOf : ℕ → Tables → ℕ → Outcome Stretch
+underOf n t x = judge (underTests n t x) (underAt t x)
+
+-- the stretch itself, the entries that are told, and nothing on a refusal
+unfoldable pub stretch : Outcome Stretch → List ℕ → List ℕ
+stretch (done s) starts = take (s .count) (drop (s .first) starts)
 stretch (refused k p) starts = []
 
 unfoldable pub startsUnderOf : ℕ → Tables → ℕ → List ℕ
-startsUnderOf n t x = stretch (weightOf n t x) (drop (underFirst (t .links) x) (t .links .list .starts))
+startsUnderOf n t x = stretch (underOf n t x) (t .links .list .starts)

@@ -1,4 +1,5 @@
-// The starts under an image, in a move table with any numbers in it: how many they are, and the part of the table itself.
+// The starts under an image, in a move table with any numbers in it: how many they are, where they stand, and the part of the
+// table itself.
 //
 // Each contract on tables is one equation with its definition in specs/. On the tables of a legal list the weight is that of
 // the list (proofs/LegalWeights).
@@ -11,11 +12,23 @@ ghost use lib.Dec.{eqb};
 ghost use Rattle.outcomes.specs.Outcome.{_then_else_};
 ghost use Rattle.tables.specs.Tables.{links, tables, unheld};
 ghost use Rattle.tables.specs.Parts.{Indexed, Entered};
-ghost use Rattle.weights.specs.Under.{weighedSays, underFirst, weightOf, startsUnderOf};
-ghost use Rattle.weights.specs.Parts.{stretchOf};
+ghost use Rattle.weights.specs.Under.{weighedSays, stretchedSays, underFirst, weightOf, underOf, startsUnderOf};
+ghost use Rattle.weights.specs.Parts.{sizeUnder};
 
 pub enum Weighed {
     Weight(u32),
+    Refused(Refusal),
+}
+
+// Entries of a table that stand together: the first one's index, and how many. Where there are none it is the index that they
+// would begin at, which may be the table's end.
+pub struct Stretch {
+    pub first: u32,
+    pub count: u32,
+}
+
+pub enum Stretched {
+    At(Stretch),
     Refused(Refusal),
 }
 
@@ -42,7 +55,7 @@ fn first(starts: &[u32], images: &[u32], holders: &[u32], x: u32) -> usize
 // Test 12 and the stretch's size.
 fn size(n: u32, starts: &[u32], images: &[u32], holders: &[u32], lengths: &[u32], x: u32) -> Weighed
     requires { ⌜ Indexed n (tables (now starts) (now images) (now holders) (now lengths)) x ⌝ }
-    ensures { λ r. ⌜ weighedSays r ≡ stretchOf n
+    ensures { λ r. ⌜ weighedSays r ≡ sizeUnder n
         (tables (now (starts .entry)) (now (images .entry)) (now (holders .entry)) (now (lengths .entry))) x ⌝ }
 {
     let at = x as usize;
@@ -81,7 +94,28 @@ pub fn weight(
     size(n, starts, images, holders, lengths, x)
 }
 
-// The starts under x's image, as the part of `starts` that they are; empty where `weight` refuses.
+// Where the starts under x's image stand, and how many they are.
+pub fn under(
+    n: u32,
+    starts: &[u32],
+    images: &[u32],
+    holders: &[u32],
+    lengths: &[u32],
+    x: u32,
+) -> Stretched
+    ensures { λ r. ⌜ stretchedSays r ≡ underOf n
+        (tables (now (starts .entry)) (now (images .entry)) (now (holders .entry)) (now (lengths .entry))) x ⌝ }
+{
+    match weight(n, starts, images, holders, lengths, x) {
+        Weighed::Refused(r) => Stretched::Refused(r),
+        Weighed::Weight(w) => Stretched::At(Stretch {
+            first: first(starts, images, holders, x) as u32,
+            count: w,
+        }),
+    }
+}
+
+// The starts under x's image, as the part of `starts` that they are; empty where `under` refuses.
 pub fn starts_under<'a>(
     n: u32,
     starts: &'a [u32],
@@ -93,11 +127,11 @@ pub fn starts_under<'a>(
     ensures { λ r. ⌜ now r ≡ startsUnderOf n
         (tables (now (starts .entry)) (now (images .entry)) (now (holders .entry)) (now (lengths .entry))) x ⌝ }
 {
-    match weight(n, starts, images, holders, lengths, x) {
-        Weighed::Refused(_) => &starts[0..0],
-        Weighed::Weight(w) => {
-            let from = first(starts, images, holders, x);
-            &starts[from..from + w as usize]
+    match under(n, starts, images, holders, lengths, x) {
+        Stretched::Refused(_) => &starts[0..0],
+        Stretched::At(s) => {
+            let from = s.first as usize;
+            &starts[from..from + s.count as usize]
         }
     }
 }

@@ -1,7 +1,7 @@
 -- `size` meets its contract: an outcome law for each way to return. The stretch ends below image + length, so up to the
 -- place before.
 use Rattle.weights.proofs.Stretches.{first-within, unplaced-unheld, unplaced-far, placed}
-use Rattle.weights.proofs.Stretches.{stretch-mismatch, stretch-broken, stretch-to}
+use Rattle.weights.proofs.Stretches.{size-mismatch, size-broken, size-to}
 use Rattle.tables.proofs.Passing.{matching-is}
 use native.Mathlib.Omega.{arith}
 use mathlib.Core.Path.{sym, _∙_}
@@ -17,7 +17,7 @@ is-wrong-length-requires : tie.Need-is-wrong-length-requires
 is-wrong-length-requires c κs = search needs
 
 returns : tie.Need-returns
-returns c = stretch-mismatch _ _ _ (sym (c .before .is-wrong-length .ensures) ∙ c .if1 .taken)
+returns c = size-mismatch _ _ _ (sym (c .before .is-wrong-length .ensures) ∙ c .if1 .taken)
 
 is-unheld-requires : tie.Need-is-unheld-requires
 is-unheld-requires c κs = search needs
@@ -25,7 +25,7 @@ is-unheld-requires c κs = search needs
 returns-2 : tie.Need-returns-2
 returns-2 c =
     let l = c .before .before in
-    stretch-broken _ _ _ (sym (l .before .is-wrong-length .ensures) ∙ l .if1 .left)
+    size-broken _ _ _ (sym (l .before .is-wrong-length .ensures) ∙ l .if1 .left)
     (unplaced-unheld _ _ _ (sym (c .before .is-unheld .ensures) ∙ c .if2 .taken))
 
 mul-wide : tie.Need-mul-wide
@@ -56,7 +56,7 @@ returns-3 : tie.Need-returns-3
 returns-3 c =
     let h = tested (c .before) in
     let l = h .before .before in
-    stretch-broken _ _ _ (sym (l .before .is-wrong-length .ensures) ∙ l .if1 .left)
+    size-broken _ _ _ (sym (l .before .is-wrong-length .ensures) ∙ l .if1 .left)
     (unplaced-far _ _ _ (sym (h .before .is-unheld .ensures) ∙ h .if2 .left) (omega arith))
 
 first-requires : tie.Need-first-requires
@@ -88,7 +88,7 @@ returns-4 c =
     let l = h .before .before in
     let right = sym (l .before .is-wrong-length .ensures) ∙ l .if1 .left in
     let held = sym (h .before .is-unheld .ensures) ∙ h .if2 .left in
-    stretch-to _ _ _ right (placed _ _ _ held (omega arith)) _ _ _ (c .before .first .ensures) (omega arith)
+    size-to _ _ _ right (placed _ _ _ held (omega arith)) _ _ _ (c .before .first .ensures) (omega arith)
     (omega (arith, matching-is _ _ _ right))
     (c .stretch-length .ensures .0)
 
