@@ -20,7 +20,7 @@ use Rattle.outcomes.proofs.Judging.{done-refused, map-refused}
 use Rattle.tables.specs.Tables.{Tables, sizeOf, misshapen, wrongAt}
 use Rattle.walks.specs.Move.{findOf, moveOf, movesOf}
 use Rattle.preimages.specs.Inverse.{inverseOf}
-use Rattle.weights.specs.Under.{weightOf}
+use Rattle.weights.specs.Under.{weightOf, underOf}
 use Rattle.walks.proofs.Moves.{moves-refused, moves-order}
 use Rattle.weights.proofs.Stretches.{under-length, under-none}
 use Rattle.bookmarks.specs.Bookmark.{bookmarkOf}
@@ -155,7 +155,7 @@ judged : {A : Type 0} (order : List ℕ) (ts : List Test) (a : A) → map (λ t.
 judged order ts a e = record { in-order = e; when-done = judge-passes a ts; when-refused = judge-refuses a ts }
 
 pub demand1 : Demand1
-unfolding listTests testsUpTo countTests layoutTests headerTests bodyTests fileTests inverseListOf balanceOf forecastOf leastDegreeOf findOf moveOf movesOf inverseOf weightOf bookmarkOf answersOf nextOf fileOf
+unfolding listTests testsUpTo countTests layoutTests headerTests bodyTests fileTests inverseListOf balanceOf forecastOf leastDegreeOf findOf moveOf movesOf inverseOf weightOf underOf bookmarkOf answersOf nextOf fileOf
 demand1 = record {
   check = λ n r. judged _ _ _ refl;
   inverse-list = λ n r a b. judged _ _ _ refl;
@@ -168,6 +168,7 @@ demand1 = record {
   moves = moves-order;
   inverse = λ n t j. judged _ _ _ refl;
   weight = λ n t x. judged _ _ _ refl;
+  under = λ n t x. judged _ _ _ refl;
   under-refused = λ n t x k p e. sym (under-none n t x k p (sym e));
   under-size = λ n t x w e. under-length n t x w (sym e);
   bookmark = λ n t b. judged _ _ _ refl;
@@ -178,6 +179,7 @@ demand1 = record {
   move-wrong = λ n t x s h w i. third-refuses _ _ _ _ _ s (lt-leb _ _ h) w;
   moves-wrong = moves-wrong;
   weight-wrong = λ n t x s h w. third-refuses _ _ _ _ _ s (lt-leb _ _ h) w;
+  under-wrong = λ n t x s h w. third-refuses _ _ _ _ _ s (lt-leb _ _ h) w;
   bookmark-wrong = λ n t b s h w. third-refuses _ _ _ _ _ s (lt-leb _ _ h) w;
   next-list = λ n r a b. judged _ _ _ refl;
   file = λ most bytes. judged _ _ _ refl;

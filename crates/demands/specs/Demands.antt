@@ -21,7 +21,7 @@ use Rattle.tables.specs.Tables.{Tables, sizeOf, linksOf, lengthsOf, tablesOf, a
 use Rattle.tables.specs.Parts.{Measured}
 use Rattle.walks.specs.Move.{movedSays, findTests, locateTests, moveTests, foundAt, stepOf, stayAt, findOf, moveOf, movesOf, Stopped, ReadsTo, LiesIn}
 use Rattle.preimages.specs.Inverse.{sourceOf, inverseTests, inverseOf}
-use Rattle.weights.specs.Under.{underTests, underCount, weightOf, startsUnderOf}
+use Rattle.weights.specs.Under.{underTests, underCount, weightOf, underAt, underOf, startsUnderOf}
 use Rattle.walks.specs.Linked.{linkedFind, linkedMove, linkedMoves}
 use Rattle.walks.specs.declared.Step.{Step}
 use Rattle.walks.specs.declared.Moved.{Moved}
@@ -94,7 +94,10 @@ pub record Demand1 : Type 0 where
   -- 12 of the length, and of the rest
   pub weight : (n : ℕ) (t : Tables) (x : ℕ)
       → Judged (9 ∷ 10 ∷ 12 ∷ 12 ∷ []) (underTests n t x) (underCount t x) (weightOf n t x)
-  -- starts under: none where the weight is refused, else as many as it says
+  -- starts under: where they stand and how many they are, by the same tests; handed back, they are those entries by definition,
+  -- none where the weight is refused, and else as many as it says
+  pub under : (n : ℕ) (t : Tables) (x : ℕ)
+      → Judged (9 ∷ 10 ∷ 12 ∷ 12 ∷ []) (underTests n t x) (underAt t x) (underOf n t x)
   pub under-refused : (n : ℕ) (t : Tables) (x k p : ℕ) → weightOf n t x ≡ refused k p → startsUnderOf n t x ≡ []
   pub under-size : (n : ℕ) (t : Tables) (x w : ℕ) → weightOf n t x ≡ done w → length (startsUnderOf n t x) ≡ w
   pub bookmark : (n : ℕ) (t : Tables) (b : Bookmark)
@@ -117,6 +120,8 @@ pub record Demand1 : Type 0 where
       → (m i : ℕ) → movesOf n t m x i ≡ refused 12 x
   pub weight-wrong : (n : ℕ) (t : Tables) (x : ℕ) → misshapen n t ≡ false → x < sizeOf (t .links) → wrongAt n t x ≡ true
       → weightOf n t x ≡ refused 12 x
+  pub under-wrong : (n : ℕ) (t : Tables) (x : ℕ) → misshapen n t ≡ false → x < sizeOf (t .links) → wrongAt n t x ≡ true
+      → underOf n t x ≡ refused 12 x
   pub bookmark-wrong : (n : ℕ) (t : Tables) (b : Bookmark) → misshapen n t ≡ false → b .interval < sizeOf (t .links)
       → wrongAt n t (b .interval) ≡ true → bookmarkOf n t b ≡ refused 12 (b .interval)
   -- the next list: its own 17 and 18, and 8 between them

@@ -15,10 +15,11 @@ use Rattle.tables.specs.Tables.{Tables, tables, tablesOf, sizeOf, holderOf, all
 use Rattle.walks.specs.Move.{passed, foundAt, unfindable, startsRead, walkCount, stepTo, stepOf, findOf, moveOf, onwards, movesOf}
 use Rattle.walks.specs.Plain.{plainMove, plainMoves}
 use Rattle.preimages.specs.Inverse.{sends, sourceOf, inverseOf}
-use Rattle.weights.specs.Under.{unplaced, underFirst, underCount, weightOf}
+use Rattle.weights.specs.Under.{unplaced, underFirst, underCount, weightOf, underOf}
 use Rattle.runs.specs.Weight.{weight}
 use Rattle.walks.specs.declared.Step.{Step}
 use Rattle.preimages.specs.declared.Source.{Source}
+use Rattle.weights.specs.declared.Stretch.{Stretch}
 use Rattle.bookmarks.specs.Bookmark.{fresh, overflows, bookmarkOf, markAfter, Marking, markingOf, markingsOf}
 use Rattle.bookmarks.specs.declared.Bookmark.{Bookmark}
 use Rattle.questions.specs.Questions.{fallsAt, unfindableAt, brokenAt, answersOf, filledIn, recordsAfter}
@@ -49,6 +50,9 @@ movedRow o = rowFrom (λ s. s .place ∷ s .interval ∷ s .distance ∷ s .coun
 
 abbrev pub invertedRow : Outcome Source → List ℕ
 invertedRow o = rowFrom (λ s. s .place ∷ s .interval ∷ []) o
+
+abbrev pub stretchedRow : Outcome Stretch → List ℕ
+stretchedRow o = rowFrom (λ s. s .first ∷ s .count ∷ []) o
 
 -- records, one after the other: place, interval, place and interval reached, count, distance
 abbrev pub recordsRow : List Question → List ℕ
@@ -207,6 +211,9 @@ keys =
     (movedRow (movesOf 16 exampleTables 4 0 0) is 0 ∷ 0 ∷ 0 ∷ 0 ∷ 4 ∷ []) ∷
     (movedRow (movesOf 16 exampleTables 4 4 11) is 0 ∷ 11 ∷ 4 ∷ 3 ∷ 4 ∷ []) ∷
     (invertedRow (inverseOf 16 exampleTables 9) is 0 ∷ 7 ∷ 3 ∷ []) ∷
+    -- the starts under an image: two from index 2 on, and none where 5 is the index that they would begin at
+    (stretchedRow (underOf 16 listedTables 5) is 0 ∷ 2 ∷ 2 ∷ []) ∷
+    (stretchedRow (underOf 16 listedTables 2) is 0 ∷ 5 ∷ 0 ∷ []) ∷
     -- weight 3, no cut; the most starts that a move may read
     (weight 12 uncut 3 ∷ countOf (balanced 2 12 uncut) ∷ [] is 3 ∷ 4 ∷ []) ∷
     (countOf (balanced 2 15 fullest) ∷ [] is 5 ∷ []) ∷
@@ -278,7 +285,7 @@ keys =
     (answeredRow 16 wrongFour [] is 12 ∷ 4 ∷ []) ∷
     (leftRow 16 wrongFour (3 ∷ []) is 3 ∷ 9 ∷ 9 ∷ 9 ∷ 9 ∷ 9 ∷ []) ∷
     -- a move from interval 4 is refused before its place is tested, one that leads there is made, and the next one is refused; a
-    -- bookmark stays there; an interval's weight reads its own length alone
+    -- bookmark stays there; an interval's weight reads its own length alone, and so do the starts under its image
     (movedRow (moveOf 16 wrongFour 4 11) is 12 ∷ 4 ∷ []) ∷
     (movedRow (moveOf 16 wrongFour 4 99) is 12 ∷ 4 ∷ []) ∷
     (movedRow (moveOf 16 wrongFour 3 7) is 0 ∷ 9 ∷ 4 ∷ 1 ∷ 1 ∷ []) ∷
@@ -288,6 +295,7 @@ keys =
     (markingRow (markingsOf 16 wrongFour 3 (fresh 14 5 999)) is 12 ∷ 4 ∷ 8 ∷ 4 ∷ 0 ∷ 2 ∷ 3 ∷ []) ∷
     (foundRow (weightOf 16 wrongFour 4) is 12 ∷ 4 ∷ []) ∷
     (foundRow (weightOf 16 wrongFour 5) is 0 ∷ 2 ∷ []) ∷
+    (stretchedRow (underOf 16 wrongFour 4) is 12 ∷ 4 ∷ []) ∷
     -- starts that fall, or stand twice: no length is right there, and an interval that has a right one can be left
     (movedRow (moveOf 16 mixedStarts 1 9) is 12 ∷ 1 ∷ []) ∷
     (movedRow (moveOf 16 (tables (0 ∷ 4 ∷ 4 ∷ []) (0 ∷ 4 ∷ 8 ∷ []) (0 ∷ 1 ∷ 2 ∷ []) (4 ∷ 0 ∷ 12 ∷ [])) 1 4) is 12 ∷ 1 ∷ []) ∷
@@ -335,5 +343,5 @@ keys =
     []
 
 pub keys-hold : map computed keys ≡ map given keys
-unfolding judge mapDone andThen unmatched unordered outOfRange overlap overlaps listTests testsUpTo misshapen mismatch outside unheld broken passed foundAt unfindable startsRead walkCount stepTo stepOf findOf moveOf onwards movesOf plainMove plainMoves sends sourceOf inverseOf unplaced underFirst underCount weightOf overflows bookmarkOf markAfter markingOf markingsOf fallsAt unfindableAt brokenAt answersOf filledIn recordsAfter cutting balanced filled breaks maximalRuns valuesOf lastAscent lastAbove changed successor falls nextRuns nextOf listsFrom plannedOf clearedBy forecastOf leastDegreeOf balanceOf filledTables
+unfolding judge mapDone andThen unmatched unordered outOfRange overlap overlaps listTests testsUpTo misshapen mismatch outside unheld broken passed foundAt unfindable startsRead walkCount stepTo stepOf findOf moveOf onwards movesOf plainMove plainMoves sends sourceOf inverseOf unplaced underFirst underCount weightOf underOf overflows bookmarkOf markAfter markingOf markingsOf fallsAt unfindableAt brokenAt answersOf filledIn recordsAfter cutting balanced filled breaks maximalRuns valuesOf lastAscent lastAbove changed successor falls nextRuns nextOf listsFrom plannedOf clearedBy forecastOf leastDegreeOf balanceOf filledTables
 keys-hold = refl

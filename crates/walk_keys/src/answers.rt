@@ -5,6 +5,7 @@ use preimages::Inverted;
 use rows::out;
 use walks::Found;
 use walks::Moved;
+use weights::Stretched;
 use weights::Weighed;
 
 pub(crate) fn found(a: Found) {
@@ -37,6 +38,13 @@ pub(crate) fn weighed(a: Weighed) {
     match a {
         Weighed::Refused(r) => out::refusal(r),
         Weighed::Weight(w) => out::one(w as u64),
+    }
+}
+
+pub(crate) fn stretched(a: Stretched) {
+    match a {
+        Stretched::Refused(r) => out::refusal(r),
+        Stretched::At(s) => out::two(s.first as u64, s.count as u64),
     }
 }
 

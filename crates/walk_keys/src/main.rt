@@ -6,13 +6,15 @@
 //     moves n x i m : starts : images : holders : lengths
 //     inverse n j : starts : images : holders : lengths
 //     weight n x : starts : images : holders : lengths
+//     starts-under n x : starts : images : holders : lengths
 //     under n x : starts : images : holders : lengths
 //     bookmark n, place, interval, distance, moves, and the count as a high and a low number : starts : images : holders : lengths
 //     bookmark-moves n, place, interval and distance of a fresh one, m : starts : images : holders : lengths
 //     questions n : starts : images : holders : lengths : places, at most eight
 //
-// `under` is answered by how many starts there are, and which. A bookmark and the records of questions are lent, so they
-// are printed after the call; a bookmark's move on the spot runs within `bookmark-moves`.
+// `starts-under` is answered by how many starts there are, and which; `under` by the first one's index and how many there are.
+// A bookmark and the records of questions are lent, so they are printed after the call; a bookmark's move on the spot runs
+// within `bookmark-moves`.
 mod answers;
 mod asking;
 
@@ -76,10 +78,11 @@ fn call(code: usize, numbers: &[u32], a: &[u32], b: &[u32], c: &[u32], d: &[u32]
         324 => answers::inverted(preimages::inverse(n, a, b, c, d, p)),
         424 => answers::weighed(weights::weight(n, a, b, c, d, p)),
         524 => out::stretch(weights::starts_under(n, a, b, c, d, p)),
-        674 => advance(n, numbers, a, b, c, d),
-        754 => advance_often(n, numbers, a, b, c, d),
-        815 => asking::questions(n, a, b, c, d, e),
-        900..=999 => {}
+        624 => answers::stretched(weights::under(n, a, b, c, d, p)),
+        774 => advance(n, numbers, a, b, c, d),
+        854 => advance_often(n, numbers, a, b, c, d),
+        915 => asking::questions(n, a, b, c, d, e),
+        1000..=1099 => {}
         _ => out::no_call(),
     }
 }
@@ -90,7 +93,7 @@ fn run_row(line: &[u8], entries: &mut [u32]) {
     let row = rows::read(line, entries);
     call(
         rows::code_of(
-            b" find move moves inverse weight under bookmark bookmark-moves questions #",
+            b" find move moves inverse weight starts-under under bookmark bookmark-moves questions #",
             line,
             row,
         ),
