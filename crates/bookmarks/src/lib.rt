@@ -10,7 +10,9 @@ ghost use Rattle.tables.specs.Tables.{tables};
 ghost use Rattle.bookmarks.specs.Bookmark.{Advances, markedSays, markingsOf};
 
 // A walk that its owner keeps: where it stands, the moves made, and how many starts they read. A move writes the place's distance
-// from the interval's start and never looks at it, so that a bookmark may begin with any number there.
+// from the interval's start and never looks at it, so that a bookmark may begin with any number there. It passes to hosts as it is,
+// with no gap between its fields.
+#[repr(C)]
 pub struct Bookmark {
     pub place: u32,
     pub interval: u32,
