@@ -4,6 +4,7 @@ mod peer;
 #[path = "../tests/second/random.rs"]
 #[allow(dead_code)] // the tests use more of it
 mod random;
+mod types;
 
 use random::{list_of, List, Random};
 use std::hint::black_box;
@@ -88,7 +89,7 @@ fn assert_found_alike(n: u32, [s, i, h, l]: [&[u32]; 4], places: &[u32]) {
     let [longer, none] = &wrong_lengths(l, l.len() / 2);
     for (n, l) in [(n, l), (0, l), (n, &l[1..]), (n, longer), (n, none)] {
         for &place in places.iter().chain([&0, &n]) {
-            assert_eq!(zibewoka::find(n, s, i, h, l, place), refusal(peer::find(n, s, i, h, l, place)));
+            assert_eq!(outcome(zibewoka::find(n, s, i, h, l, place)), peer::find(n, s, i, h, l, place));
         }
     }
 }
@@ -100,10 +101,10 @@ fn assert_moved_alike(n: u32, [s, i, h, l]: [&[u32]; 4], x: u32, place: u32, m: 
     let lengths = wrong.iter().map(|wrong| &wrong[..]).chain([l]);
     for (l, place) in lengths.flat_map(|l| [(l, place), (l, n)]) {
         let once = peer::move_once(n, s, i, h, l, x, place).map(library_step);
-        assert_eq!(zibewoka::move_once(n, s, i, h, l, x, place), refusal(once));
+        assert_eq!(outcome(zibewoka::move_once(n, s, i, h, l, x, place)), once);
         for m in [0, 1, 2, m] {
             let often = peer::moves(n, s, i, h, l, x, place, m).map(library_step);
-            assert_eq!(zibewoka::moves(n, s, i, h, l, x, place, m), refusal(often));
+            assert_eq!(outcome(zibewoka::moves(n, s, i, h, l, x, place, m)), often);
         }
     }
 }
@@ -129,9 +130,9 @@ fn tables(list: &List, d: u32) -> [Vec<u32>; 4] {
     [s, i, h, l]
 }
 
-/// What the peer comes to, as the library says it.
-fn refusal<T>(outcome: peer::Outcome<T>) -> Result<T, Refusal> {
-    outcome.map_err(|(number, place)| Refusal { number, place: place.into() })
+/// What a call comes to, as the peer says it.
+fn outcome<T>(result: Result<T, Refusal>) -> peer::Outcome<T> {
+    result.map_err(|refusal| (refusal.number(), refusal.place() as u32))
 }
 
 /// How many lists of a line are checked in turn: one alone would teach the processor where the jumps of a short sort go.
@@ -142,14 +143,15 @@ fn cell(unit: f64, [library, peer]: [f64; 2]) -> String {
     format!("{:.1} | {:.2}", library * unit, library / peer)
 }
 
-/// The cells of find, a move and repeated moves.
+/// The cells of find, a move and repeated moves. The closures own the slices, as a caller's loop does: behind a reference they would be
+/// read again for each call, on both sides.
 fn walk_cells(r: &mut Random, n: u32, columns: [&[u32]; 4]) -> [String; 3] {
     let [s, i, h, l] = columns;
-    let places: Vec<u32> = (0..64).map(|_| r.below(u64::from(n)) as u32).collect();
-    assert_found_alike(n, columns, &places);
+    let places: &Vec<u32> = &(0..64).map(|_| r.below(u64::from(n)) as u32).collect();
+    assert_found_alike(n, columns, places);
     let find = seconds(
-        || places.iter().map(|&p| zibewoka::find(n, s, i, h, l, p).expect("a place")).sum::<u32>(),
-        || places.iter().map(|&p| peer::find(n, s, i, h, l, p).expect("a place")).sum::<u32>(),
+        move || places.iter().map(|&p| zibewoka::find(n, s, i, h, l, p).expect("a place")).sum::<u32>(),
+        move || places.iter().map(|&p| peer::find(n, s, i, h, l, p).expect("a place")).sum::<u32>(),
     );
 
     let m = 10_000;
@@ -157,13 +159,13 @@ fn walk_cells(r: &mut Random, n: u32, columns: [&[u32]; 4]) -> [String; 3] {
     let interval = zibewoka::find(n, s, i, h, l, first).expect("a place");
     assert_moved_alike(n, columns, interval, first, m);
     let once = seconds(
-        || {
+        move || {
             (0..m).fold((first, interval), |(place, interval), _| {
                 let step = zibewoka::move_once(n, s, i, h, l, interval, place).expect("a move");
                 (step.place, step.interval)
             })
         },
-        || {
+        move || {
             (0..m).fold((first, interval), |(place, interval), _| {
                 let step = peer::move_once(n, s, i, h, l, interval, place).expect("a move");
                 (step.place, step.interval)
@@ -171,8 +173,8 @@ fn walk_cells(r: &mut Random, n: u32, columns: [&[u32]; 4]) -> [String; 3] {
         },
     );
     let repeated = seconds(
-        || zibewoka::moves(n, s, i, h, l, interval, first, m),
-        || peer::moves(n, s, i, h, l, interval, first, m),
+        move || zibewoka::moves(n, s, i, h, l, interval, first, m),
+        move || peer::moves(n, s, i, h, l, interval, first, m),
     );
     let per_move = 1e9 / f64::from(m);
     [cell(1e9 / places.len() as f64, find), cell(per_move, once), cell(per_move, repeated)]
@@ -250,8 +252,8 @@ fn assert_refused_alike(n: u32, [s, i, h, l]: [&[u32]; 4], asked: &[Question]) {
     ] {
         let [mut records, mut peer_records] = [asked.to_vec(), asked.to_vec()];
         let refused = zibewoka::questions(n, s, i, h, l, &mut records).expect_err("damaged");
-        assert_eq!(refused.number, number);
-        assert_eq!(peer::questions(n, s, i, h, l, &mut peer_records), Err((number, refused.place)));
+        assert_eq!(refused.number(), number);
+        assert_eq!(peer::questions(n, s, i, h, l, &mut peer_records), Err((number, refused.place())));
         assert!(records == asked && peer_records == asked, "a refusal fills no record");
     }
 }
@@ -315,7 +317,7 @@ fn assert_weighed_alike(n: u32, [s, i, h, l]: [&[u32]; 4]) {
     let [none, last] = [u32::MAX, h.len() as u32 - 1].map(|holder| vec![holder; h.len()]);
     for (n, h, l) in [(n, h, l), (0, h, l), (n / 2, h, l), (n, &none, l), (n, &last, l), (n, h, &vec![0; l.len()])] {
         for x in 0..=h.len() as u32 {
-            assert_eq!(zibewoka::weight(n, s, i, h, l, x), refusal(peer::weight(n, s, i, h, l, x)));
+            assert_eq!(outcome(zibewoka::weight(n, s, i, h, l, x)), peer::weight(n, s, i, h, l, x));
         }
     }
 }
@@ -324,7 +326,8 @@ fn assert_weighed_alike(n: u32, [s, i, h, l]: [&[u32]; 4]) {
 fn weights_line(r: &mut Random, shape: &str, k: usize, d: u32) -> String {
     let list = list(r, shape, k);
     let n = list.n;
-    let [s, i, h, l] = &tables(&list, d);
+    let tables = tables(&list, d);
+    let [s, i, h, l] = tables.each_ref().map(Vec::as_slice);
     let size = s.len();
     assert_weighed_alike(n, [s, i, h, l]);
     let at_a_start = i.iter().zip(h).filter(|&(&image, &holder)| s[holder as usize] == image).count();
@@ -333,8 +336,8 @@ fn weights_line(r: &mut Random, shape: &str, k: usize, d: u32) -> String {
     let mut turns = orders.iter().cycle();
     let mut peer_turns = turns.clone();
     let [library, peer] = seconds(
-        || total(&mut turns, |x| zibewoka::weight(n, s, i, h, l, x).expect("whole")),
-        || total(&mut peer_turns, |x| peer::weight(n, s, i, h, l, x).expect("whole")),
+        move || total(&mut turns, |x| zibewoka::weight(n, s, i, h, l, x).expect("whole")),
+        move || total(&mut peer_turns, |x| peer::weight(n, s, i, h, l, x).expect("whole")),
     );
     format!(
         "| {shape} | {k} | {d} | {size} | {:.2} | {:.1} | {:.2} |",
@@ -420,8 +423,8 @@ fn next_list(list: &List, s: &mut [u32], i: &mut [u32]) -> Result<u32, Refusal> 
     zibewoka::next_list(list.n, &list.starts, &list.images, s, i)
 }
 
-fn peer_next_list(list: &List, s: &mut [u32], i: &mut [u32]) -> Result<u32, Refusal> {
-    refusal(peer::next_list(list.n, &list.starts, &list.images, s, i))
+fn peer_next_list(list: &List, s: &mut [u32], i: &mut [u32]) -> peer::Outcome<u32> {
+    peer::next_list(list.n, &list.starts, &list.images, s, i)
 }
 
 /// One line of the table of next lists: the library's time for a list and its ratio to the peer's, over all lists of n places but
@@ -432,7 +435,7 @@ fn next_line(n: u32) -> String {
     for list in &lists {
         for count in [7, n as usize - 1] {
             let answer = next_list(list, &mut s[..count], &mut i);
-            assert_eq!(answer, peer_next_list(list, &mut peer_s[..count], &mut peer_i));
+            assert_eq!(outcome(answer), peer_next_list(list, &mut peer_s[..count], &mut peer_i));
             assert!(s == peer_s && i == peer_i, "the peer writes alike");
         }
     }
@@ -465,7 +468,7 @@ fn assert_forecast_alike(list: &List, d: u32) {
         for working in [b - 1, b, b + 3] {
             let [mut w, mut peer_w] = [9; 2].map(|nine| vec![nine; working]);
             let size = zibewoka::forecast(n, starts, images, d, &mut w);
-            assert_eq!(size, refusal(peer::forecast(n, starts, images, d, &mut peer_w)));
+            assert_eq!(outcome(size), peer::forecast(n, starts, images, d, &mut peer_w));
             assert!(w == peer_w, "the peer forecasts alike");
             let tables = size.map_or(k, |size| size.intervals as usize);
             for count in [tables - 1, tables] {
@@ -474,7 +477,7 @@ fn assert_forecast_alike(list: &List, d: u32) {
                 let [s, i, h, l, w] = &mut lent;
                 let answer = zibewoka::balance(n, starts, images, d, s, i, h, l, w);
                 let [s, i, h, l, w] = &mut peer_lent;
-                assert_eq!(answer, refusal(peer::balance(n, starts, images, d, s, i, h, l, w)));
+                assert_eq!(outcome(answer), peer::balance(n, starts, images, d, s, i, h, l, w));
                 assert!(lent == peer_lent, "the peer balances alike");
             }
         }
@@ -522,7 +525,7 @@ fn assert_least_alike(List { n, starts, images }: &List, entries: u32) {
     for working in [2 * k - 1, 2 * k, 2 * k + 3] {
         let [mut w, mut peer_w] = [9; 2].map(|nine| vec![nine; working]);
         let least = zibewoka::least_degree(*n, starts, images, entries, &mut w);
-        assert_eq!(least, refusal(peer::least_degree(*n, starts, images, entries, &mut peer_w)));
+        assert_eq!(outcome(least), peer::least_degree(*n, starts, images, entries, &mut peer_w));
         assert!(w == peer_w, "the peer searches alike");
     }
 }
@@ -614,6 +617,20 @@ fn print_least_degrees(r: &mut Random) {
     }
 }
 
+fn print_types(r: &mut Random) {
+    println!("A bookmark's move, starts under and the check of a file: for each the library's time and its ratio to the peer's.");
+    println!();
+    println!("| list | k | d | K | bookmark, ns a move | × | starts under ns | × | file µs | × |");
+    println!("|---|---|---|---|---|---|---|---|---|---|");
+    for shape in ["shuffled", "cuts"] {
+        for k in [64, 1024, 16384] {
+            for d in [2, 8] {
+                println!("{}", types::line(r, shape, k, d));
+            }
+        }
+    }
+}
+
 fn main() {
     let r = &mut Random::new(7);
     print_calls(r);
@@ -629,4 +646,6 @@ fn main() {
     print_least_degrees(r);
     println!();
     print_weights(r);
+    println!();
+    print_types(r);
 }

@@ -46,6 +46,37 @@ pub fn check(n: u32, starts: &[u32], images: &[u32]) -> Outcome<()> {
     check_into_order(n, starts, images).map(|_| ())
 }
 
+/// The header of a file of a legal list: n, k and d.
+#[inline(never)]
+pub fn check_file(file: &[u8]) -> Outcome<[u32; 3]> {
+    let words: Vec<u32> =
+        file.chunks_exact(4).map(|word| u32::from_le_bytes(word.try_into().expect("four bytes"))).collect();
+    let &[n, k, d, starts_at, images_at, ref list @ ..] = &words[..] else {
+        return Err((15, 0));
+    };
+    if n == 0 || k == 0 {
+        return Err((1, 0));
+    }
+    if k > 16384 {
+        return Err((2, 0));
+    }
+    if starts_at != 20 {
+        return Err((15, 12));
+    }
+    if images_at != 20 + 4 * k {
+        return Err((15, 16));
+    }
+    if file.len() != 20 + 8 * k as usize {
+        return Err((15, 20));
+    }
+    let (starts, images) = list.split_at(k as usize);
+    check_into_order(n, starts, images)?;
+    if !(2..=64).contains(&d) {
+        return Err((7, d));
+    }
+    Ok([n, k, d])
+}
+
 /// The starts of a list with cuts, answered by binary searches.
 struct Cut<'a> {
     n: u32,
@@ -302,9 +333,16 @@ fn located(n: u32, starts: &[u32], images: &[u32], holders: &[u32], lengths: &[u
     Ok(())
 }
 
-/// Tests 9, 10 and 12, and how many starts lie under x's image.
-#[inline(never)]
-pub fn weight(n: u32, starts: &[u32], images: &[u32], holders: &[u32], lengths: &[u32], x: u32) -> Outcome<u32> {
+/// Where the starts under x's image begin, and how many they are.
+#[inline(always)]
+fn stretch(
+    n: u32,
+    starts: &[u32],
+    images: &[u32],
+    holders: &[u32],
+    lengths: &[u32],
+    x: u32,
+) -> Outcome<(usize, usize)> {
     fits(n, starts, images, holders, lengths)?;
     let at = x as usize;
     if starts.len() <= at {
@@ -318,10 +356,27 @@ pub fn weight(n: u32, starts: &[u32], images: &[u32], holders: &[u32], lengths: 
     match starts.get(h) {
         Some(&start) if start <= image && image_end <= u64::from(n) => {
             let first = if start == image { h } else { h + 1 };
-            Ok(starts[first..].iter().take_while(|&&s| u64::from(s) < image_end).count() as u32)
+            Ok((first, starts[first..].iter().take_while(|&&s| u64::from(s) < image_end).count()))
         }
         _ => Err((12, x)),
     }
+}
+
+#[inline(never)]
+pub fn weight(n: u32, starts: &[u32], images: &[u32], holders: &[u32], lengths: &[u32], x: u32) -> Outcome<u32> {
+    stretch(n, starts, images, holders, lengths, x).map(|(_, count)| count as u32)
+}
+
+#[inline(never)]
+pub fn starts_under<'a>(
+    n: u32,
+    starts: &'a [u32],
+    images: &[u32],
+    holders: &[u32],
+    lengths: &[u32],
+    x: u32,
+) -> Outcome<&'a [u32]> {
+    stretch(n, starts, images, holders, lengths, x).map(|(first, count)| &starts[first..first + count])
 }
 
 /// The place that a move reaches from a place that its interval, of a right length, has, and the holder to go on from; or
@@ -370,8 +425,9 @@ fn step(n: u32, starts: &[u32], images: &[u32], holders: &[u32], x: usize, i: u3
     Some((j, on_from(starts, h, j), h))
 }
 
-#[inline(never)]
-pub fn move_once(
+/// A move, for callers that each have it in their own code.
+#[inline(always)]
+fn moved(
     n: u32,
     starts: &[u32],
     images: &[u32],
@@ -388,6 +444,46 @@ pub fn move_once(
             Ok(Step { place: j, interval: y as u32, distance: j - starts[y], count })
         }
     }
+}
+
+#[inline(never)]
+pub fn move_once(
+    n: u32,
+    starts: &[u32],
+    images: &[u32],
+    holders: &[u32],
+    lengths: &[u32],
+    x: u32,
+    i: u32,
+) -> Outcome<Step<u32>> {
+    moved(n, starts, images, holders, lengths, x, i)
+}
+
+/// A walk that its owner keeps.
+#[derive(Clone, Copy, Debug, PartialEq, Eq)]
+pub struct Mark {
+    pub place: u32,
+    pub interval: u32,
+    pub distance: u32,
+    pub moves: u32,
+    pub count: u64,
+}
+
+/// A move of a mark, on the spot.
+#[inline(never)]
+pub fn advance(
+    n: u32,
+    starts: &[u32],
+    images: &[u32],
+    holders: &[u32],
+    lengths: &[u32],
+    mark: &mut Mark,
+) -> Outcome<Step<u32>> {
+    let step = moved(n, starts, images, holders, lengths, mark.interval, mark.place)?;
+    let moves = mark.moves.checked_add(1).ok_or((13, 0))?;
+    let count = mark.count.checked_add(step.count.into()).ok_or((13, 0))?;
+    *mark = Mark { place: step.place, interval: step.interval, distance: step.distance, moves, count };
+    Ok(step)
 }
 
 #[allow(clippy::too_many_arguments)]

@@ -188,12 +188,18 @@ fn worked<T>(room: Outcome<usize>, result: impl FnOnce() -> Outcome<T>) -> Worke
     }
 }
 
-/// Tests 1 to 7, and "a short working table gives 8 with B". `working` is its count of entries; answers B.
-fn room(n: u32, starts: &[u32], images: &[u32], d: u32, working: usize) -> Outcome<usize> {
+/// Tests 1 to 7.
+fn check_with_degree(n: u32, starts: &[u32], images: &[u32], d: u32) -> Outcome<()> {
     check(n, starts, images)?;
     if !(2..=64).contains(&d) {
         return Err((7, d));
     }
+    Ok(())
+}
+
+/// Tests 1 to 7, and "a short working table gives 8 with B". `working` is its count of entries; answers B.
+fn room(n: u32, starts: &[u32], images: &[u32], d: u32, working: usize) -> Outcome<usize> {
+    check_with_degree(n, starts, images, d)?;
     let b = bound(d, starts.len());
     if working < b {
         return Err((8, b as u32));
@@ -440,8 +446,8 @@ pub fn inverse(n: u32, t: &Tables, j: u32) -> Outcome<(u32, u32)> {
     Err((14, j))
 }
 
-/// The size of the stretch of starts under x's image.
-pub fn weight(n: u32, t: &Tables, x: u32) -> Outcome<u32> {
+/// "The stretch of the lent starts table that lies under x's image": the index that it begins at, and its size.
+pub fn starts_under(n: u32, t: &Tables, x: u32) -> Outcome<(u32, u32)> {
     fits(n, t)?;
     known(t, x)?;
     let at = x as usize;
@@ -459,7 +465,33 @@ pub fn weight(n: u32, t: &Tables, x: u32) -> Outcome<u32> {
     while first + size < t.starts.len() && u64::from(t.starts[first + size]) < image_end {
         size += 1;
     }
-    Ok(size as u32)
+    Ok((first as u32, size as u32))
+}
+
+/// "Weight gives its size or the number."
+pub fn weight(n: u32, t: &Tables, x: u32) -> Outcome<u32> {
+    starts_under(n, t, x).map(|(_, size)| size)
+}
+
+/// A bookmark: "place, interval, moves (32 bits)" and the starts read (64 bits), with the distance that a move gives.
+#[derive(Clone, Copy, Debug, PartialEq, Eq)]
+pub struct Mark {
+    pub place: u32,
+    pub interval: u32,
+    pub distance: u32,
+    pub moves: u32,
+    pub count: u64,
+}
+
+/// A bookmark is "moved on the spot, by one move": the tests of a move, and 13 where a counter has no room for it.
+pub fn advance(n: u32, t: &Tables, mark: &mut Mark) -> Outcome<Reached> {
+    let reached = step(n, t, mark.interval, mark.place)?;
+    let (Some(moves), Some(count)) = (mark.moves.checked_add(1), mark.count.checked_add(reached.count)) else {
+        return Err((13, 0));
+    };
+    let Reached { place, interval, distance, .. } = reached;
+    *mark = Mark { place, interval, distance, moves, count };
+    Ok(reached)
 }
 
 fn widened<T>(outcome: Outcome<T>) -> Outcome<T, u64> {
@@ -491,9 +523,16 @@ pub fn questions(n: u32, t: &Tables, places: &[u32]) -> Outcome<(u32, Vec<Record
     Ok((found.last().copied().unwrap_or(0), records))
 }
 
-/// The tables of a file's list and its degree, or the refusal. The listing program "takes at most 1,024 runs and gives 2
-/// above that".
-fn file(bytes: &[u8]) -> Outcome<(u32, u32, usize, Tables)> {
+/// What an accepted file holds.
+pub struct File {
+    pub n: u32,
+    pub k: u32,
+    pub d: u32,
+    pub list: [Vec<u32>; 2],
+}
+
+/// A file of at most so many runs: the tests of its header in their order, "then 3 to 7".
+pub fn file(bytes: &[u8], most: u32) -> Outcome<File> {
     let words: Vec<u32> =
         bytes.chunks_exact(4).map(|word| u32::from_le_bytes(word.try_into().expect("four bytes"))).collect();
     if bytes.len() < 20 {
@@ -503,7 +542,7 @@ fn file(bytes: &[u8]) -> Outcome<(u32, u32, usize, Tables)> {
     if n == 0 || k == 0 {
         return Err((1, 0));
     }
-    if k > 1024 {
+    if k > most {
         return Err((2, 0));
     }
     if words[3] != 20 {
@@ -512,20 +551,21 @@ fn file(bytes: &[u8]) -> Outcome<(u32, u32, usize, Tables)> {
     if words[4] != 20 + 4 * k {
         return Err((15, 16));
     }
-    let k = k as usize;
-    if bytes.len() != 20 + 8 * k {
+    if bytes.len() != 20 + 8 * k as usize {
         return Err((15, 20));
     }
-    let (starts, images) = (&words[5..5 + k], &words[5 + k..]);
-    let tables = balance(n, starts, images, d, [usize::MAX; 5]).outcome?;
-    Ok((n, d, k, tables))
+    let (starts, images) = words[5..].split_at(k as usize);
+    check_with_degree(n, starts, images, d)?;
+    Ok(File { n, k, d, list: [starts.to_vec(), images.to_vec()] })
 }
 
-/// What the listing program prints.
+/// What the listing program prints. It "takes at most 1,024 runs and gives 2 above that".
 pub fn listing(bytes: &[u8]) -> String {
-    match file(bytes) {
+    match file(bytes, 1024) {
         Err((number, place)) => format!("refused {number} {place}\n"),
-        Ok((n, d, k, t)) => {
+        Ok(File { n, k, d, list: [starts, images] }) => {
+            let (starts, images) = balanced(n, &starts, &images, d as usize);
+            let t = tables(n, &starts, &images);
             let mut text = format!("{n} {k} {d} {}\n", t.starts.len());
             for x in 0..t.starts.len() {
                 let shift = i64::from(t.images[x]) - i64::from(t.starts[x]);

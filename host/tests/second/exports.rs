@@ -1,14 +1,16 @@
 //! Every export on every kind of list and tables: each answer whole, and every entry of every lent table before and after.
 //!
-//! Bookmarks are not exported, so neither they nor their number, 13, come up here; nor does 15, which is a file's.
+//! Bookmarks, with their number 13, and files, with theirs, 15, have modules of their own.
 
 use crate::definition::{self as second, Outcome, Reached, Tables, Worked};
 use crate::random::{damage, damaged, legal, list_of, List, Random};
+use crate::refusals::{numbers, on_list, on_questions, on_tables, wide};
 use std::collections::BTreeMap;
 use zibewoka::exports::{
     self, BalanceAnswer, DegreeAnswer, ForecastAnswer, IntervalAnswer, ListAnswer, MoveAnswer, MovesAnswer, NextAnswer,
-    QuestionsAnswer, WeightAnswer,
+    QuestionsAnswer, UnderAnswer, WeightAnswer,
 };
+use zibewoka::LentTable::{Holders, Images, Lengths, Starts, Working};
 use zibewoka::{Forecast, LeastDegree, Question, Refusal, Step};
 
 /// How often each number was given.
@@ -16,7 +18,7 @@ use zibewoka::{Forecast, LeastDegree, Question, Refusal, Step};
 pub struct Numbers(pub BTreeMap<u32, u32>);
 
 impl Numbers {
-    fn add(&mut self, number: u32) {
+    pub fn add(&mut self, number: u32) {
         *self.0.entry(number).or_default() += 1;
     }
 
@@ -28,10 +30,10 @@ impl Numbers {
 }
 
 /// What 12 is noted as where it was given for a wrong length, apart from the other reasons for it.
-const WRONG_LENGTH: u32 = 1200;
+pub const WRONG_LENGTH: u32 = 1200;
 
 /// The number that a call on tables gave, as it is noted.
-fn noted<T, P: Copy + Into<u64>>(n: u32, t: &Tables, outcome: &Outcome<T, P>) -> u32 {
+pub fn noted<T, P: Copy + Into<u64>>(n: u32, t: &Tables, outcome: &Outcome<T, P>) -> u32 {
     match *outcome {
         Ok(_) => 0,
         Err((12, interval)) if second::is_wrong_length(n, t, interval.into() as usize) => WRONG_LENGTH,
@@ -63,11 +65,10 @@ pub struct Given {
     length_on_the_way: u32,
     inverse: Numbers,
     weight: Numbers,
+    starts_under: Numbers,
+    /// How often there was no start under an image because the stretch begins at the table's end.
+    under_the_end: u32,
     questions: Numbers,
-}
-
-fn refusal<T, P: Into<u64>>(outcome: Outcome<T, P>) -> Result<T, Refusal> {
-    outcome.map_err(|(number, place)| Refusal { number, place: place.into() })
 }
 
 /// Two lent tables of these counts with any numbers in them, and as a call that comes to this list leaves them.
@@ -116,7 +117,7 @@ impl Given {
         let answer = exports::check(*n, starts, images);
         let (number, place) = wanted.err().unwrap_or((0, 0));
         assert_eq!(answer, ListAnswer { number, place });
-        assert_eq!(zibewoka::check(*n, starts, images), refusal(wanted));
+        assert_eq!(on_list(zibewoka::check(*n, starts, images), list, &[]), wide(wanted));
         self.check.add(number);
     }
 
@@ -142,7 +143,8 @@ impl Given {
         assert!([s, i, h, l, w] == after, "the lent tables after balancing");
         let [mut s, mut i, mut h, mut l, mut w] = before;
         let safe = zibewoka::balance(*n, starts, images, d, &mut s, &mut i, &mut h, &mut l, &mut w);
-        assert_eq!(safe, refusal(wanted.as_ref().map(|_| intervals).map_err(|&e| e)));
+        let lent = [Starts, Images, Holders, Lengths, Working].into_iter().zip(counts).collect::<Vec<_>>();
+        assert_eq!(on_list(safe, list, &lent), wide(wanted.as_ref().map(|_| intervals).map_err(|&e| e)));
         assert!([s, i, h, l, w] == after, "the same through the wrapper");
         self.balance.add(number);
         self.fewer_than_intervals += u32::from(number == 8 && cleared > 0);
@@ -162,7 +164,8 @@ impl Given {
         assert!(w == after, "the working table after a forecast");
         let mut w = before;
         let safe = zibewoka::forecast(*n, starts, images, d, &mut w);
-        assert_eq!(safe, refusal(wanted.map(|(intervals, cuts)| Forecast { intervals, cuts })));
+        let wanted_size = wanted.map(|(intervals, cuts)| Forecast { intervals, cuts });
+        assert_eq!(on_list(safe, list, &[(Working, working)]), wide(wanted_size));
         assert!(w == after, "the same through the wrapper");
         self.forecast.add(number);
         wanted.ok().map(|(intervals, _)| intervals)
@@ -181,7 +184,8 @@ impl Given {
         assert!(w == after, "the working table after the least degree");
         let mut w = before;
         let safe = zibewoka::least_degree(*n, starts, images, entries, &mut w);
-        assert_eq!(safe, refusal(wanted.map(|(degree, intervals)| LeastDegree { degree, intervals })));
+        let wanted_degree = wanted.map(|(degree, intervals)| LeastDegree { degree, intervals });
+        assert_eq!(on_list(safe, list, &[(Working, working)]), wide(wanted_degree));
         assert!(w == after, "the same through the wrapper");
         self.least_degree.add(number);
     }
@@ -197,7 +201,7 @@ impl Given {
         assert!([s, i] == after, "the lent tables after the inverse list");
         let [mut s, mut i] = before;
         let safe = zibewoka::inverse_list(*n, starts, images, &mut s, &mut i);
-        assert_eq!(safe, refusal(wanted.map(|_| ())));
+        assert_eq!(on_list(safe, list, &[(Starts, counts[0]), (Images, counts[1])]), wide(wanted.map(|_| ())));
         assert!([s, i] == after, "the same through the wrapper");
         self.inverse_list.add(number);
     }
@@ -216,7 +220,7 @@ impl Given {
         let mut lent = before;
         let [s, i] = &mut lent;
         let safe = zibewoka::next_list(*n, starts, images, s, i);
-        assert_eq!(safe, refusal(wanted));
+        assert_eq!(on_list(safe, list, &[(Starts, counts[0]), (Images, counts[1])]), wide(wanted));
         assert!(lent == after, "the same through the wrapper");
         self.next_list.add(number);
         let [starts, images] = lent.map(|table| table[..answer.runs as usize].to_vec());
@@ -232,7 +236,8 @@ impl Given {
             Err((number, place)) => (number, place, 0),
         };
         assert_eq!(answer, IntervalAnswer { number, place, interval });
-        assert_eq!(zibewoka::find(n, starts, images, holders, lengths, i), refusal(wanted));
+        let safe = zibewoka::find(n, starts, images, holders, lengths, i);
+        assert_eq!(on_tables(safe, n, t, None), wide(wanted));
         let noted = noted(n, t, &wanted);
         self.length_before_place += u32::from(noted == WRONG_LENGTH && n <= i);
         self.find.add(noted);
@@ -245,7 +250,7 @@ impl Given {
         let (number, Reached { place, interval, distance, count }) = fields(wanted);
         assert_eq!(answer, MoveAnswer { number, place, interval, distance, count: count as u32 });
         let safe = zibewoka::move_once(n, starts, images, holders, lengths, x, i);
-        assert_eq!(safe, refusal(wanted.map(safe_step)));
+        assert_eq!(on_tables(safe, n, t, Some(x)), wide(wanted.map(safe_step)));
         let noted = noted(n, t, &wanted);
         self.length_before_place += u32::from(noted == WRONG_LENGTH && n <= i);
         self.into_wrong_length += u32::from(noted == 0 && second::is_wrong_length(n, t, interval as usize));
@@ -259,7 +264,7 @@ impl Given {
         let (number, Reached { place, interval, distance, count }) = fields(wanted);
         assert_eq!(answer, MovesAnswer { number, place, interval, distance, count });
         let safe = zibewoka::moves(n, starts, images, holders, lengths, x, i, m);
-        assert_eq!(safe, refusal(wanted.map(safe_step)));
+        assert_eq!(on_tables(safe, n, t, Some(x)), wide(wanted.map(safe_step)));
         let noted = noted(n, t, &wanted);
         self.length_on_the_way += u32::from(noted == WRONG_LENGTH && place != x);
         self.steps.add(noted);
@@ -275,7 +280,7 @@ impl Given {
         };
         assert_eq!(answer, IntervalAnswer { number, place, interval });
         let safe = zibewoka::inverse(n, starts, images, holders, lengths, j);
-        assert_eq!(safe.map(|s| (s.place, s.interval)), refusal(wanted));
+        assert_eq!(on_tables(safe.map(|s| (s.place, s.interval)), n, t, None), wide(wanted));
         let noted = noted(n, t, &wanted);
         self.length_before_place += u32::from(noted == WRONG_LENGTH && n <= j);
         self.inverse.add(noted);
@@ -290,8 +295,26 @@ impl Given {
             Err((number, place)) => (number, place, 0),
         };
         assert_eq!(answer, WeightAnswer { number, place, weight });
-        assert_eq!(zibewoka::weight(n, starts, images, holders, lengths, x), refusal(wanted));
+        let safe = zibewoka::weight(n, starts, images, holders, lengths, x);
+        assert_eq!(on_tables(safe, n, t, Some(x)), wide(wanted));
         self.weight.add(noted(n, t, &wanted));
+    }
+
+    fn starts_under(&mut self, n: u32, t: &Tables, x: u32) {
+        let wanted = second::starts_under(n, t, x);
+        let [starts, images, holders, lengths] = t.columns();
+        let answer = exports::starts_under(n, starts, images, holders, lengths, x);
+        let (number, place, first, count) = match wanted {
+            Ok((first, count)) => (0, 0, first, count),
+            Err((number, place)) => (number, place, 0, 0),
+        };
+        assert_eq!(answer, UnderAnswer { number, place, first, count });
+        assert!((first + count) as usize <= starts.len(), "the stretch lies in the table");
+        let safe = zibewoka::starts_under(n, starts, images, holders, lengths, x);
+        let part = wanted.map(|(first, count)| &starts[first as usize..][..count as usize]);
+        assert_eq!(on_tables(safe, n, t, Some(x)), wide(part));
+        self.under_the_end += u32::from(number == 0 && first as usize == starts.len());
+        self.starts_under.add(noted(n, t, &wanted));
     }
 
     /// Questions at these places, with any numbers in the other fields. They are lent out of a longer slice, whose records
@@ -321,7 +344,7 @@ impl Given {
         let falls = places.windows(2).any(|pair| pair[1] < pair[0]);
         self.length_before_fall += u32::from(noted == WRONG_LENGTH && falls);
         self.questions.add(noted);
-        assert_eq!(safe, refusal(wanted.map(|(count, _)| count)));
+        assert_eq!(on_questions(safe, n, t, &records[lent.clone()]), wide(wanted.map(|(count, _)| count)));
         assert!(records == after, "the same through the wrapper");
         if number == 0 {
             records[lent].iter().for_each(|record| agrees_alone(n, t, record));
@@ -373,6 +396,7 @@ impl Given {
         self.steps(n, t, x, i, m);
         self.inverse(n, t, i);
         self.weight(n, t, x);
+        self.starts_under(n, t, x);
     }
 
     /// Every export on tables, at places in their intervals and at any numbers.
@@ -411,13 +435,15 @@ impl Given {
         self.length_on_the_way += other.length_on_the_way;
         self.inverse.add_all(other.inverse);
         self.weight.add_all(other.weight);
+        self.starts_under.add_all(other.starts_under);
+        self.under_the_end += other.under_the_end;
         self.questions.add_all(other.questions);
         self
     }
 
     /// Each export with the numbers that it can give, and how often each of them is given at least. A list of too many
     /// runs is long, and comes once.
-    fn all(&self) -> [(&'static str, &Numbers, &'static [u32], u32); 12] {
+    fn all(&self) -> [(&'static str, &Numbers, &'static [u32], u32); 13] {
         [
             ("check", &self.check, &[0, 1, 2, 3, 4, 5, 6], 1),
             ("balance", &self.balance, &[0, 1, 2, 3, 4, 5, 6, 7, 8], 1),
@@ -430,6 +456,7 @@ impl Given {
             ("moves", &self.steps, &[0, 9, 10, 11, 12, WRONG_LENGTH], 10_000),
             ("inverse", &self.inverse, &[0, 9, 11, 14, WRONG_LENGTH], 10_000),
             ("weight", &self.weight, &[0, 9, 10, 12, WRONG_LENGTH], 10_000),
+            ("starts_under", &self.starts_under, &[0, 9, 10, 12, WRONG_LENGTH], 10_000),
             ("questions", &self.questions, &[0, 9, 11, 12, 16, WRONG_LENGTH], 10_000),
         ]
     }
@@ -455,7 +482,7 @@ fn entries(r: &mut Random, k: usize, size: usize) -> u32 {
 }
 
 /// An interval, or the index after the last, and a place from its start to its end.
-fn somewhere(r: &mut Random, n: u32, t: &Tables) -> (u32, u32) {
+pub fn somewhere(r: &mut Random, n: u32, t: &Tables) -> (u32, u32) {
     let x = r.below(t.starts.len() as u64 + 1) as u32;
     let start = t.starts.get(x as usize).copied().unwrap_or(0);
     let end = t.starts.get(x as usize + 1).copied().unwrap_or(n);
@@ -498,7 +525,7 @@ fn damage_length(r: &mut Random, n: u32, length: &mut u32) {
 }
 
 /// A table entry, a count or n becomes something else. Where it is n or a start, the lengths stay or follow it.
-fn damage_tables(r: &mut Random, n: &mut u32, t: &mut Tables) {
+pub fn damage_tables(r: &mut Random, n: &mut u32, t: &mut Tables) {
     let x = r.below(t.starts.len() as u64) as usize;
     match r.below(16) {
         0 => drop(t.holders.pop()),
@@ -527,7 +554,7 @@ fn senseless_column(r: &mut Random, k: usize, limit: u64) -> Vec<u32> {
 
 /// Tables of such numbers. In half of them the starts rise, and in most the lengths go with the starts; where they do not, nothing
 /// that tests all lengths comes through.
-fn senseless(r: &mut Random) -> (u32, Tables) {
+pub fn senseless(r: &mut Random) -> (u32, Tables) {
     let n = if r.one_in(2) { r.word() } else { r.below(100) as u32 };
     let limit = u64::from(n) + 1;
     let most = r.below(40) as usize;
@@ -631,6 +658,7 @@ fn random_lists_and_tables() {
         assert!(numbers.0.values().all(|&times| times >= often), "{export} gave {numbers:?}");
     }
     assert!(given.fewer_than_intervals >= 1000, "balance gave 8 with K");
+    assert!(given.under_the_end >= 1000, "no start under an image at the table's end");
     let telling =
         [given.length_before_place, given.length_before_fall, given.into_wrong_length, given.length_on_the_way];
     for times in telling {
@@ -676,6 +704,13 @@ fn known_keys() {
         (0..6).map(|x| zibewoka::weight(16, &s, &i, &h, &l, x).expect("whole")).collect::<Vec<_>>(),
         [0, 1, 0, 1, 2, 2]
     );
+    let under = |x| {
+        let UnderAnswer { number, place, first, count } = exports::starts_under(16, &s, &i, &h, &l, x);
+        (number, place, &s[first as usize..(first + count) as usize])
+    };
+    let stretches: [&[u32]; 6] = [&[], &[12], &[], &[8], &[0, 2], &[4, 6]];
+    assert_eq!([0, 1, 2, 3, 4, 5].map(under), stretches.map(|stretch| (0, 0, stretch)));
+    assert_eq!(under(6), (10, 6, &[][..]));
     let step = |place, interval, distance, count| Ok(Step { place, interval, distance, count });
     assert_eq!(zibewoka::move_once(16, &s, &i, &h, &l, 4, 11), step(3, 1, 1, 2));
     assert_eq!(zibewoka::moves(16, &s, &i, &h, &l, 4, 11, 0), step(11, 4, 3, 0));
@@ -685,7 +720,7 @@ fn known_keys() {
     assert_eq!(zibewoka::inverse(16, &s, &i, &h, &l, 9), Ok(zibewoka::Position { place: 7, interval: 3 }));
     let [mut s, mut i, mut h, mut l, mut w] = [0; 5].map(|_| vec![0; 9]);
     let short = zibewoka::balance(16, &listing.starts, &listing.images, 2, &mut s, &mut i, &mut h, &mut l, &mut w);
-    assert_eq!(short, Err(Refusal { number: 8, place: 10 }));
+    assert_eq!(short, Err(Refusal::ShortTable { table: Working, entries: 9, needed: 10 }));
 
     let light = list(12, &[0, 2, 4, 6], &[10, 8, 6, 0]);
     assert_eq!(tables_at(&light, 2).expect("legal")[0], light.starts);
@@ -695,8 +730,8 @@ fn known_keys() {
     assert_eq!(zibewoka::move_once(15, &s, &i, &h, &l, 4, 14), step(7, 3, 0, 4));
     assert_eq!(tables_at(&list(1, &[0], &[0]), 2).expect("legal")[0].len(), 1);
     assert_eq!(zibewoka::check(4, &[0, 2], &[2, 0]), Ok(()));
-    assert_eq!(zibewoka::check(4, &[0, 2], &[0, 1]), Err(Refusal { number: 6, place: 0 }));
-    assert_eq!(zibewoka::check(4, &[0, 2], &[0, 3]), Err(Refusal { number: 5, place: 1 }));
+    assert_eq!(zibewoka::check(4, &[0, 2], &[0, 1]), Err(Refusal::ImageOverlap { run: 0, other: 1, shared: 1 }));
+    assert_eq!(zibewoka::check(4, &[0, 2], &[0, 3]), Err(Refusal::ImageRange { run: 1, image: 3, end: 5, n: 4 }));
     assert_eq!(zibewoka::check(u32::MAX, &[0, u32::MAX - 1], &[1, 0]), Ok(()));
     let psi =
         list(45, &[0, 1, 5, 6, 12, 17, 19, 22, 25, 32, 34, 42, 43], &[11, 28, 2, 22, 32, 38, 42, 12, 15, 0, 3, 37, 40]);
@@ -725,49 +760,52 @@ fn falling() -> Tables {
 
 #[test]
 fn known_lengths() {
-    let refused = |number, place| Refusal { number, place };
+    let refused = |number, place| (number, place);
     let step = |place, interval, distance, count| Ok(Step { place, interval, distance, count });
 
-    let mut torn = listing();
-    torn.lengths[4] = 5;
-    let [s, i, h, l] = torn.columns();
-    assert_eq!([11, 99].map(|place| zibewoka::find(16, s, i, h, l, place)), [Err(refused(12, 4)); 2]);
-    assert_eq!([9, 99].map(|place| zibewoka::inverse(16, s, i, h, l, place)), [Err(refused(12, 4)); 2]);
-    assert_eq!([11, 99].map(|place| zibewoka::move_once(16, s, i, h, l, 4, place)), [Err(refused(12, 4)); 2]);
-    assert_eq!([0, 1].map(|m| zibewoka::moves(16, s, i, h, l, 4, 11, m)), [Err(refused(12, 4)); 2]);
-    assert_eq!([3, 4].map(|x| zibewoka::weight(16, s, i, h, l, x)), [Ok(1), Err(refused(12, 4))]);
-    assert_eq!(zibewoka::move_once(16, s, i, h, l, 3, 7), step(9, 4, 1, 1));
-    assert_eq!(zibewoka::move_once(16, s, i, h, l, 3, 8), Err(refused(11, 8)));
-    assert_eq!(zibewoka::move_once(16, s, i, h, l, 6, 8), Err(refused(10, 6)));
-    assert_eq!(zibewoka::moves(16, s, i, h, l, 5, 14, 2), step(8, 4, 0, 3));
-    assert_eq!(zibewoka::moves(16, s, i, h, l, 5, 14, 3), Err(refused(12, 4)));
+    let mut longer = listing();
+    longer.lengths[4] = 5;
+    let [s, i, h, l] = longer.columns();
+    assert_eq!([11, 99].map(|place| numbers(zibewoka::find(16, s, i, h, l, place))), [Err(refused(12, 4)); 2]);
+    assert_eq!([9, 99].map(|place| numbers(zibewoka::inverse(16, s, i, h, l, place))), [Err(refused(12, 4)); 2]);
+    assert_eq!([11, 99].map(|place| numbers(zibewoka::move_once(16, s, i, h, l, 4, place))), [Err(refused(12, 4)); 2]);
+    assert_eq!([0, 1].map(|m| numbers(zibewoka::moves(16, s, i, h, l, 4, 11, m))), [Err(refused(12, 4)); 2]);
+    assert_eq!([3, 4].map(|x| numbers(zibewoka::weight(16, s, i, h, l, x))), [Ok(1), Err(refused(12, 4))]);
+    let under =
+        [(0, 0, 4, 1), (12, 4, 0, 0)].map(|(number, place, first, count)| UnderAnswer { number, place, first, count });
+    assert_eq!([3, 4].map(|x| exports::starts_under(16, s, i, h, l, x)), under);
+    assert_eq!(numbers(zibewoka::move_once(16, s, i, h, l, 3, 7)), step(9, 4, 1, 1));
+    assert_eq!(numbers(zibewoka::move_once(16, s, i, h, l, 3, 8)), Err(refused(11, 8)));
+    assert_eq!(numbers(zibewoka::move_once(16, s, i, h, l, 6, 8)), Err(refused(10, 6)));
+    assert_eq!(numbers(zibewoka::moves(16, s, i, h, l, 5, 14, 2)), step(8, 4, 0, 3));
+    assert_eq!(numbers(zibewoka::moves(16, s, i, h, l, 5, 14, 3)), Err(refused(12, 4)));
 
-    let mut twice = torn.clone();
+    let mut twice = longer.clone();
     twice.lengths[1] = 0;
-    assert_eq!(zibewoka::find(16, s, i, h, &twice.lengths, 11), Err(refused(12, 1)));
-    assert_eq!(zibewoka::moves(16, s, i, h, &twice.lengths, 5, 14, 2), step(8, 4, 0, 3));
+    assert_eq!(numbers(zibewoka::find(16, s, i, h, &twice.lengths, 11)), Err(refused(12, 1)));
+    assert_eq!(numbers(zibewoka::moves(16, s, i, h, &twice.lengths, 5, 14, 2)), step(8, 4, 0, 3));
 
     let short = &l[..5];
-    assert_eq!(zibewoka::find(16, s, i, h, short, 11), Err(refused(9, 0)));
-    assert_eq!(zibewoka::inverse(16, s, i, h, short, 9), Err(refused(9, 0)));
-    assert_eq!(zibewoka::move_once(16, s, i, h, short, 3, 7), Err(refused(9, 0)));
-    assert_eq!(zibewoka::moves(16, s, i, h, short, 3, 7, 0), Err(refused(9, 0)));
-    assert_eq!(zibewoka::weight(16, s, i, h, short, 3), Err(refused(9, 0)));
-    assert_eq!(zibewoka::questions(16, s, i, h, short, &mut []), Err(refused(9, 0)));
+    assert_eq!(numbers(zibewoka::find(16, s, i, h, short, 11)), Err(refused(9, 0)));
+    assert_eq!(numbers(zibewoka::inverse(16, s, i, h, short, 9)), Err(refused(9, 0)));
+    assert_eq!(numbers(zibewoka::move_once(16, s, i, h, short, 3, 7)), Err(refused(9, 0)));
+    assert_eq!(numbers(zibewoka::moves(16, s, i, h, short, 3, 7, 0)), Err(refused(9, 0)));
+    assert_eq!(numbers(zibewoka::weight(16, s, i, h, short, 3)), Err(refused(9, 0)));
+    assert_eq!(numbers(zibewoka::questions(16, s, i, h, short, &mut [])), Err(refused(9, 0)));
 
     let falling = falling();
     let [s, i, h, l] = falling.columns();
-    assert_eq!(zibewoka::move_once(16, s, i, h, l, 1, 9), Err(refused(12, 1)));
-    assert_eq!(zibewoka::move_once(16, s, i, h, l, 2, 9), step(9, 2, 5, 3));
-    assert_eq!(zibewoka::find(16, s, i, h, l, 9), Err(refused(12, 1)));
+    assert_eq!(numbers(zibewoka::move_once(16, s, i, h, l, 1, 9)), Err(refused(12, 1)));
+    assert_eq!(numbers(zibewoka::move_once(16, s, i, h, l, 2, 9)), step(9, 2, 5, 3));
+    assert_eq!(numbers(zibewoka::find(16, s, i, h, l, 9)), Err(refused(12, 1)));
 }
 
 /// What questions at these places, on tables with n 16, come to. A refusal leaves the records as they were.
-fn answered(t: &Tables, places: &[u32]) -> Result<(u32, Vec<Question>), Refusal> {
+fn answered(t: &Tables, places: &[u32]) -> Outcome<(u32, Vec<Question>), u64> {
     let before: Vec<Question> = places.iter().map(|&place| question([place, 9, 9, 9, 9, 9])).collect();
     let mut records = before.clone();
     let [s, i, h, l] = t.columns();
-    match zibewoka::questions(16, s, i, h, l, &mut records) {
+    match numbers(zibewoka::questions(16, s, i, h, l, &mut records)) {
         Ok(count) => Ok((count, records)),
         Err(refusal) => {
             assert_eq!(records, before);
@@ -778,7 +816,7 @@ fn answered(t: &Tables, places: &[u32]) -> Result<(u32, Vec<Question>), Refusal>
 
 #[test]
 fn known_questions() {
-    let refused = |number, place| Err(Refusal { number, place });
+    let refused = |number, place| Err((number, place));
     let done = |count, records: &[second::Record]| Ok((count, records.iter().copied().map(question).collect()));
     let records =
         [[0, 0, 14, 5, 0, 2], [3, 1, 13, 5, 0, 1], [3, 1, 13, 5, 0, 1], [11, 4, 3, 1, 2, 1], [15, 5, 7, 3, 2, 1]];
@@ -796,10 +834,10 @@ fn known_questions() {
         done(2, &[[0, 0, 14, 5, 0, 2], [1, 0, 15, 5, 0, 3], [4, 2, 10, 4, 1, 2]])
     );
 
-    let mut torn = listing();
-    torn.lengths[4] = 5;
+    let mut longer = listing();
+    longer.lengths[4] = 5;
     for places in [&[0, 1][..], &[], &[3, 2, 99], &[3, 16, 20]] {
-        assert_eq!(answered(&torn, places), refused(12, 4));
+        assert_eq!(answered(&longer, places), refused(12, 4));
     }
     assert_eq!(answered(&falling(), &[0, 5, 9, 13]), refused(12, 1));
 }
@@ -890,16 +928,16 @@ fn every_small_list() {
 }
 
 /// What the next list comes to, with both tables of nines, of these counts.
-fn next(n: u32, starts: &[u32], images: &[u32], counts: [usize; 2]) -> (Result<u32, Refusal>, Vec<u32>, Vec<u32>) {
+fn next(n: u32, starts: &[u32], images: &[u32], counts: [usize; 2]) -> (Outcome<u32, u64>, Vec<u32>, Vec<u32>) {
     let [mut s, mut i] = counts.map(|count| vec![9; count]);
-    (zibewoka::next_list(n, starts, images, &mut s, &mut i), s, i)
+    (numbers(zibewoka::next_list(n, starts, images, &mut s, &mut i)), s, i)
 }
 
 #[test]
 fn known_next_lists() {
     let refused = |number, place, counts: [usize; 2]| {
         let [s, i] = counts.map(|count| vec![9; count]);
-        (Err(Refusal { number, place }), s, i)
+        (Err((number, place)), s, i)
     };
     assert_eq!(next(3, &[0], &[0], [3, 3]), (Ok(3), vec![0, 1, 2], vec![0, 2, 1]));
     assert_eq!(next(3, &[0, 1, 2], &[0, 2, 1], [3, 3]), (Ok(3), vec![0, 1, 2], vec![1, 0, 2]));

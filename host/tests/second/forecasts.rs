@@ -1,11 +1,12 @@
 //! How large a list will be: forecasts and the least degree beside balance itself, with every count of lent entries, and on
 //! the lists whose sizes are known.
 
-use crate::definition as second;
+use crate::definition::{self as second, Outcome};
 use crate::exports::Given;
 use crate::random::{damage, legal, list_of, List, Random};
+use crate::refusals::numbers;
 use std::collections::BTreeSet;
-use zibewoka::{Forecast, LeastDegree, Refusal};
+use zibewoka::{Forecast, LeastDegree, LentTable, Refusal};
 
 /// Degrees from 0 to 70 and large ones; half of them are low, so that there are cuts.
 fn degree(r: &mut Random) -> u32 {
@@ -98,7 +99,7 @@ fn forecast_and_balanced(r: &mut Random, list: &List, d: u32) -> Forecast {
     let k = size.intervals as usize;
     let [mut s, mut i, mut h, mut l] = [0; 4].map(|_| vec![0; k]);
     let fewer = zibewoka::balance(*n, starts, images, d, &mut s, &mut i, &mut h, &mut l[1..], &mut w);
-    assert_eq!(fewer, Err(Refusal { number: 8, place: k as u64 }));
+    assert_eq!(fewer, Err(Refusal::ShortTable { table: LentTable::Lengths, entries: k - 1, needed: size.intervals }));
     assert_eq!(zibewoka::balance(*n, starts, images, d, &mut s, &mut i, &mut h, &mut l, &mut w), Ok(size.intervals));
     let added = s.iter().filter(|start| starts.binary_search(start).is_err()).count();
     assert_eq!((added, starts.len() + added), (size.cuts as usize, k));
@@ -114,9 +115,7 @@ fn sizes(list: &List) -> Vec<u32> {
 /// The least degree whose K, one of these from degree 2 on, is at most `entries`.
 fn least_of(sizes: &[u32], entries: u32) -> Result<LeastDegree, Refusal> {
     let fitting = (2..).zip(sizes).find(|&(_, &intervals)| intervals <= entries);
-    fitting
-        .map(|(degree, &intervals)| LeastDegree { degree, intervals })
-        .ok_or(Refusal { number: 19, place: entries.into() })
+    fitting.map(|(degree, &intervals)| LeastDegree { degree, intervals }).ok_or(Refusal::NoDegreeFits { entries })
 }
 
 /// Forecasts at every degree beside balance, and the least degree beside these forecasts, also on lists that are too long to
@@ -171,27 +170,27 @@ fn zeros_and_nines(zeros: usize, nines: usize) -> Vec<u32> {
     [vec![0; zeros], vec![9; nines]].concat()
 }
 
-fn refused<T>(number: u32, place: u64) -> Result<T, Refusal> {
-    Err(Refusal { number, place })
+fn refused<T>(number: u32, place: u64) -> Outcome<T, u64> {
+    Err((number, place))
 }
 
 /// What a forecast comes to, with a working table of nines, and that table.
-fn forecast(list: &List, d: u32, working: usize) -> (Result<Forecast, Refusal>, Vec<u32>) {
+fn forecast(list: &List, d: u32, working: usize) -> (Outcome<Forecast, u64>, Vec<u32>) {
     let mut w = vec![9; working];
-    (zibewoka::forecast(list.n, &list.starts, &list.images, d, &mut w), w)
+    (numbers(zibewoka::forecast(list.n, &list.starts, &list.images, d, &mut w)), w)
 }
 
 /// The same of the least degree.
-fn least_degree(list: &List, entries: u32, working: usize) -> (Result<LeastDegree, Refusal>, Vec<u32>) {
+fn least_degree(list: &List, entries: u32, working: usize) -> (Outcome<LeastDegree, u64>, Vec<u32>) {
     let mut w = vec![9; working];
-    (zibewoka::least_degree(list.n, &list.starts, &list.images, entries, &mut w), w)
+    (numbers(zibewoka::least_degree(list.n, &list.starts, &list.images, entries, &mut w)), w)
 }
 
 /// What balance comes to, with all tables of nines, and these tables.
-fn balance(list: &List, d: u32, counts: [usize; 5]) -> (Result<u32, Refusal>, [Vec<u32>; 5]) {
+fn balance(list: &List, d: u32, counts: [usize; 5]) -> (Outcome<u32, u64>, [Vec<u32>; 5]) {
     let mut lent = counts.map(|count| vec![9; count]);
     let [s, i, h, l, w] = &mut lent;
-    (zibewoka::balance(list.n, &list.starts, &list.images, d, s, i, h, l, w), lent)
+    (numbers(zibewoka::balance(list.n, &list.starts, &list.images, d, s, i, h, l, w)), lent)
 }
 
 #[test]
@@ -298,7 +297,7 @@ fn the_least_degree_where_a_higher_one_gives_more_intervals() {
         assert!(size < next);
         for entries in [size - 1, size, next - 1, next] {
             let least = least_of(&sizes, entries);
-            assert_eq!(least_degree(list, entries, working).0, least);
+            assert_eq!(least_degree(list, entries, working).0, numbers(least));
             if entries == size {
                 assert_eq!(least, Ok(LeastDegree { degree: d as u32, intervals: size }));
             }

@@ -1,7 +1,7 @@
 //! The listing program on random files, sound and damaged.
 
 use crate::definition;
-use crate::random::{damage, legal, List, Random};
+use crate::random::{random_file, Random};
 use std::collections::BTreeSet;
 use std::io::Write;
 use std::path::Path;
@@ -20,33 +20,6 @@ fn printed(program: &Path, file: &[u8]) -> String {
     String::from_utf8(output.stdout).expect("a listing is text")
 }
 
-fn bytes(words: &[u32]) -> Vec<u8> {
-    words.iter().flat_map(|word| word.to_le_bytes()).collect()
-}
-
-/// The file of a list.
-fn file(list: &List, d: u32) -> Vec<u8> {
-    let k = list.starts.len() as u32;
-    let header = [list.n, k, d, 20, 20 + 4 * k];
-    bytes(&[&header[..], &list.starts, &list.images].concat())
-}
-
-/// Damages a file: a word, its length, or all of it.
-fn damage_file(r: &mut Random, file: &mut Vec<u8>) {
-    match r.below(5) {
-        0 => file.truncate(r.below(file.len() as u64 + 1) as usize),
-        1 => file.push(0),
-        2 => {
-            let count = r.below(60) as usize;
-            *file = bytes(&r.words(count));
-        }
-        _ => {
-            let at = 4 * if r.one_in(2) { r.below(5) } else { r.below(file.len() as u64 / 4) } as usize;
-            file[at..at + 4].copy_from_slice(&r.word().to_le_bytes());
-        }
-    }
-}
-
 #[test]
 fn listings_of_random_files() {
     let root = Path::new(env!("CARGO_MANIFEST_DIR")).parent().expect("host/ stands in the repository");
@@ -58,15 +31,7 @@ fn listings_of_random_files() {
     let mut begun = BTreeSet::new();
     for round in 0..3000 {
         let k = if round % 50 == 0 { r.from(900, 1030) } else { r.from(1, 40) } as usize;
-        let mut list = legal(r, k);
-        if r.one_in(4) {
-            damage(r, &mut list);
-        }
-        let d = if r.one_in(10) { r.word() } else { r.from(2, 9) as u32 };
-        let mut file = file(&list, d);
-        if r.one_in(3) {
-            damage_file(r, &mut file);
-        }
+        let file = random_file(r, k, 2);
         let wanted = definition::listing(&file);
         assert_eq!(printed(&program, &file), wanted);
         let refused = wanted.strip_prefix("refused ").and_then(|rest| rest.split(' ').next());

@@ -1,4 +1,4 @@
-//! Numbers and lists from a seed: the same in every run.
+//! Numbers, lists and files from a seed: the same in every run.
 
 /// A generator of 64-bit numbers (SplitMix64).
 pub struct Random(u64);
@@ -146,4 +146,45 @@ pub fn damage(r: &mut Random, list: &mut List) {
         6..=9 => list.starts[x] = damaged(r, list.starts[x], list.n),
         _ => list.images[x] = damaged(r, list.images[x], list.n),
     }
+}
+
+fn bytes(words: &[u32]) -> Vec<u8> {
+    words.iter().flat_map(|word| word.to_le_bytes()).collect()
+}
+
+/// The file of a list.
+pub fn file(list: &List, d: u32) -> Vec<u8> {
+    let k = list.starts.len() as u32;
+    let header = [list.n, k, d, 20, 20 + 4 * k];
+    bytes(&[&header[..], &list.starts, &list.images].concat())
+}
+
+/// Damages a file: a word, its length, or all of it.
+pub fn damage_file(r: &mut Random, file: &mut Vec<u8>) {
+    match r.below(5) {
+        0 => file.truncate(r.below(file.len() as u64 + 1) as usize),
+        1 => file.push(0),
+        2 => {
+            let count = r.below(60) as usize;
+            *file = bytes(&r.words(count));
+        }
+        _ => {
+            let at = 4 * if r.one_in(2) { r.below(5) } else { r.below(file.len() as u64 / 4) } as usize;
+            file[at..at + 4].copy_from_slice(&r.word().to_le_bytes());
+        }
+    }
+}
+
+/// A file of k runs; one in so many has a damaged list, or is damaged itself.
+pub fn random_file(r: &mut Random, k: usize, one_in: u64) -> Vec<u8> {
+    let mut list = legal(r, k);
+    if r.one_in(2 * one_in) {
+        damage(r, &mut list);
+    }
+    let d = if r.one_in(10 * one_in) { r.word() } else { r.from(2, 9) as u32 };
+    let mut file = file(&list, d);
+    if r.one_in(2 * one_in) {
+        damage_file(r, &mut file);
+    }
+    file
 }
