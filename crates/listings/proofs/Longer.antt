@@ -19,11 +19,7 @@ use Rattle.files.specs.Parts.{headingOf, bodyOf}
 use Rattle.files.specs.declared.Header.{Header}
 use Rattle.files.proofs.Reading.{word-at}
 use Rattle.files.proofs.Bodies.{file-is}
-use Rattle.listings.specs.Listing.{maxListed, listText, listingOf}
-
--- 20 + 8 × 1,024 bytes, and one more
-abbrev pub decidingBytes : ℕ
-decidingBytes = 8213
+use Rattle.listings.specs.Listing.{maxListed, listText, listingOf, decidingBytes, FirstBytesDecide}
 
 -- what is left of the header's tests: the byte count is wrong whatever it is
 longTests : ℕ → ℕ → ℕ → ℕ → List Test
@@ -92,11 +88,14 @@ module _ (bytes : List ℕ) (h : decidingBytes ≤ length bytes) where
       ≡ longTests (wordOf bytes 0) (wordOf bytes 1) (wordOf bytes 3) (wordOf bytes 4)
   first-tests = rw (first-word 0 (omega arith), first-word 1 (omega arith), first-word 3 (omega arith), first-word 4 (omega arith))
 
-  pub first-bytes-decide : listingOf bytes ≡ listingOf (take decidingBytes bytes)
-  first-bytes-decide =
+  decided : listingOf bytes ≡ listingOf (take decidingBytes bytes)
+  decided =
       let s = take decidingBytes bytes in
       long-listing bytes h
       ∙ long-text (wordOf bytes 0) (wordOf bytes 1) (wordOf bytes 3) (wordOf bytes 4) (runsOf bytes) (runsOf s) (headerOf bytes) (headerOf s) (λ g. bodyOf bytes) (λ g. bodyOf s)
       ∙ sym
       (long-listing s (omega (arith, length-take-le decidingBytes bytes h))
       ∙ ap (λ (ts : List Test). listText (runsOf s) (andThen (judge ts (headerOf s)) (λ g. bodyOf s))) first-tests)
+
+pub first-bytes-decide : FirstBytesDecide
+first-bytes-decide = decided

@@ -1,8 +1,8 @@
 -- The listing (document 01, "The file and the listing").
-use Prim.Native.Nat.{ℕ}
+use Prim.Native.Nat.{ℕ, _≤_}
 use mathlib.Core.Path.{_≡_}
 use mathlib.Core.List.{List, [], _∷_, _++_}
-use lib.ListN.{length, drop}
+use lib.ListN.{length, take, drop}
 use lib.Dec.{ltb}
 use lib.IntN.{ℤ}
 use Rattle.order.specs.Lists.{upTo}
@@ -51,3 +51,11 @@ listingOf bytes = listText (runsOf bytes) (fileOf maxListed bytes)
 pub record FileListed (bytes text text′ : List ℕ) (count : ℕ) : Type 0 where
   pub counts : count ≡ (ltb (length text) (length (listingOf bytes)) then 0 else length (listingOf bytes))
   pub text-at-exit : text′ ≡ (ltb (length text) (length (listingOf bytes)) then text else listingOf bytes ++ drop (length (listingOf bytes)) text)
+
+-- What is promised of a listing beside that: of a file that has more bytes than 1,024 runs take, which are 20 + 8 × 1,024, the first
+-- 8,213 decide. So a program need not read on. Proved in proofs/Longer.
+abbrev pub decidingBytes : ℕ
+decidingBytes = 8213
+
+abbrev pub FirstBytesDecide : Type 0
+FirstBytesDecide = (bytes : List ℕ) → decidingBytes ≤ length bytes → listingOf bytes ≡ listingOf (take decidingBytes bytes)
