@@ -1,5 +1,6 @@
--- A legal list as document 01 has it, and the disjoint interval sequence in the words of source document 002 and of
--- Nishimoto and Tabei. That the three agree is proved (proofs/Intervals, proofs/Sequences).
+-- A legal list as document 01 has it, and the three published forms that it names: the disjoint interval sequence in the words of
+-- source document 002 and in those of Nishimoto and Tabei, and the split permutation of source document 001. That all four agree is
+-- proved (proofs/Intervals, proofs/Sequences, and folds/proofs/Splitting).
 use Prim.Native.Nat.{ℕ, suc, _+_, _≤_, _<_}
 use mathlib.Core.Path.{_≡_}
 use mathlib.Core.Logic.{_⊎_, _≢_}
@@ -34,8 +35,10 @@ pub record DisjointIntervals (n : ℕ) (r : Runs) : Type 0 where
   pub disjoint : (x y : ℕ) → x < countOf r → y < countOf r → x ≢ y
       → (imageOf r x + getD lengths x 0 ≤ imageOf r y) ⊎ (imageOf r y + getD lengths y 0 ≤ imageOf r x)
 
--- Nishimoto and Tabei, counted from 0: starts rise strictly from 0 and lie below n, and there is an order of the k runs,
--- each once, in which the first image is 0 and each next image is the one before plus that run's length.
+-- Nishimoto and Tabei, in 'Optimal-Time Queries on BWT-Runs Compressed Indexes' as it appeared at ICALP 2021, counted from 0 here:
+-- starts rise strictly from 0 and lie below n, and there is an order of the k runs, each once, in which the first image is 0 and each
+-- next image is the one before plus that run's length. The text that is supplied as source document 000 has LF-intervals and not this
+-- definition.
 pub record IntervalSequence (n : ℕ) (r : Runs) : Type 0 where
   pub some : 0 < countOf r
   pub paired : length (r .images) ≡ countOf r
@@ -49,3 +52,16 @@ pub record IntervalSequence (n : ℕ) (r : Runs) : Type 0 where
   pub once : (i j : ℕ) → i < countOf r → j < countOf r → order i ≡ order j → i ≡ j
   pub from : imageOf r (order 0) ≡ 0
   pub next : (j : ℕ) → suc j < countOf r → imageOf r (order (suc j)) ≡ imageOf r (order j) + lengthOf n r (order j)
+
+-- Source 001: π is a permutation of the n places. The starts are some of them, among these 0 and every place whose value is not one
+-- above the value of the place before. The images are the values at the starts. That n is at least 1 and that the starts stand in
+-- rising order is document 01's.
+pub record SplitPermutation (n : ℕ) (π : ℕ → ℕ) (r : Runs) : Type 0 where
+  pub inside : (p : ℕ) → p < n → π p < n
+  pub one-to-one : (p q : ℕ) → p < n → q < n → π p ≡ π q → p ≡ q
+  pub rising : (x : ℕ) → suc x < countOf r → startOf r x < startOf r (suc x)
+  pub below : (x : ℕ) → x < countOf r → startOf r x < n
+  pub first : (x : ℕ) × (x < countOf r) × (startOf r x ≡ 0)
+  pub breaks : (p : ℕ) → suc p < n → π (suc p) ≢ suc (π p) → (x : ℕ) × (x < countOf r) × (startOf r x ≡ suc p)
+  pub paired : length (r .images) ≡ countOf r
+  pub values : (x : ℕ) → x < countOf r → imageOf r x ≡ π (startOf r x)
