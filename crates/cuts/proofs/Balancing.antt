@@ -142,6 +142,22 @@ cutting-done f d n r l = go (lt-or-le (pick d n r) (countOf r))
     go (inl h) = absurd (omega (arith, l (pick d n r) h, pick-lowest d n r h .weighs))
     go (inr h) = cutting-rest d n r f h
 
+-- once no interval is heavy, more fuel changes nothing
+cutting-more : (f g d n : ℕ) (r : Runs) → f ≤ g → Light d n (cutting f d n r) → cutting g d n r ≡ cutting f d n r
+unfolding cutting
+cutting-more zero g d n r h l = cutting-done g d n r l
+cutting-more (suc f) zero d n r h l = absurd (omega arith)
+cutting-more (suc f) (suc g) d n r h l =
+    go (lt-or-le (pick d n r) (countOf r)) (cutting-more f g d n (cutAt d n r (pick d n r)) (omega arith))
+  where
+    go : (pick d n r < countOf r) ⊎ (countOf r ≤ pick d n r)
+        → (Light d n (cutting f d n (cutAt d n r (pick d n r)))
+        → cutting g d n (cutAt d n r (pick d n r)) ≡ cutting f d n (cutAt d n r (pick d n r)))
+        → cutting (suc g) d n r ≡ cutting (suc f) d n r
+    go (inl m) same =
+        cutting-step d n r g m ∙ same (rw (← cutting-step d n r f m) l) ∙ sym (cutting-step d n r f m)
+    go (inr m) same = cutting-rest d n r (suc g) m ∙ sym (cutting-rest d n r (suc f) m)
+
 pub cutting-next : (f d n : ℕ) (r : Runs) (x : ℕ) → Legal n r → Lowest d n r x
     → cutting (suc f) d n r ≡ cutting f d n (cutAt d n r x)
 cutting-next f d n r x c l = let e = pick-is d n r c x l in cutting-step d n r f (rw e (l .known)) ∙ rw e
@@ -250,6 +266,10 @@ module _ (d n : ℕ) (many : 2 ≤ d) (r : Runs) (c : Legal n r) where
   pub balanced-light : (x : ℕ) → x < countOf (balanced d n r) → weight n (balanced d n r) x < 2 * d
   unfolding balanced
   balanced-light = cutting-light d n many (countOf r) r c (omega arith)
+
+  pub balanced-unlimited : (f : ℕ) → countOf r ≤ f → cutting f d n r ≡ balanced d n r
+  unfolding balanced
+  balanced-unlimited f h = cutting-more (countOf r) f d n r h balanced-light
 
   pub balanced-cuts : Cuts d n (countOf r) r (balanced d n r)
   unfolding balanced

@@ -5,12 +5,13 @@
 use Prim.Native.Nat.{ℕ, _≤_, _<_}
 use mathlib.Core.Path.{refl, sym, _∙_}
 use native.Mathlib.Omega.{arith}
-use Rattle.runs.specs.Runs.{Runs, countOf}
+use Rattle.runs.specs.Runs.{Runs, countOf, mapOf}
 use Rattle.runs.specs.Legal.{Legal}
 use Rattle.runs.specs.Check.{maxRuns}
 use Rattle.runs.proofs.Accepted.{accepted-legal}
 use Rattle.runs.proofs.Sequences.{accepted-sequence, sequence-accepted}
 use Rattle.runs.proofs.Intervals.{accepted-intervals, intervals-accepted}
+use Rattle.folds.proofs.Splitting.{accepted-split, split-accepted, split-map}
 use Rattle.tables.specs.Tables.{maxIntervals}
 use Rattle.order.proofs.Laws.{at-all}
 use Rattle.tables.proofs.Lengths.{right-rise, right-below, right-told}
@@ -40,6 +41,11 @@ pub demand2 : Demand2
 demand2 = record {
   accepted = λ n r. (accepted-sequence n r, λ h. sequence-accepted n r (h .0) (h .1));
   accepted-disjoint = λ n r. (accepted-intervals n r, λ h. intervals-accepted n r (h .0) (h .1));
+  accepted-split = λ n r. (
+    λ e. let s = accepted-split n r e in (s .0, (mapOf n r, s .1)),
+    λ h. split-accepted n (h .1 .0) r (h .0) (h .1 .1),
+  );
+  split-function = split-map;
   accepted-file = file-accepted;
   own-tables = λ n r a. let l = accepted-legal n r a in through n r r (l .0) (l .0) (omega (arith, l .1)) (λ p h. refl);
   balanced-tables = λ n r d a many few. let l = accepted-legal n r a in through-balanced n r (l .0) (l .1) d many;

@@ -25,15 +25,15 @@ use Rattle.cuts.specs.Balance.{balanced}
 use Rattle.balance.proofs.Heads.{answer-is, head-is}
 use Rattle.balance.specs.Lent.{Room}
 use Rattle.balance.proofs.Outcomes.{balance-done, room-in-bound}
-use Rattle.cuts.proofs.Balancing.{balanced-legal, balanced-map, balanced-light, balanced-count}
-use Rattle.demands.specs.Calls.{Call, total, countIn, Bounded}
+use Rattle.cuts.proofs.Balancing.{balanced-legal, balanced-map, balanced-light, balanced-unlimited, balanced-count}
+use Rattle.demands.specs.Calls.{Call, total, countIn, allMoves, allCounts, Bounded}
 use Rattle.walks.specs.Plain.{maxCount, plainMove, plainMoves}
 use Rattle.walks.proofs.LegalCounts.{count-most}
 use Rattle.demands.specs.PlainWalk.{walkCounts, plainTrail}
-use Rattle.demands.specs.Served.{served, servedTrail}
+use Rattle.demands.specs.Served.{served, callOf, replyOf, servedTrail}
 use Rattle.demands.specs.Demands.{Through, Serves, BalancesFor, Demand3}
 use Rattle.demands.proofs.Demand2.{balanced-few, through-balanced}
-use Rattle.demands.proofs.Serving.{same-replies}
+use Rattle.demands.proofs.Serving.{same-replies, calling-served}
 use Rattle.demands.proofs.Counting.{counts-length, counts-sum, counts-most, bounded-total, records-total, all-most}
 use Rattle.demands.proofs.Marking.{fresh-stands, fresh-trail, trail-length, trail-bounds, end-bounds, advance-bounds, advancing-served, trail-last}
 
@@ -95,17 +95,22 @@ module _ (n : ℕ) (r : Runs) (d : ℕ) (c : Legal n r) (k : countOf r ≤ maxRu
       let replied : (p : ℕ) → p < n → (cs : List Call)
       → map countIn (served n (tablesOf n t) p (runAt n t p) cs) ≡ map total (walkCounts n r t p cs) =
       λ p h cs. ap (map countIn) (replies cs p h) ∙ counts-sum n r t cs p in
+      let all-total : (p : ℕ) → p < n → (cs : List Call) → allCounts (served n (tablesOf n t) p (runAt n t p) cs) ≤ allMoves cs * b =
+      λ p h cs. rw (replied p h cs, ← counts-length n r t cs p) (all-most b (walkCounts n r t p cs) (each p h cs)) in
       let trails : (p g : ℕ) → p < n → (m : ℕ) → All (Bounded b) (servedTrail n (tablesOf n t) m (fresh p (runAt n t p) g)) =
       λ p g h m. trail-bounds n b r t (tablesOf n t) (walks .move) (walks .inside) most small m _ (fresh-stands n b r t p g h) in
       record {
         filled = refl;
         same-permutation = balanced-map d n many r c;
+        light = balanced-light d n many r c;
+        unlimited = balanced-unlimited d n many r c;
+        same-calls = λ p h ms a. calling-served n (tablesOf n t) ms p (runAt n t p) a ∙ replies _ p h;
+        call-total = λ p h ms a. rw (calling-served n (tablesOf n t) ms p (runAt n t p) a) (all-total p h (map callOf ms));
         same-replies = λ p h cs. replies cs p h;
         move-counts = λ p h cs. counts-length n r t cs p;
         reply-counts = replied;
         each-move = each;
-        all-moves = λ p h cs.
-            rw (replied p h cs, ← counts-length n r t cs p) (all-most b (walkCounts n r t p cs) (each p h cs));
+        all-moves = all-total;
         same-trail = λ p g h m. same-fresh m p g h;
         trail-bounds = trails;
         trail-total = λ p g h m.

@@ -1,20 +1,22 @@
 -- A whole list of calls is served as the plain walk answers it, if each single call is (the section's hypotheses): by
 -- induction over the calls, since each leaves the place and the interval that has it.
 use Prim.Native.Nat.{ℕ, _≤_, _<_}
-use mathlib.Core.Path.{_≡_, refl, ap}
+use mathlib.Core.Path.{_≡_, refl, ap, _∙_}
 use mathlib.Core.Bool.{Bool, true, false}
-use mathlib.Core.List.{List, [], _∷_}
+use mathlib.Core.List.{List, [], _∷_, map}
 use lib.Dec.{ltb}
 use borrow.Author.Tests.{ltb-true, ltb-false, lt-leb, le-leb}
-use Rattle.outcomes.specs.Outcome.{done, refused, judge}
+use Rattle.outcomes.specs.Outcome.{Outcome, done, refused, judge}
 use Rattle.runs.specs.Runs.{Runs, runAt, mapOf}
 use Rattle.tables.specs.Tables.{Tables}
-use Rattle.walks.specs.Move.{findOf, moveOf, movesOf}
+use Rattle.walks.specs.Move.{foundSays, movedSays, findOf, moveOf, movesOf}
+use Rattle.walks.specs.declared.Moved.{Moved}
+use Rattle.walks.specs.declared.Step.{Step}
 use Rattle.demands.specs.Calls.{Call, find, move, moves, Reply, found, moved}
 use Rattle.walks.specs.Plain.{plainMove, plainMoves}
 use Rattle.walks.proofs.PlainMoves.{moves-interval, moves-below}
 use Rattle.demands.specs.PlainWalk.{plainFind, plainWalk}
-use Rattle.demands.specs.Served.{served}
+use Rattle.demands.specs.Served.{served, placeAfter, intervalAfter, placeFound, intervalFound, Made, findMade, moveMade, movesMade, callOf, replyOf, Calling}
 
 pub find-below : (n : ℕ) (r t : Runs) (i : ℕ) → i < n → plainFind n r t i ≡ done (runAt n t i)
 unfolding plainFind judge
@@ -54,3 +56,23 @@ module _ (n : ℕ) (r t : Runs) (τ : Tables)
       rw (moves-to m p h)
       (ap (λ (rs : List Reply). moved (done (plainMoves n r t m p)) ∷ rs)
       (rw (moves-interval n r t m p) (same-replies cs (plainMoves n r t m p .place) (moves-below n r t below m p h))))
+
+-- a move, or a repeated one, with the calls after it
+moved-next : (n : ℕ) (t : Tables) (p x : ℕ) (a : Moved) (ms : List Made)
+    → map replyOf ms ≡ served n t (placeAfter (movedSays a) p) (intervalAfter (movedSays a) x) (map callOf ms)
+    → {o : Outcome Step} → movedSays a ≡ o
+    → moved (movedSays a) ∷ map replyOf ms ≡ moved o ∷ served n t (placeAfter o p) (intervalAfter o x) (map callOf ms)
+moved-next n t p x a ms rest e =
+    ap (λ (l : List Reply). moved (movedSays a) ∷ l) rest
+    ∙ ap (λ (o : Outcome Step). moved o ∷ served n t (placeAfter o p) (intervalAfter o x) (map callOf ms)) e
+
+-- calls that meet their contracts are the calls served
+pub calling-served : (n : ℕ) (t : Tables) (ms : List Made) (p x : ℕ) → Calling n t p x ms
+    → map replyOf ms ≡ served n t p x (map callOf ms)
+unfolding served
+calling-served n t [] p x c = refl
+calling-served n t (findMade i a ∷ ms) p x c =
+    ap (λ (l : List Reply). found (foundSays a) ∷ l) (calling-served n t ms _ _ (c .1))
+    ∙ ap (λ (o : Outcome ℕ). found o ∷ served n t (placeFound o i p) (intervalFound o x) (map callOf ms)) (c .0)
+calling-served n t (moveMade a ∷ ms) p x c = moved-next n t p x a ms (calling-served n t ms _ _ (c .1)) (c .0)
+calling-served n t (movesMade m a ∷ ms) p x c = moved-next n t p x a ms (calling-served n t ms _ _ (c .1)) (c .0)

@@ -15,6 +15,7 @@ use Rattle.preimages.specs.Inverse.{inverseOf}
 use Rattle.walks.specs.declared.Step.{Step}
 use Rattle.walks.proofs.LegalTables.{legal-find, legal-move, legal-moves}
 use Rattle.preimages.proofs.LegalPreimages.{legal-inverse}
+use Rattle.weights.proofs.LegalWeights.{legal-weight, legal-under}
 use Rattle.questions.proofs.LegalQuestions.{legal-answers, legal-records}
 use Rattle.bookmarks.specs.declared.Bookmark.{Bookmark}
 use Rattle.bookmarks.specs.Bookmark.{fresh, withDistance, Marking, marking, markingOf, markingsOf}
@@ -101,6 +102,8 @@ through n r t l c few same =
       bookmark = mark-goes n r t (tablesOf n t) move-to;
       bookmark-moves = marks-are n r t move-to (power-below n r l);
       inverse = λ p h. ap (inverseOf n (tablesOf n t)) (sym (same p h)) ∙ legal-inverse n t c few p h;
+      weighs = legal-weight n t c few;
+      handed = legal-under n t c few;
       questions = legal-answers n t c few;
       records = legal-records n t c few r same;
       onto = map-onto n r l;

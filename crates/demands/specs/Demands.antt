@@ -1,6 +1,7 @@
 -- The three demands, in our words, and what is promised of the forecast beside them. Their proofs are in proofs/, apart from what
 -- they say. That every call stays in bounds and ends is what the checker proves of each function; here stands what its contract's
--- definitions come to. What is promised of small lists beside demand 1 stands in permutations/specs/SmallLists.
+-- definitions come to. What is promised of legal lists beside them stands in lists/specs/LegalLists, of small lists in
+-- permutations/specs/SmallLists, and of long files in listings/specs/Listing.
 use Prim.Native.Nat.{ℕ, suc, _+_, _*_, _^_, _≤_, _<_}
 use mathlib.Core.Path.{_≡_}
 use mathlib.Core.Bool.{true, false}
@@ -11,7 +12,8 @@ use Rattle.order.specs.Lists.{All, Strict}
 use Rattle.outcomes.specs.Outcome.{done, refused, anyShort, Long, over}
 use Rattle.outcomes.specs.Refusal.{checkedSays}
 use Rattle.runs.specs.Runs.{Runs, countOf, runAt, mapOf, powerOf, carryBack}
-use Rattle.runs.specs.Legal.{DisjointIntervals, IntervalSequence}
+use Rattle.runs.specs.Legal.{DisjointIntervals, IntervalSequence, SplitPermutation}
+use Rattle.runs.specs.Weight.{under, weight}
 use Rattle.runs.specs.Check.{maxRuns, checkTests, checkOf, writeTests}
 use Rattle.lists.specs.Inverse.{inverseRuns, inverseListOf, InverseListed}
 use Rattle.outcomes.specs.declared.Checked.{Checked}
@@ -33,7 +35,7 @@ use Rattle.questions.specs.Agree.{Agrees, OnePass}
 use Rattle.questions.specs.Plain.{plainAnswers, plainQuestion}
 use Rattle.questions.specs.declared.Question.{Question}
 use Rattle.questions.specs.declared.Answered.{Answered}
-use Rattle.cuts.specs.Balance.{balanced, boundOf, sizeAt}
+use Rattle.cuts.specs.Balance.{cutting, balanced, boundOf, sizeAt}
 use Rattle.plans.specs.Working.{workingSize, planTests, plannedOf}
 use Rattle.balance.specs.Lent.{Lent, lentColumns, Room, firstOf, balancedSays, balanceTests, balanceOf, Balances}
 use Rattle.balance.specs.declared.Balanced.{Balanced}
@@ -51,7 +53,7 @@ use Rattle.demands.specs.Judged.{Judged}
 use Rattle.demands.specs.Calls.{Call, total, movesIn, allMoves, countOfMove, countIn, allCounts, Bounded}
 use Rattle.walks.specs.Plain.{maxCount, plainMove, plainMoves}
 use Rattle.demands.specs.PlainWalk.{plainWalk, walkCounts, plainTrail, standing}
-use Rattle.demands.specs.Served.{served, servedTrail, Advancing}
+use Rattle.demands.specs.Served.{served, Made, callOf, replyOf, Calling, servedTrail, Advancing}
 
 -- DEMAND 1. Whatever numbers stand in a list, a file, tables, a bookmark or questions, a call does its work or gives the
 -- number of the first condition that applies, in an order that is fixed; and a refused call leaves all that was lent as it
@@ -173,6 +175,9 @@ pub record Through (n : ℕ) (r t : Runs) : Type 0 where
       (standing n r t (powerOf n r (suc m) p) (suc m) (plainMoves n r t (suc m) p .count))
   pub inverse : (p : ℕ) → p < n
       → inverseOf n (tablesOf n t) (mapOf n r p) ≡ done (record { place = p; interval = runAt n t p })
+  -- the size that weight gives is the weight of t's interval, and the starts handed back are those under its image
+  pub weighs : (x : ℕ) → x < countOf t → weightOf n (tablesOf n t) x ≡ done (weight n t x)
+  pub handed : (x : ℕ) → x < countOf t → startsUnderOf n (tablesOf n t) x ≡ under n t x
   -- questions together: the answer, and the records left, filled in by the function of r and the starts of t; the only refusals
   -- are those of places that fall or are not below n
   pub questions : (ps : List ℕ) → answersOf n (tablesOf n t) ps ≡ plainAnswers n t ps
@@ -188,6 +193,10 @@ pub record Demand2 : Type 0 where
   pub accepted : (n : ℕ) (r : Runs) → (checkOf n r ≡ done tt) ↔ ((countOf r ≤ maxRuns) × IntervalSequence n r)
   -- the same in the words of source document 002
   pub accepted-disjoint : (n : ℕ) (r : Runs) → (checkOf n r ≡ done tt) ↔ ((countOf r ≤ maxRuns) × DisjointIntervals n r)
+  -- and in those of source document 001: the list splits a permutation, which is then its function
+  pub accepted-split : (n : ℕ) (r : Runs)
+      → (checkOf n r ≡ done tt) ↔ ((countOf r ≤ maxRuns) × ((π : ℕ → ℕ) × SplitPermutation n π r))
+  pub split-function : (n : ℕ) (π : ℕ → ℕ) (r : Runs) → SplitPermutation n π r → (p : ℕ) → p < n → mapOf n r p ≡ π p
   -- a file is accepted if and only if its header, its list and its degree are right; its header is then given
   pub accepted-file : (bytes : List ℕ) (h : Header) → (fileOf maxRuns bytes ≡ done h) ↔ ((h ≡ headerOf bytes) × RightFile bytes)
   pub own-tables : (n : ℕ) (r : Runs) → checkOf n r ≡ done tt → Through n r r
@@ -270,7 +279,17 @@ pub record Serves (n : ℕ) (r t : Runs) (d : ℕ) (τ : Tables) : Type 0 where
   -- they are the tables of t, so that all of demand 2 holds through them, and t has the permutation of r
   pub filled : τ ≡ tablesOf n t
   pub same-permutation : (p : ℕ) → p < n → mapOf n (τ .links .list) p ≡ mapOf n r p
-  -- one claim about the whole list of calls
+  -- "While one is heavy": at the end none is, which is the first bound of theorem 1 in source document 001. No limit on the number of
+  -- cuts has ended them: with any higher one the list is the same.
+  pub light : (x : ℕ) → x < countOf t → weight n t x < 2 * d
+  pub unlimited : (cuts : ℕ) → countOf r ≤ cuts → cutting cuts d n r ≡ t
+  -- One claim about the whole list of calls, each of which meets its contract: the answers are the plain walk's. Together they count at
+  -- most 2d for each move.
+  pub same-calls : (p : ℕ) → p < n → (ms : List Made) → Calling n τ p (runAt n t p) ms
+      → map replyOf ms ≡ plainWalk n r t p (map callOf ms)
+  pub call-total : (p : ℕ) → p < n → (ms : List Made) → Calling n τ p (runAt n t p) ms
+      → allCounts (map replyOf ms) ≤ allMoves (map callOf ms) * maxCount d
+  -- the same claim over the definitions that these contracts cite
   pub same-replies : (p : ℕ) → p < n → (cs : List Call) → served n τ p (runAt n t p) cs ≡ plainWalk n r t p cs
   -- call by call: one count for each single move, those inside a repeated move too; their sum is what the reply counts
   pub move-counts : (p : ℕ) → p < n → (cs : List Call) → map length (walkCounts n r t p cs) ≡ map movesIn cs

@@ -1,9 +1,12 @@
 -- The same calls served by tables, each from where the one before left off.
 use Prim.Native.Nat.{ℕ, zero, suc}
 use mathlib.Core.List.{List, [], _∷_}
+use mathlib.Core.Path.{_≡_}
 use Rattle.outcomes.specs.Outcome.{Outcome, done, refused}
 use Rattle.tables.specs.Tables.{Tables}
-use Rattle.walks.specs.Move.{findOf, moveOf, movesOf}
+use Rattle.walks.specs.Move.{foundSays, movedSays, findOf, moveOf, movesOf}
+use Rattle.walks.specs.declared.Found.{Found}
+use Rattle.walks.specs.declared.Moved.{Moved}
 use Rattle.bookmarks.specs.Bookmark.{Advances, Marking, markingOf}
 use Rattle.walks.specs.declared.Step.{Step}
 use Rattle.bookmarks.specs.declared.Bookmark.{Bookmark}
@@ -28,6 +31,23 @@ abbrev pub intervalFound : Outcome ℕ → ℕ → ℕ
 intervalFound (done y) x = y
 intervalFound (refused k q) x = x
 
+-- A call with the answer that it gave.
+pub data Made : Type 0 where
+  findMade : ℕ → Found → Made
+  moveMade : Moved → Made
+  movesMade : ℕ → Moved → Made
+
+abbrev pub callOf : Made → Call
+callOf (findMade i a) = find i
+callOf (moveMade a) = move
+callOf (movesMade m a) = moves m
+
+-- the answer in the paper's numbers
+abbrev pub replyOf : Made → Reply
+replyOf (findMade i a) = found (foundSays a)
+replyOf (moveMade a) = moved (movedSays a)
+replyOf (movesMade m a) = moved (movedSays a)
+
 module _ (n : ℕ) (t : Tables) where
   unfoldable pub served : ℕ → ℕ → List Call → List Reply
   served p x [] = []
@@ -37,6 +57,17 @@ module _ (n : ℕ) (t : Tables) where
       let a = moveOf n t x p in moved a ∷ served (placeAfter a p) (intervalAfter a x) cs
   served p x (moves m ∷ cs) =
       let a = movesOf n t m x p in moved a ∷ served (placeAfter a p) (intervalAfter a x) cs
+
+  -- Calls of `find`, `move_query` and `repeated_moves`: each meets its contract, at the place and the interval that the one before
+  -- left. Nobody writes the tables meanwhile.
+  abbrev pub Calling : ℕ → ℕ → List Made → Type 0
+  Calling p x [] = Unit {0}
+  Calling p x (findMade i a ∷ ms) =
+      (foundSays a ≡ findOf n t i) × Calling (placeFound (foundSays a) i p) (intervalFound (foundSays a) x) ms
+  Calling p x (moveMade a ∷ ms) =
+      (movedSays a ≡ moveOf n t x p) × Calling (placeAfter (movedSays a) p) (intervalAfter (movedSays a) x) ms
+  Calling p x (movesMade m a ∷ ms) =
+      (movedSays a ≡ movesOf n t m x p) × Calling (placeAfter (movedSays a) p) (intervalAfter (movedSays a) x) ms
 
   -- the moves of a bookmark stand in a list of their own: k of them
   unfoldable pub servedTrail : ℕ → Bookmark → List Marking
