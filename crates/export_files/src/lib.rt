@@ -1,9 +1,7 @@
 // The check of a file and its listing as C functions on bytes, for a host program in Rust or C: thin above the proved operations.
+// docs/BOUNDARY.md says what a caller owes and how an answer is read.
 //
-// A slice passes as pointer and length. A caller in C owes a pointer that is not null, also where the length is 0, and slices
-// to be written that overlap nothing else. The answer of the check is a struct by value: `number` 0 means done; else it is the
-// paper's number, `place` is the place given with it, and the other fields are 0. specs/Answers.antt says which answer each
-// outcome is. The listing answers how many bytes it wrote, and a refusal is its text.
+// The listing answers no struct, but how many bytes it wrote; a refusal is its text.
 mod answers;
 
 ghost use mathlib.Core.Path.{_≡_};

@@ -1,8 +1,5 @@
 // The next list as a C function on numbers and slices, for a host program in Rust or C: thin above the proved operation.
-//
-// A slice passes as pointer and length. A caller in C owes a pointer that is not null, also where the length is 0, and slices
-// to be written that overlap nothing else. The answer is a struct by value: `number` 0 means done; else it is the paper's
-// number, `place` is the place given with it, and `runs` is 0. specs/Answers.antt says which answer each outcome is.
+// docs/BOUNDARY.md says what a caller owes and how an answer is read.
 mod answers;
 
 ghost use Rattle.runs.specs.Runs.{runs};

@@ -1,10 +1,7 @@
 // Questions together as a C function on numbers and slices, for a host program in Rust or C: thin above the proved
-// operation.
+// operation. docs/BOUNDARY.md says what a caller owes and how an answer is read.
 //
-// A slice passes as pointer and length. So do the records, which are filled in where they lie. A caller in C owes a pointer
-// that is not null, also where the length is 0, and slices to be written that overlap nothing else. The answer is a struct by
-// value: `number` 0 means done; else it is the paper's number, `place` is the place, the interval or the index given with it,
-// and `count` is 0. specs/Answers.antt says which answer each outcome is.
+// The records are a slice too, and are filled in where they lie. A refusal's `place` is a place, an interval or a record's index.
 mod answers;
 
 use questions::Question;

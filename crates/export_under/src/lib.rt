@@ -1,10 +1,7 @@
 // The starts under an image as a C function on numbers and slices, for a host program in Rust or C: thin above the proved
-// operation.
+// operation. docs/BOUNDARY.md says what a caller owes and how an answer is read.
 //
-// A slice passes as pointer and length, and a part of one, which has no C form, as an index and a count. A caller in C owes a
-// pointer that is not null, also where the length is 0, and slices to be written that overlap nothing else. The answer is a
-// struct by value: `number` 0 means done; else it is the paper's number, `place` is the place given with it, and the other
-// fields are 0. specs/Answers.antt says which answer each outcome is. The export has an archive of its own so that
+// A part of a slice has no C form, so it passes as an index and a count. The export has an archive of its own so that
 // `weights::weight`, which it calls, has one caller here and one in that of the walks: with two the compiler makes it a
 // function, and a weight takes longer.
 mod answers;

@@ -1,5 +1,6 @@
 // The calls that are lent tables or a text, of at most 256 entries.
 use super::answers;
+use order::entry_or;
 use rows::out;
 
 // Prints two lent tables.
@@ -30,7 +31,7 @@ fn next_into(n: u32, starts: &[u32], images: &[u32], to_starts: &mut [u32], to_i
 
 // inverse-list or next-list n, and the sizes of the two lent tables
 pub(crate) fn write_list(numbers: &[u32], starts: &[u32], images: &[u32], is_next: bool) {
-    let n = rows::number(numbers, 0);
+    let n = entry_or(numbers, 0, 0);
     let size = rows::size(numbers, 1);
     let size_2 = rows::size(numbers, 2);
     let mut to_starts = [7u32; 256];
@@ -85,8 +86,8 @@ fn balance_into(
 
 // balance n d, and the sizes of the four lent tables and of the working table
 pub(crate) fn balance(numbers: &[u32], starts: &[u32], images: &[u32]) {
-    let n = rows::number(numbers, 0);
-    let d = rows::number(numbers, 1);
+    let n = entry_or(numbers, 0, 0);
+    let d = entry_or(numbers, 1, 0);
     let size = rows::size(numbers, 2);
     let size_2 = rows::size(numbers, 3);
     let size_3 = rows::size(numbers, 4);
@@ -124,8 +125,8 @@ fn degree_into(n: u32, starts: &[u32], images: &[u32], entries: u32, working: &m
 
 // forecast n d or least-degree n, how many entries; and the size of the working table
 pub(crate) fn size_up(numbers: &[u32], starts: &[u32], images: &[u32], is_search: bool) {
-    let n = rows::number(numbers, 0);
-    let number = rows::number(numbers, 1);
+    let n = entry_or(numbers, 0, 0);
+    let number = entry_or(numbers, 1, 0);
     let size = rows::size(numbers, 2);
     let mut working = [7u32; 256];
     if is_search {

@@ -13,6 +13,7 @@
 mod answers;
 mod lent;
 
+use order::entry_or;
 use rows::out;
 ghost use Prim.Native.Nat.{_≤_};
 ghost use lib.ListN.{length};
@@ -21,7 +22,7 @@ ghost use lib.ListN.{length};
 // or empty, and is not looked at.
 fn call(code: usize, numbers: &[u32], a: &[u32], b: &[u32]) {
     match code {
-        12 => answers::checked(lists::check(rows::number(numbers, 0), a, b)),
+        12 => answers::checked(lists::check(entry_or(numbers, 0, 0), a, b)),
         132 => lent::write_list(numbers, a, b, false),
         272 => lent::balance(numbers, a, b),
         321 => lent::file(numbers, a),

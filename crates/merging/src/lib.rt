@@ -1,4 +1,6 @@
 // A list's starts and the cuts made in it, as one rising sequence: marks along it.
+//
+// Both public functions have a `requires` and are for our own crates: starts and cuts rise, and the mark is one of theirs.
 use order::entry_or;
 ghost use mathlib.Core.Path.{_≡_};
 ghost use Prim.Native.Nat.{_+_, _<_};

@@ -1,5 +1,5 @@
 // Rows of a table of calls, for programs that run the keys, the answers that are known: a key is a row in the program's
-// file `stdin`, and its lines in `stdout`.
+// file `stdin`, and its lines in `stdout`. This crate is part of the tests, and not of the library.
 //
 // A row is a word, its numbers, and its slices, each behind a colon, with a space between any two of these:
 //
@@ -15,6 +15,7 @@ pub mod out;
 mod words;
 
 pub use fields::ROOM;
+use order::entry_or;
 pub use words::bytes_of;
 ghost use Prim.Native.Nat.{_≤_};
 ghost use lib.ListN.{length};
@@ -109,17 +110,9 @@ pub fn code_of(names: &[u8], line: &[u8], row: Row) -> usize {
     100 * at_most(index_of(names, &line[0..end]), 99) + has(row)
 }
 
-// Number i, or 0 where there are fewer.
-pub fn number(numbers: &[u32], i: usize) -> u32 {
-    if i < numbers.len() {
-        return numbers[i];
-    }
-    0
-}
-
-// Number i as the size of what is lent, of which the program has 256.
+// Number i, or 0 where there are fewer, as the size of what is lent, of which the program has 256.
 pub fn size(numbers: &[u32], i: usize) -> usize
     ensures { λ r. ⌜ r ≤ 256 ⌝ }
 {
-    at_most(number(numbers, i) as usize, 256)
+    at_most(entry_or(numbers, i, 0) as usize, 256)
 }

@@ -1,7 +1,7 @@
 // Lines of text on a page that is lent: fields of decimal numbers, the byte after each, and the line of a refusal.
 //
 // Each function asks that there is room for what it writes, writes that from `at` on, and answers where to go on
-// (specs/Page). specs/Text says what the text is.
+// (specs/Page). So they are for our own crates, which know how long a text can be. specs/Text says what the text is.
 mod numbers;
 
 use numbers::decimal;

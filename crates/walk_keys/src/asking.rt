@@ -1,4 +1,5 @@
 // Questions together, as a row asks them: about at most eight places.
+use order::entry_or;
 use questions::Answered;
 use questions::Question;
 use rows::out;
@@ -7,7 +8,7 @@ ghost use Prim.Native.Nat.{_≤_};
 // A record that asks about the i-th place, or about 0 where there are fewer, with sevens in the fields to be filled in.
 fn ask(places: &[u32], i: usize) -> Question {
     Question {
-        place: rows::number(places, i),
+        place: entry_or(places, i, 0),
         interval: 7,
         to_place: 7,
         to_interval: 7,

@@ -19,6 +19,7 @@ mod answers;
 mod asking;
 
 use bookmarks::Bookmark;
+use order::entry_or;
 use rows::out;
 ghost use Prim.Native.Nat.{_≤_};
 ghost use lib.ListN.{length};
@@ -26,9 +27,9 @@ ghost use lib.ListN.{length};
 // A bookmark whose place, interval and distance stand behind n.
 fn bookmark_at(numbers: &[u32], moves: u32, count: u64) -> Bookmark {
     Bookmark {
-        place: rows::number(numbers, 1),
-        interval: rows::number(numbers, 2),
-        distance: rows::number(numbers, 3),
+        place: entry_or(numbers, 1, 0),
+        interval: entry_or(numbers, 2, 0),
+        distance: entry_or(numbers, 3, 0),
         moves,
         count,
     }
@@ -44,9 +45,9 @@ fn advance(
     holders: &[u32],
     lengths: &[u32],
 ) {
-    let high = rows::number(numbers, 5) as u64;
-    let low = rows::number(numbers, 6) as u64;
-    let before = bookmark_at(numbers, rows::number(numbers, 4), high * 4294967296 + low);
+    let high = entry_or(numbers, 5, 0) as u64;
+    let low = entry_or(numbers, 6, 0) as u64;
+    let before = bookmark_at(numbers, entry_or(numbers, 4, 0), high * 4294967296 + low);
     answers::marked(bookmarks::advanced(n, starts, images, holders, lengths, before));
 }
 
@@ -60,17 +61,17 @@ fn advance_often(
     lengths: &[u32],
 ) {
     let fresh = bookmark_at(numbers, 0, 0);
-    let m = rows::number(numbers, 4);
+    let m = entry_or(numbers, 4, 0);
     answers::marked(bookmarks::bookmark_moves(n, starts, images, holders, lengths, fresh, m));
 }
 
 // Runs what is called: a, b, c and d are starts, images, holders and lengths, and e the places of questions. A number or a slice
 // that the row lacks is 0 or empty, and is not looked at.
 fn call(code: usize, numbers: &[u32], a: &[u32], b: &[u32], c: &[u32], d: &[u32], e: &[u32]) {
-    let n = rows::number(numbers, 0);
-    let p = rows::number(numbers, 1);
-    let q = rows::number(numbers, 2);
-    let r = rows::number(numbers, 3);
+    let n = entry_or(numbers, 0, 0);
+    let p = entry_or(numbers, 1, 0);
+    let q = entry_or(numbers, 2, 0);
+    let r = entry_or(numbers, 3, 0);
     match code {
         24 => answers::found(walks::find(n, a, b, c, d, p)),
         134 => answers::moved(walks::move_query(n, a, b, c, d, p, q)),
