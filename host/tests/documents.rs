@@ -8,10 +8,14 @@
 //! - A word stands in a source outside comments and imports, or is the name of a file or a folder, with its ending or without it.
 //! - The column `where` gives files with commas between them, from the repository's root or from crates/ on, with their endings or
 //!   without them. A folder stands for all its files. A name is looked for in the files of the next such column to its right.
+//! - A row of such a table has at most 250 characters, so that it stays one thought.
 
 use std::collections::HashSet;
 use std::fs;
 use std::path::Path;
+
+/// The most characters of a row that gives files.
+const LONGEST_ROW: usize = 250;
 
 /// A file, with the words that stand in it and in its path.
 struct Source {
@@ -95,6 +99,12 @@ fn quoted(text: &str) -> impl Iterator<Item = &str> {
 fn faults_in_row(headings: &[&str], row: &str, all: &[&Source]) -> Vec<String> {
     let cells: Vec<&str> = row.split('|').collect();
     let (mut faults, mut given) = (Vec::new(), all.to_vec());
+    if headings.contains(&"where") && row.chars().count() > LONGEST_ROW {
+        faults.push("a row that is too long".to_owned());
+    }
+    if cells.len() != headings.len() {
+        faults.push("another number of cells than in the heading".to_owned());
+    }
     for (heading, cell) in headings.iter().zip(cells).rev() {
         if *heading != "where" {
             faults.extend(quoted(cell).flat_map(|text| faults_of(text, all, &given)));
@@ -170,10 +180,19 @@ fn wrong_names_are_told() {
     {
         assert!(faults(right).is_empty(), "{right}");
     }
-    for wrong in
-        ["`near`", "`far-off`", "`hearsay`", "`on_..`", "`a/specs/C`", "`", "| `near-by` | c/src |", "| | a/specs/C |"]
-    {
+    for wrong in [
+        "`near`",
+        "`far-off`",
+        "`hearsay`",
+        "`on_..`",
+        "`a/specs/C`",
+        "`",
+        "| `near-by` | c/src |",
+        "| | a/specs/C |",
+        "| `near-by` |",
+    ] {
         assert_eq!(faults(wrong).len(), 1, "{wrong}");
     }
     assert_eq!(faults("| `near-by` | c/src |"), ["d.md:3: no `near-by`"]);
+    assert_eq!(faults(&format!("| {} | a |", "long ".repeat(50))), ["d.md:3: a row that is too long"]);
 }
