@@ -12,7 +12,7 @@ use Rattle.outcomes.proofs.Judging.{done-refused, judge-append, judge-done}
 use Rattle.tables.specs.Tables.{Tables}
 use Rattle.walks.specs.Move.{movedSays, stepOf, moveOf, moveTests, ReadsTo}
 use Rattle.walks.proofs.Moves.{move-reads}
-use Rattle.bookmarks.specs.Bookmark.{overflows, bookmarkOf, markAfter, Advances}
+use Rattle.bookmarks.specs.Bookmark.{overflows, bookmarkOf, markAfter, Advances, marking, markingOf}
 use Rattle.bookmarks.specs.Parts.{markOf}
 use Rattle.walks.specs.declared.Step.{Step}
 use Rattle.bookmarks.specs.declared.Bookmark.{Bookmark}
@@ -64,6 +64,12 @@ after-refused b o k p e = rw (← e)
 pub bookmark-kept : (n : ℕ) (t : Tables) (b : Bookmark) (m : Moved) (left : Bookmark) → Advances n t b m left
     → (k p : ℕ) → movedSays m ≡ refused k p → left ≡ b
 bookmark-kept n t b m left a k p e = a .mark ∙ sym (after-refused b (bookmarkOf n t b) k p (sym e ∙ a .says))
+
+-- and is one equation
+pub advances-marking : (n : ℕ) (t : Tables) (b : Bookmark) (m : Moved) (left : Bookmark) → Advances n t b m left
+    → marking (movedSays m) left ≡ markingOf n t b
+unfolding markingOf
+advances-marking n t b m left a = λ i. marking (a .says i) (a .mark i)
 
 pub after-done : (b : Bookmark) (o : Outcome Step) (s : Step) → done s ≡ o
     → record { place = s .place; interval = s .interval; distance = s .distance; moves = b .moves + 1; count = b .count + s .count }

@@ -1,13 +1,13 @@
 -- A bookmark's move (document 01, "Walking"), with the distance of document 02, A.2, its count of the starts read, A.4, and its test
 -- of the interval's length, A.7.
-use Prim.Native.Nat.{ℕ, zero, suc, _+_, _^_}
+use Prim.Native.Nat.{ℕ, _+_, _^_}
 use mathlib.Core.Path.{_≡_}
 use mathlib.Core.Bool.{Bool, _||_}
 use mathlib.Core.List.{List, [], _∷_, _++_}
 use lib.Dec.{leb}
 use Rattle.outcomes.specs.Outcome.{Outcome, done, refused, Test, test, judge}
 use Rattle.tables.specs.Tables.{Tables}
-use Rattle.walks.specs.Move.{movedSays, stepOf, moveTests, movesOf}
+use Rattle.walks.specs.Move.{movedSays, stepOf, moveTests}
 use Rattle.walks.specs.declared.Step.{Step}
 use Rattle.bookmarks.specs.declared.Bookmark.{Bookmark}
 use Rattle.walks.specs.declared.Moved.{Moved}
@@ -58,8 +58,3 @@ markedSays m = marking (movedSays (m .moved)) (m .bookmark)
 
 unfoldable pub markingOf : ℕ → Tables → Bookmark → Marking
 markingOf n t b = marking (bookmarkOf n t b) (markAfter b (bookmarkOf n t b))
-
--- m moves of one bookmark: the last answer, and the bookmark then. None answer as a repeated move of none does.
-unfoldable pub markingsOf : ℕ → Tables → ℕ → Bookmark → Marking
-markingsOf n t zero b = marking (movesOf n t 0 (b .interval) (b .place)) b
-markingsOf n t (suc m) b = markingOf n t (markingsOf n t m b .bookmark)

@@ -1,8 +1,7 @@
 -- What is left of a bookmark's move when the move is made: the private functions' contracts cite these.
 use mathlib.Core.Path.{_≡_}
-use mathlib.Core.Bool.{Bool, true, false}
 use mathlib.Core.List.{[], _∷_}
-use Rattle.outcomes.specs.Outcome.{Outcome, done, refused, test, judge}
+use Rattle.outcomes.specs.Outcome.{Outcome, test, judge}
 use Rattle.walks.specs.Move.{movedSays}
 use Rattle.walks.specs.declared.Step.{Step}
 use Rattle.bookmarks.specs.Bookmark.{overflows, markAfter}
@@ -16,8 +15,3 @@ markOf b s = judge (test 13 (overflows b s) 0 ∷ []) s
 pub record Marks (b : Bookmark) (s : Step) (m : Marked) : Type 0 where
   pub says : movedSays (m .moved) ≡ markOf b s
   pub mark : m .bookmark ≡ markAfter b (markOf b s)
-
--- whether a call is refused
-abbrev pub isRefused : {A : Type 0} → Outcome A → Bool
-isRefused (done a) = false
-isRefused (refused k p) = true

@@ -5,9 +5,8 @@
 mod marking;
 
 use walks::Moved;
-ghost use mathlib.Core.Path.{_≡_};
 ghost use Rattle.tables.specs.Tables.{tables};
-ghost use Rattle.bookmarks.specs.Bookmark.{Advances, markedSays, markingsOf};
+ghost use Rattle.bookmarks.specs.Bookmark.{Advances};
 
 // A walk that its owner keeps: where it stands, the moves made, and how many starts they read. A move writes the place's distance
 // from the interval's start and never looks at it, so that a bookmark may begin with any number there. It passes to hosts as it is,
@@ -61,33 +60,4 @@ pub fn advance(
     let m = advanced(n, starts, images, holders, lengths, *b);
     *b = m.bookmark;
     m.moved
-}
-
-// m moves of a bookmark: the last answer, and the bookmark then. A refused move leaves the bookmark, so all later ones would
-// be refused alike: the first refusal is the last answer.
-pub fn bookmark_moves(
-    n: u32,
-    starts: &[u32],
-    images: &[u32],
-    holders: &[u32],
-    lengths: &[u32],
-    b: Bookmark,
-    m: u32,
-) -> Marked
-    ensures { λ r. ⌜ markedSays r ≡ markingsOf n (tables (now (starts .entry)) (now (images .entry)) (now (holders .entry)) (now (lengths .entry))) m b ⌝ }
-{
-    let mut marked = Marked {
-        bookmark: b,
-        moved: walks::repeated_moves(n, starts, images, holders, lengths, b.interval, b.place, 0),
-    };
-    let mut made: u32 = 0;
-    while made < m {
-        marked = marking::advance_once(n, starts, images, holders, lengths, marked.bookmark);
-        let moved = marked.moved;
-        if marking::is_refused(moved) {
-            return marked;
-        }
-        made += 1;
-    }
-    marked
 }

@@ -1,14 +1,12 @@
-// A bookmark after a step, and lent for one move.
+// A bookmark after a step.
 use super::Bookmark;
 use super::Marked;
 use outcomes::Refusal;
 use walks::Moved;
 use walks::Step;
 ghost use mathlib.Core.Path.{_≡_};
-ghost use Rattle.tables.specs.Tables.{tables};
-ghost use Rattle.bookmarks.specs.Bookmark.{overflows, Advances};
-ghost use Rattle.walks.specs.Move.{movedSays};
-ghost use Rattle.bookmarks.specs.Parts.{Marks, isRefused};
+ghost use Rattle.bookmarks.specs.Bookmark.{overflows};
+ghost use Rattle.bookmarks.specs.Parts.{Marks};
 
 // Test 13: whether a counter would pass its width.
 fn would_overflow(b: Bookmark, s: Step) -> bool
@@ -39,33 +37,5 @@ pub(crate) fn mark(b: Bookmark, s: Step) -> Marked
             count: b.count + s.count,
         },
         moved: Moved::To(s),
-    }
-}
-
-// A bookmark's move by one who owns the bookmark: it is lent to `advance`, and comes back with the answer.
-pub(crate) fn advance_once(
-    n: u32,
-    starts: &[u32],
-    images: &[u32],
-    holders: &[u32],
-    lengths: &[u32],
-    b: Bookmark,
-) -> Marked
-    ensures { λ r. ⌜ Advances n (tables (now (starts .entry)) (now (images .entry)) (now (holders .entry)) (now (lengths .entry))) b (r .moved) (r .bookmark) ⌝ }
-{
-    let mut lent = b;
-    let moved = super::advance(n, starts, images, holders, lengths, &mut lent);
-    Marked {
-        bookmark: lent,
-        moved,
-    }
-}
-
-pub(crate) fn is_refused(m: Moved) -> bool
-    ensures { λ r. ⌜ r ≡ isRefused (movedSays m) ⌝ }
-{
-    match m {
-        Moved::To(_) => false,
-        Moved::Refused(_) => true,
     }
 }

@@ -19,7 +19,7 @@ use Rattle.walks.proofs.Linked.{find-linked, move-linked, moves-linked, made-li
 use Rattle.walks.proofs.Moves.{move-reads}
 use Rattle.walks.proofs.Distances.{move-lies, moves-lie}
 use Rattle.bookmarks.proofs.Marks.{marked-reads}
-use Rattle.bookmarks.proofs.Distances.{distance-unread, distance-forgotten, marked-lies, distances-unread, distances-forgotten, markings-lie, markings-left}
+use Rattle.bookmarks.proofs.Distances.{distance-unread, distance-forgotten, marked-lies}
 use Rattle.files.proofs.Accepted.{file-accepted}
 use Rattle.questions.specs.Questions.{placesOf}
 use Rattle.questions.proofs.Agreeing.{records-agree, records-lie, records-read, unfound, unmoved}
@@ -55,13 +55,9 @@ demand2 = record {
   move-distance = λ n t x i s e. move-lies n t x i s e;
   moves-distance = moves-lie;
   bookmark-distance = marked-lies;
-  bookmark-moves-distance = markings-lie;
-  bookmark-moves-left = markings-left;
   questions-distance = records-lie;
   distance-unread = distance-unread;
-  distances-unread = distances-unread;
   distance-forgotten = distance-forgotten;
-  distances-forgotten = distances-forgotten;
   questions-agree = records-agree;
   questions-unfound = λ n t qs a left w p e. unfound n t (placesOf qs) p (sym (w .says) ∙ e);
   questions-unmoved = λ n t qs a left w x e. unmoved n t (placesOf qs) x (sym (w .says) ∙ e);

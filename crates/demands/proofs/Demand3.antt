@@ -1,9 +1,9 @@
 -- Demand 3. What `balance` promises puts the tables of the balanced list at the head of the lent ones; through these the
 -- single calls are the plain walk's, so whole lists of calls are (Serving, Marking); and since no interval is heavy, no
 -- move reads more than 2d starts (Counting).
-use Prim.Native.Nat.{ℕ, zero, suc, _*_, _≤_, _<_}
+use Prim.Native.Nat.{ℕ, _*_, _≤_, _<_}
 use mathlib.Core.Path.{_≡_, refl, sym, ap, _∙_}
-use mathlib.Core.List.{List, [], _∷_, _++_, map}
+use mathlib.Core.List.{List, map}
 use native.Mathlib.Omega.{arith}
 use lib.ListN.{length}
 use Rattle.order.specs.Lists.{All}
@@ -13,7 +13,7 @@ use Rattle.runs.specs.Legal.{Legal}
 use Rattle.runs.specs.Check.{maxRuns}
 use Rattle.runs.proofs.Accepted.{accepted-legal}
 use Rattle.tables.specs.Tables.{tablesOf, maxIntervals}
-use Rattle.bookmarks.specs.Bookmark.{fresh, Marking, markingsOf}
+use Rattle.bookmarks.specs.Bookmark.{fresh}
 use Rattle.questions.specs.Questions.{answeredSays, placesOf, recordsAfter, Answers}
 use Rattle.questions.specs.Plain.{plainAnswers, plainQuestion}
 use Rattle.questions.specs.declared.Question.{Question}
@@ -27,15 +27,15 @@ use Rattle.balance.specs.Lent.{Room}
 use Rattle.balance.proofs.Outcomes.{balance-done, room-in-bound}
 use Rattle.cuts.proofs.Balancing.{balanced-legal, balanced-map, balanced-light, balanced-unlimited, balanced-count}
 use Rattle.demands.specs.Calls.{Call, total, countIn, allMoves, allCounts, Bounded}
-use Rattle.walks.specs.Plain.{maxCount, plainMove, plainMoves}
+use Rattle.walks.specs.Plain.{maxCount, plainMove}
 use Rattle.walks.proofs.LegalCounts.{count-most}
-use Rattle.demands.specs.PlainWalk.{walkCounts, plainTrail}
+use Rattle.demands.specs.PlainWalk.{walkCounts}
 use Rattle.demands.specs.Served.{served, callOf, replyOf, servedTrail}
 use Rattle.demands.specs.Demands.{Through, Serves, BalancesFor, Demand3}
 use Rattle.demands.proofs.Demand2.{balanced-few, through-balanced}
 use Rattle.demands.proofs.Serving.{same-replies, calling-served}
 use Rattle.demands.proofs.Counting.{counts-length, counts-sum, counts-most, bounded-total, records-total, all-most}
-use Rattle.demands.proofs.Marking.{fresh-stands, fresh-trail, trail-length, trail-bounds, end-bounds, advance-bounds, advancing-served, trail-last}
+use Rattle.demands.proofs.Marking.{fresh-stands, trail-length, trail-bounds, advance-bounds, advancing-served}
 
 module _ (n : ℕ) (r : Runs) (d : ℕ) (c : Legal n r) (k : countOf r ≤ maxRuns) (many : 2 ≤ d) (few : d ≤ 64) where
   abbrev t : Runs
@@ -52,24 +52,6 @@ module _ (n : ℕ) (r : Runs) (d : ℕ) (c : Legal n r) (k : countOf r ≤ maxRu
 
   small : maxCount d ≤ maxIntervals
   small = omega arith
-
-  same-fresh : (m p g : ℕ) → p < n → servedTrail n (tablesOf n t) m (fresh p (runAt n t p) g) ≡ plainTrail n r t m p 0 0
-  same-fresh = fresh-trail n (maxCount d) r t (tablesOf n t) (walks .move) (walks .inside) most small
-
-  fresh-end : (m p g : ℕ) → p < n → plainTrail n r t (suc m) p 0 0
-      ≡ plainTrail n r t m p 0 0 ++ (markingsOf n (tablesOf n t) (suc m) (fresh p (runAt n t p) g) ∷ [])
-  fresh-end m p g h =
-      let b = fresh p (runAt n t p) g in
-      sym (same-fresh (suc m) p g h)
-      ∙ trail-last n (tablesOf n t) m b
-      ∙ ap (λ (l : List Marking). l ++ (markingsOf n (tablesOf n t) (suc m) b ∷ [])) (same-fresh m p g h)
-
-  bounds-at : (m p g : ℕ) → p < n → Bounded (maxCount d) (markingsOf n (tablesOf n t) m (fresh p (runAt n t p) g))
-  unfolding markingsOf plainMoves
-  bounds-at zero p g h = record { move = rw (walks .moves 0 p h .0) (omega arith); sum = omega arith }
-  bounds-at (suc m) p g h =
-      end-bounds n (maxCount d) r t (tablesOf n t) (walks .move) (walks .inside) most small m (fresh p (runAt n t p) g)
-      (fresh-stands n (maxCount d) r t p g h)
 
   -- questions together: what the contract says, by the plain walk
   told : (qs : List Question) (a : Answered) (left : List Question) → Answers n (tablesOf n t) qs a left
@@ -111,7 +93,7 @@ module _ (n : ℕ) (r : Runs) (d : ℕ) (c : Legal n r) (k : countOf r ≤ maxRu
         reply-counts = replied;
         each-move = each;
         all-moves = all-total;
-        same-trail = λ p g h m. same-fresh m p g h;
+        same-trail = λ p g h m. walks .trail m p g h;
         trail-bounds = trails;
         trail-total = λ p g h m.
             let w = fresh p (runAt n t p) g in
@@ -120,11 +102,9 @@ module _ (n : ℕ) (r : Runs) (d : ℕ) (c : Legal n r) (k : countOf r ≤ maxRu
               bounded-total b (servedTrail n (tablesOf n t) m w) (trails p g h m),
               ap (λ (k : ℕ). k * b) (trail-length n (tablesOf n t) m w),
             );
-        same-advances = λ p g h ms a. advancing-served n (tablesOf n t) ms _ a ∙ same-fresh (length ms) p g h;
+        same-advances = λ p g h ms a. advancing-served n (tablesOf n t) ms _ a ∙ walks .trail (length ms) p g h;
         advance-bounds = λ p g h ms a.
             advance-bounds n b r t (tablesOf n t) (walks .move) (walks .inside) most small ms _ (fresh-stands n b r t p g h) a;
-        same-end = λ p g h m. fresh-end m p g h;
-        end-bounds = λ p g h m. bounds-at m p g h;
         same-questions = told;
         question-bounds = told-most;
         question-total = λ qs a left w c e. records-total b left (told-most qs a left w c e);

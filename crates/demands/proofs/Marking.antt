@@ -4,6 +4,7 @@ use Prim.Native.Nat.{ℕ, zero, suc, _+_, _*_, _^_, _≤_, _<_}
 use mathlib.Core.Path.{_≡_, refl, sym, ap, _∙_}
 use mathlib.Core.Logic.{_⊎_, inl, inr}
 use mathlib.Core.List.{List, [], _∷_, _++_, map}
+use native.Mathlib.Numerals.{add-one}
 use native.Mathlib.Omega.{arith}
 use lib.ListN.{length}
 use native.Mathlib.Nat.{mul-le-mul-left}
@@ -11,16 +12,16 @@ use borrow.Author.Tests.{le-leb, lt-leb}
 use Rattle.order.specs.Lists.{All}
 use Rattle.order.proofs.Laws.{lt-or-le}
 use Rattle.outcomes.specs.Outcome.{done, refused}
-use Rattle.runs.specs.Runs.{Runs, runAt, mapOf}
+use Rattle.runs.specs.Runs.{Runs, runAt, mapOf, powerOf}
 use Rattle.tables.specs.Tables.{Tables, maxIntervals}
 use Rattle.walks.specs.Move.{moveOf}
-use Rattle.bookmarks.specs.Bookmark.{fresh, withDistance, markAfter, Marking, marking, markedSays, markingOf, markingsOf}
+use Rattle.bookmarks.specs.Bookmark.{fresh, withDistance, markAfter, Marking, marking, markedSays, markingOf}
 use Rattle.bookmarks.specs.declared.Bookmark.{Bookmark}
 use Rattle.bookmarks.specs.declared.Marked.{Marked}
-use Rattle.bookmarks.proofs.Marks.{bookmark-overflow, bookmark-goes}
-use Rattle.bookmarks.proofs.Markings.{advances-marking}
+use Rattle.bookmarks.proofs.Marks.{advances-marking, bookmark-overflow, bookmark-goes}
 use Rattle.demands.specs.Calls.{Bounded}
-use Rattle.walks.specs.Plain.{plainDistance, plainMove}
+use Rattle.walks.specs.Plain.{plainDistance, plainMove, plainMoves}
+use Rattle.walks.proofs.PlainMoves.{moves-place}
 use Rattle.demands.specs.PlainWalk.{plainTrail, standing}
 use Rattle.demands.specs.Served.{servedTrail, Advancing}
 
@@ -35,6 +36,43 @@ module _ (n : ℕ) (r t : Runs) (k p m c : ℕ) where
       ∷ plainTrail n r t k (mapOf n r p) (m + 1) (c + plainMove n r t p .count)
   unfolding plainTrail plainMove
   plain-goes h = rw (lt-leb 4294967295 m h, plainTrail)
+
+-- The plain walk's moves one by one, from p: as many moves on, it stands where that power of the function leads.
+module _ (n : ℕ) (r t : Runs) (p : ℕ) where
+  abbrev trailFrom : ℕ → ℕ → List Marking
+  trailFrom k j = plainTrail n r t k (powerOf n r j p) j (plainMoves n r t j p .count)
+
+  abbrev entry : ℕ → Marking
+  entry j =
+      marking (done (plainMove n r t (powerOf n r j p)))
+      (standing n r t (powerOf n r (suc j) p) (suc j) (plainMoves n r t (suc j) p .count))
+
+  counts-next : (j : ℕ) → plainMoves n r t j p .count + plainMove n r t (powerOf n r j p) .count ≡ plainMoves n r t (suc j) p .count
+  unfolding plainMoves
+  counts-next j = ap (λ (q : ℕ). plainMoves n r t j p .count + plainMove n r t q .count) (sym (moves-place n r t j p))
+
+  trail-next : (k j : ℕ) → j < 4294967295 → trailFrom (suc k) j ≡ entry j ∷ trailFrom k (suc j)
+  unfolding powerOf
+  trail-next k j h =
+      plain-goes n r t k (powerOf n r j p) j (plainMoves n r t j p .count) h
+      ∙ rw (add-one, ← counts-next j)
+
+  trail-last : (k j : ℕ) → j + k < 4294967295 → trailFrom (suc k) j ≡ trailFrom k j ++ (entry (j + k) ∷ [])
+  unfolding plainTrail
+  trail-last zero j h =
+      let e : j ≡ j + zero = omega arith in trail-next zero j (omega arith) ∙ ap (λ (i : ℕ). entry i ∷ []) e
+  trail-last (suc k) j h =
+      let e : suc j + k ≡ j + suc k = omega arith in
+      trail-next (suc k) j (omega arith)
+      ∙ ap (λ (l : List Marking). entry j ∷ l) (trail-last k (suc j) (omega arith))
+      ∙ ap (λ (l : List Marking). l ++ (entry (suc j + k) ∷ [])) (sym (trail-next k j (omega arith)))
+      ∙ ap (λ (i : ℕ). trailFrom (suc k) j ++ (entry i ∷ [])) e
+
+  pub trail-end : (m : ℕ) → suc m < 2 ^ 32 → plainTrail n r t (suc m) p 0 0 ≡ plainTrail n r t m p 0 0 ++ (entry m ∷ [])
+  unfolding powerOf plainMoves
+  trail-end m h =
+      let e : 0 + m ≡ m = omega arith in
+      trail-last m 0 (omega arith) ∙ ap (λ (i : ℕ). plainTrail n r t m p 0 0 ++ (entry i ∷ [])) e
 
 -- a bookmark that the plain walk may stand at, with any distance, its counters within the bound
 pub record Stands (n b : ℕ) (r t : Runs) (w : Bookmark) : Type 0 where
@@ -133,15 +171,6 @@ module _ (n b : ℕ) (r t : Runs) (τ : Tables)
   trail-bounds zero w s = tt
   trail-bounds (suc k) w s = (turn w s .0, trail-bounds k (markingOf n τ w .bookmark) (turn w s .1))
 
-  marks-stand : (m : ℕ) (w : Bookmark) → Stands n b r t w → Stands n b r t (markingsOf n τ m w .bookmark)
-  unfolding markingsOf
-  marks-stand zero w s = s
-  marks-stand (suc m) w s = turn (markingsOf n τ m w .bookmark) (marks-stand m w s) .1
-
-  pub end-bounds : (m : ℕ) (w : Bookmark) → Stands n b r t w → Bounded b (markingsOf n τ (suc m) w)
-  unfolding markingsOf
-  end-bounds m w s = turn (markingsOf n τ m w .bookmark) (marks-stand m w s) .0
-
   pub advance-bounds : (ms : List Marked) (w : Bookmark) → Stands n b r t w → Advancing n τ w ms
       → All (λ m. Bounded b (markedSays m)) ms
   advance-bounds [] w s a = tt
@@ -166,20 +195,3 @@ advancing-served n τ (m ∷ ms) b a =
     let f = ap (λ (w : Marking). servedTrail n τ (length ms) (w .bookmark)) e in
     let g = advancing-served n τ ms (m .bookmark) (a .1) ∙ f in
     λ i. e i ∷ g i
-
--- the last move of a trail is where so many moves of the bookmark lead
-module _ (n : ℕ) (τ : Tables) where
-  markings-first : (m : ℕ) (b : Bookmark)
-      → markingsOf n τ (suc m) (markingOf n τ b .bookmark) ≡ markingsOf n τ (suc (suc m)) b
-  unfolding markingsOf
-  markings-first zero b = refl
-  markings-first (suc m) b = ap (λ (w : Marking). markingOf n τ (w .bookmark)) (markings-first m b)
-
-  pub trail-last : (m : ℕ) (b : Bookmark)
-      → servedTrail n τ (suc m) b ≡ servedTrail n τ m b ++ (markingsOf n τ (suc m) b ∷ [])
-  unfolding servedTrail markingsOf
-  trail-last zero b = refl
-  trail-last (suc m) b =
-      let c = markingOf n τ b .bookmark in
-      ap (λ (l : List Marking). markingOf n τ b ∷ l)
-      (trail-last m c ∙ ap (λ (w : Marking). servedTrail n τ m c ++ (w ∷ [])) (markings-first m b))

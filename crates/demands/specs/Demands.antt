@@ -27,7 +27,7 @@ use Rattle.weights.specs.Under.{underTests, underCount, weightOf, underAt, unde
 use Rattle.walks.specs.Linked.{linkedFind, linkedMove, linkedMoves}
 use Rattle.walks.specs.declared.Step.{Step}
 use Rattle.walks.specs.declared.Moved.{Moved}
-use Rattle.bookmarks.specs.Bookmark.{bookmarkTests, bookmarkOf, fresh, withDistance, Advances, marking, markedSays, markingOf, markingsOf}
+use Rattle.bookmarks.specs.Bookmark.{bookmarkTests, bookmarkOf, fresh, withDistance, Advances, marking, markedSays, markingOf}
 use Rattle.bookmarks.specs.declared.Bookmark.{Bookmark}
 use Rattle.bookmarks.specs.declared.Marked.{Marked}
 use Rattle.questions.specs.Questions.{answeredSays, placesOf, placeAt, questionTests, foundLast, answersOf, filledIn, recordsAfter, Answers}
@@ -167,12 +167,14 @@ pub record Through (n : ℕ) (r t : Runs) : Type 0 where
   pub bookmark : (p g m c : ℕ) → p < n → m + 1 < 2 ^ 32 → c + plainMove n r t p .count < 2 ^ 64
       → markingOf n (tablesOf n t) (withDistance g (standing n r t p m c))
       ≡ marking (done (plainMove n r t p)) (standing n r t (mapOf n r p) (m + 1) (c + plainMove n r t p .count))
-  -- the last of m + 1 moves of one that is fresh at p, with any distance g, as long as its counter of moves has room: the counter
-  -- of starts then has room too
-  pub bookmark-moves : (m p g : ℕ) → p < n → suc m < 2 ^ 32
-      → markingsOf n (tablesOf n t) (suc m) (fresh p (runAt n t p) g)
-      ≡ marking (done (plainMove n r t (powerOf n r m p)))
-      (standing n r t (powerOf n r (suc m) p) (suc m) (plainMoves n r t (suc m) p .count))
+  -- m moves of one that is fresh at p, with any distance g: each answer, and the bookmark after it. The last of m + 1 goes from where
+  -- the function's m-th power leads, as long as the counter of moves has room: the counter of starts then has room too.
+  pub trail : (m p g : ℕ) → p < n → servedTrail n (tablesOf n t) m (fresh p (runAt n t p) g) ≡ plainTrail n r t m p 0 0
+  pub trail-end : (m p : ℕ) → suc m < 2 ^ 32
+      → plainTrail n r t (suc m) p 0 0
+      ≡ plainTrail n r t m p 0 0
+      ++ (marking (done (plainMove n r t (powerOf n r m p)))
+      (standing n r t (powerOf n r (suc m) p) (suc m) (plainMoves n r t (suc m) p .count)) ∷ [])
   pub inverse : (p : ℕ) → p < n
       → inverseOf n (tablesOf n t) (mapOf n r p) ≡ done (record { place = p; interval = runAt n t p })
   -- the size that weight gives is the weight of t's interval, and the starts handed back are those under its image
@@ -220,21 +222,13 @@ pub record Demand2 : Type 0 where
   pub bookmark-distance : (n : ℕ) (t : Tables) (b : Bookmark) (m : Moved) (left : Bookmark) → Advances n t b m left
       → (s : Step) → movedSays m ≡ done s
       → LiesIn n (t .links) (s .interval) (s .place) (s .distance) × LiesIn n (t .links) (left .interval) (left .place) (left .distance)
-  pub bookmark-moves-distance : (n : ℕ) (t : Tables) (b : Bookmark) (m : ℕ) (s : Step) → markingsOf n t m b .answer ≡ done s
-      → LiesIn n (t .links) (s .interval) (s .place) (s .distance)
-  pub bookmark-moves-left : (n : ℕ) (t : Tables) (b : Bookmark) (m : ℕ)
-      → let c = markingsOf n t m b .bookmark in (c ≡ b) ⊎ LiesIn n (t .links) (c .interval) (c .place) (c .distance)
   pub questions-distance : (n : ℕ) (t : Tables) (qs : List Question) (a : Answered) (left : List Question) → Answers n t qs a left
       → (c : ℕ) → answeredSays a ≡ done c → All (λ q. LiesIn n (t .links) (q .«to_interval») (q .«to_place») (q .distance)) left
-  -- the one that a bookmark held before is not read, on any tables: with any other the answer is the same, to one move and to
-  -- many; and where the first move is made, so is the bookmark that one move leaves, and many
+  -- the one that a bookmark held before is not read, on any tables: with any other the answer is the same, and where the move is
+  -- made, so is the bookmark that it leaves
   pub distance-unread : (n : ℕ) (t : Tables) (b : Bookmark) (g : ℕ) → bookmarkOf n t (withDistance g b) ≡ bookmarkOf n t b
-  pub distances-unread : (n : ℕ) (t : Tables) (b : Bookmark) (g m : ℕ)
-      → markingsOf n t m (withDistance g b) .answer ≡ markingsOf n t m b .answer
   pub distance-forgotten : (n : ℕ) (t : Tables) (b : Bookmark) (g : ℕ) (s : Step) → bookmarkOf n t b ≡ done s
       → markingOf n t (withDistance g b) ≡ markingOf n t b
-  pub distances-forgotten : (n : ℕ) (t : Tables) (b : Bookmark) (g m : ℕ) (s : Step) → bookmarkOf n t b ≡ done s
-      → markingsOf n t (suc m) (withDistance g b) ≡ markingsOf n t (suc m) b
   -- questions that are answered together, on any tables: each record agrees with find and move done alone
   pub questions-agree : (n : ℕ) (t : Tables) (qs : List Question) (a : Answered) (left : List Question) → Answers n t qs a left
       → (c : ℕ) → answeredSays a ≡ done c → All (Agrees n t) left
@@ -308,10 +302,6 @@ pub record Serves (n : ℕ) (r t : Runs) (d : ℕ) (τ : Tables) : Type 0 where
       → map markedSays ms ≡ plainTrail n r t (length ms) p 0 0
   pub advance-bounds : (p g : ℕ) → p < n → (ms : List Marked) → Advancing n τ (fresh p (runAt n t p) g) ms
       → All (λ m. Bounded (maxCount d) (markedSays m)) ms
-  -- and over that of `bookmark_moves`: what m + 1 moves say, and leave, is the last of that trail
-  pub same-end : (p g : ℕ) → p < n → (m : ℕ)
-      → plainTrail n r t (suc m) p 0 0 ≡ plainTrail n r t m p 0 0 ++ (markingsOf n τ (suc m) (fresh p (runAt n t p) g) ∷ [])
-  pub end-bounds : (p g : ℕ) → p < n → (m : ℕ) → Bounded (maxCount d) (markingsOf n τ m (fresh p (runAt n t p) g))
   -- Questions together, over the contract of `answer` and for any records: the answer, and each record as the plain walk's find
   -- and move would fill it in. Where they are answered, the count of each record, and all of them together.
   pub same-questions : (qs : List Question) (a : Answered) (left : List Question) → Answers n τ qs a left

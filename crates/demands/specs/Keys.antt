@@ -20,7 +20,7 @@ use Rattle.runs.specs.Weight.{weight}
 use Rattle.walks.specs.declared.Step.{Step}
 use Rattle.preimages.specs.declared.Source.{Source}
 use Rattle.weights.specs.declared.Stretch.{Stretch}
-use Rattle.bookmarks.specs.Bookmark.{fresh, overflows, bookmarkOf, markAfter, Marking, markingOf, markingsOf}
+use Rattle.bookmarks.specs.Bookmark.{fresh, overflows, bookmarkOf, markAfter, Marking, markingOf}
 use Rattle.bookmarks.specs.declared.Bookmark.{Bookmark}
 use Rattle.questions.specs.Questions.{fallsAt, unfindableAt, brokenAt, answersOf, filledIn, recordsAfter}
 use Rattle.questions.specs.declared.Question.{Question}
@@ -33,6 +33,7 @@ use Rattle.folds.specs.Fold.{breaks, maximalRuns}
 use Rattle.permutations.specs.Values.{valuesOf}
 use Rattle.permutations.specs.Next.{lastAscent, lastAbove, changed, successor, falls, nextRuns, nextOf}
 use Rattle.permutations.specs.Every.{listsFrom}
+use Rattle.demands.specs.Served.{servedTrail}
 
 -- An outcome as a row of numbers: 0 and its values, or the refusal's number and place.
 abbrev pub rowFrom : {A : Type 0} → (A → List ℕ) → Outcome A → List ℕ
@@ -64,6 +65,10 @@ abbrev pub markingRow : Marking → List ℕ
 markingRow m =
     let b = m .bookmark in
     movedRow (m .answer) ++ (b .place ∷ b .interval ∷ b .distance ∷ b .moves ∷ b .count ∷ [])
+
+abbrev pub trailRow : List Marking → List ℕ
+trailRow [] = []
+trailRow (m ∷ ms) = markingRow m ++ trailRow ms
 
 -- a bookmark at place p of interval x, with distance g, whose m moves have read c starts
 abbrev pub kept : ℕ → ℕ → ℕ → ℕ → ℕ → Bookmark
@@ -237,8 +242,8 @@ keys =
     (movedRow (movesOf 45 (tablesOf 45 (balanced 2 45 psi)) 0 4 15) is 0 ∷ 15 ∷ 4 ∷ 3 ∷ 0 ∷ []) ∷
     (movedRow (moveOf 45 (tablesOf 45 (balanced 2 45 psi)) 4 15) is 0 ∷ 35 ∷ 10 ∷ 1 ∷ 2 ∷ []) ∷
     (movedRow (moveOf 45 (tablesOf 45 psi) 6 20) is 0 ∷ 43 ∷ 12 ∷ 0 ∷ 1 ∷ []) ∷
-    -- a bookmark whose distance is wrong: a move writes it, 13 of either counter keeps it, and a count may fill its counter; four
-    -- moves, and none, which answer the right one
+    -- a bookmark whose distance is wrong: a move writes it, 13 of either counter keeps it, and a count may fill its counter; and
+    -- four moves
     (markingRow (markingOf 16 listedTables (fresh 11 4 999)) is 0 ∷ 3 ∷ 1 ∷ 1 ∷ 2 ∷ 3 ∷ 1 ∷ 1 ∷ 1 ∷ 2 ∷ []) ∷
     (markingRow (markingOf 16 listedTables (fresh 0 0 999)) is 0 ∷ 14 ∷ 5 ∷ 2 ∷ 0 ∷ 14 ∷ 5 ∷ 2 ∷ 1 ∷ 0 ∷ []) ∷
     (markingRow (markingOf 16 listedTables (kept 11 4 999 4294967295 0)) is 13 ∷ 0 ∷ 11 ∷ 4 ∷ 999 ∷ 4294967295 ∷ 0 ∷ []) ∷
@@ -246,8 +251,9 @@ keys =
     13 ∷ 0 ∷ 11 ∷ 4 ∷ 999 ∷ 3 ∷ 18446744073709551614 ∷ []) ∷
     (markingRow (markingOf 16 listedTables (kept 11 4 999 3 18446744073709551613)) is
     0 ∷ 3 ∷ 1 ∷ 1 ∷ 2 ∷ 3 ∷ 1 ∷ 1 ∷ 4 ∷ 18446744073709551615 ∷ []) ∷
-    (markingRow (markingsOf 16 listedTables 4 (fresh 11 4 999)) is 0 ∷ 11 ∷ 4 ∷ 3 ∷ 1 ∷ 11 ∷ 4 ∷ 3 ∷ 4 ∷ 4 ∷ []) ∷
-    (markingRow (markingsOf 16 listedTables 0 (fresh 11 4 999)) is 0 ∷ 11 ∷ 4 ∷ 3 ∷ 0 ∷ 11 ∷ 4 ∷ 999 ∷ 0 ∷ 0 ∷ []) ∷
+    (trailRow (servedTrail 16 listedTables 4 (fresh 11 4 999)) is
+    0 ∷ 3 ∷ 1 ∷ 1 ∷ 2 ∷ 3 ∷ 1 ∷ 1 ∷ 1 ∷ 2 ∷ 0 ∷ 13 ∷ 5 ∷ 1 ∷ 0 ∷ 13 ∷ 5 ∷ 1 ∷ 2 ∷ 2 ∷
+    0 ∷ 5 ∷ 2 ∷ 1 ∷ 1 ∷ 5 ∷ 2 ∷ 1 ∷ 3 ∷ 3 ∷ 0 ∷ 11 ∷ 4 ∷ 3 ∷ 1 ∷ 11 ∷ 4 ∷ 3 ∷ 4 ∷ 4 ∷ []) ∷
     -- questions together: the listing's tables, two places equal; no records
     (answeredRow 16 exampleTables (0 ∷ 3 ∷ 3 ∷ 11 ∷ 15 ∷ []) is 0 ∷ 5 ∷ []) ∷
     (leftRow 16 exampleTables (0 ∷ 3 ∷ 3 ∷ 11 ∷ 15 ∷ []) is
@@ -292,7 +298,8 @@ keys =
     (movedRow (movesOf 16 wrongFour 0 4 99) is 12 ∷ 4 ∷ []) ∷
     (movedRow (movesOf 16 wrongFour 2 5 14) is 0 ∷ 8 ∷ 4 ∷ 0 ∷ 3 ∷ []) ∷
     (movedRow (movesOf 16 wrongFour 3 5 14) is 12 ∷ 4 ∷ []) ∷
-    (markingRow (markingsOf 16 wrongFour 3 (fresh 14 5 999)) is 12 ∷ 4 ∷ 8 ∷ 4 ∷ 0 ∷ 2 ∷ 3 ∷ []) ∷
+    (trailRow (servedTrail 16 wrongFour 3 (fresh 14 5 999)) is
+    0 ∷ 6 ∷ 3 ∷ 0 ∷ 2 ∷ 6 ∷ 3 ∷ 0 ∷ 1 ∷ 2 ∷ 0 ∷ 8 ∷ 4 ∷ 0 ∷ 1 ∷ 8 ∷ 4 ∷ 0 ∷ 2 ∷ 3 ∷ 12 ∷ 4 ∷ 8 ∷ 4 ∷ 0 ∷ 2 ∷ 3 ∷ []) ∷
     (foundRow (weightOf 16 wrongFour 4) is 12 ∷ 4 ∷ []) ∷
     (foundRow (weightOf 16 wrongFour 5) is 0 ∷ 2 ∷ []) ∷
     (stretchedRow (underOf 16 wrongFour 4) is 12 ∷ 4 ∷ []) ∷
@@ -343,5 +350,5 @@ keys =
     []
 
 pub keys-hold : map computed keys ≡ map given keys
-unfolding judge mapDone andThen unmatched unordered outOfRange overlap overlaps listTests testsUpTo misshapen mismatch outside unheld broken passed foundAt unfindable startsRead walkCount stepTo stepOf findOf moveOf onwards movesOf plainMove plainMoves sends sourceOf inverseOf unplaced underFirst underCount weightOf underOf overflows bookmarkOf markAfter markingOf markingsOf fallsAt unfindableAt brokenAt answersOf filledIn recordsAfter cutting balanced filled breaks maximalRuns valuesOf lastAscent lastAbove changed successor falls nextRuns nextOf listsFrom plannedOf clearedBy forecastOf leastDegreeOf balanceOf filledTables
+unfolding judge mapDone andThen unmatched unordered outOfRange overlap overlaps listTests testsUpTo misshapen mismatch outside unheld broken passed foundAt unfindable startsRead walkCount stepTo stepOf findOf moveOf onwards movesOf plainMove plainMoves sends sourceOf inverseOf unplaced underFirst underCount weightOf underOf overflows bookmarkOf markAfter markingOf servedTrail fallsAt unfindableAt brokenAt answersOf filledIn recordsAfter cutting balanced filled breaks maximalRuns valuesOf lastAscent lastAbove changed successor falls nextRuns nextOf listsFrom plannedOf clearedBy forecastOf leastDegreeOf balanceOf filledTables
 keys-hold = refl

@@ -48,7 +48,7 @@ pub(crate) fn stretched(a: Stretched) {
     }
 }
 
-// What a lent bookmark holds: place, interval, distance, moves, and how many starts these read.
+// What a bookmark holds after its move: place, interval, distance, moves, and how many starts these read.
 fn mark(b: Bookmark) {
     out::text(b"now");
     out::number(b.place as u64);

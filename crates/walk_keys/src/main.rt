@@ -9,12 +9,12 @@
 //     starts-under n x : starts : images : holders : lengths
 //     under n x : starts : images : holders : lengths
 //     bookmark n, place, interval, distance, moves, and the count as a high and a low number : starts : images : holders : lengths
-//     bookmark-moves n, place, interval and distance of a fresh one, m : starts : images : holders : lengths
+//     trail n, place, interval and distance of a fresh bookmark, m : starts : images : holders : lengths
 //     questions n : starts : images : holders : lengths : places, at most eight
 //
 // `starts-under` is answered by how many starts there are, and which; `under` by the first one's index and how many there are.
-// A bookmark and the records of questions are lent, so they are printed after the call; a bookmark's move on the spot runs
-// within `bookmark-moves`.
+// A bookmark and the records of questions are printed after the call. `trail` makes m moves of a bookmark, at least one, and is
+// answered by the last.
 mod answers;
 mod asking;
 
@@ -51,7 +51,7 @@ fn advance(
     answers::marked(bookmarks::advanced(n, starts, images, holders, lengths, before));
 }
 
-// Moves a bookmark that has made no move, as often as the number behind its distance says.
+// Moves a bookmark that has made no move, as often as the number behind its distance says, but at least once.
 fn advance_often(
     n: u32,
     numbers: &[u32],
@@ -62,7 +62,13 @@ fn advance_often(
 ) {
     let fresh = bookmark_at(numbers, 0, 0);
     let m = entry_or(numbers, 4, 0);
-    answers::marked(bookmarks::bookmark_moves(n, starts, images, holders, lengths, fresh, m));
+    let mut marked = bookmarks::advanced(n, starts, images, holders, lengths, fresh);
+    let mut made: u32 = 1;
+    while made < m {
+        marked = bookmarks::advanced(n, starts, images, holders, lengths, marked.bookmark);
+        made += 1;
+    }
+    answers::marked(marked);
 }
 
 // Runs what is called: a, b, c and d are starts, images, holders and lengths, and e the places of questions. A number or a slice
@@ -94,7 +100,7 @@ fn run_row(line: &[u8], entries: &mut [u32]) {
     let row = rows::read(line, entries);
     call(
         rows::code_of(
-            b" find move moves inverse weight starts-under under bookmark bookmark-moves questions #",
+            b" find move moves inverse weight starts-under under bookmark trail questions #",
             line,
             row,
         ),
