@@ -22,21 +22,19 @@ impl Bookmark {
     #[inline]
     pub fn advance(&mut self, table: &MoveTable) -> Result<Step, Refusal> {
         let [starts, images, holders, lengths] = table.columns();
-        let answer = exports::advance(table.n(), starts, images, holders, lengths, *self);
-        let AdvanceAnswer { number, place, count, bookmark } = answer;
+        let AdvanceAnswer { number, place, count } =
+            exports::advance(table.n(), starts, images, holders, lengths, self);
         if number != 0 {
-            return Err(refusal(table, self.interval, self.moves, self.count, number, place));
+            return Err(refusal(table, self, number, place));
         }
-        *self = bookmark;
-        Ok(Step { place: bookmark.place, interval: bookmark.interval, distance: bookmark.distance, count })
+        Ok(Step { place: self.place, interval: self.interval, distance: self.distance, count })
     }
 }
 
-// The bookmark's fields one by one: were a reference taken, it could not be kept in registers from move to move.
 #[cold]
-fn refusal(table: &MoveTable, interval: u32, moves: u32, count: u64, number: u32, place: u32) -> Refusal {
+fn refusal(table: &MoveTable, bookmark: &Bookmark, number: u32, place: u32) -> Refusal {
     match number {
-        13 => Refusal::CounterLimit { moves, count },
-        _ => Table { n: table.n(), columns: table.columns() }.refusal(number, place, Some(interval)),
+        13 => Refusal::CounterLimit { moves: bookmark.moves, count: bookmark.count },
+        _ => Table { n: table.n(), columns: table.columns() }.refusal(number, place, Some(bookmark.interval)),
     }
 }

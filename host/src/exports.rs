@@ -1,8 +1,7 @@
 //! The exports as they are: numbers and slices in, a struct or a number out. All of the crate's `unsafe` code is here.
 //!
 //! In every answer `number` 0 means done; else it is the paper's number, `place` is the place that is given with it, and
-//! the other fields are 0, but for the bookmark in [`AdvanceAnswer`], which a refusal leaves as it was. [`list_file`] alone
-//! answers a number: a refusal is its text.
+//! the other fields are 0. [`list_file`] alone answers a number: a refusal is its text.
 
 /// The answer of [`check`] and [`inverse_list`].
 ///
@@ -221,9 +220,9 @@ pub struct Bookmark {
 /// The answer of [`advance`].
 ///
 /// ```
-/// let fresh = zibewoka::Bookmark { place: 0, interval: 0, ..Default::default() };
-/// let answer = zibewoka::exports::advance(2, &[0, 1], &[1, 0], &[1, 0], &[1, 1], fresh);
-/// assert_eq!((answer.number, answer.bookmark.place, answer.bookmark.moves), (0, 1, 1));
+/// let mut bookmark = zibewoka::Bookmark { place: 0, interval: 0, ..Default::default() };
+/// let answer = zibewoka::exports::advance(2, &[0, 1], &[1, 0], &[1, 0], &[1, 1], &mut bookmark);
+/// assert_eq!((answer.number, bookmark.place, bookmark.moves), (0, 1, 1));
 /// ```
 #[repr(C)]
 #[derive(Clone, Copy, Debug, PartialEq, Eq)]
@@ -234,8 +233,6 @@ pub struct AdvanceAnswer {
     pub place: u32,
     /// How many starts this move read.
     pub count: u64,
-    /// The bookmark after the call: further by the move or, after a refusal, the one that was handed in.
-    pub bookmark: Bookmark,
 }
 
 /// A question, the record of [`questions`]: the place asked about, and what the call fills in.
@@ -357,7 +354,7 @@ unsafe extern "C" {
     ) -> UnderAnswer;
     fn zibewoka_advance(
         n: u32, starts: Ptr, k: usize, images: Ptr, ki: usize, holders: Ptr, kh: usize, lengths: Ptr, kl: usize,
-        place: u32, interval: u32, distance: u32, moves: u32, count: u64,
+        bookmark: *mut Bookmark,
     ) -> AdvanceAnswer;
     fn zibewoka_questions(
         n: u32, starts: Ptr, k: usize, images: Ptr, ki: usize, holders: Ptr, kh: usize, lengths: Ptr, kl: usize,
@@ -370,11 +367,12 @@ unsafe extern "C" {
 // Each function from here on, and the safe one over it, is inlined into the host's own crate: a call of an export is then
 // one call, whose answer need not pass through memory.
 
-// Calls an export: n if it takes one, slices that are read, values, and slices that are lent.
+// Calls an export: n if it takes one, slices that are read, values or a bookmark, and slices that are lent.
 macro_rules! call {
     ($export:ident, $($n:ident,)? [$($read:ident),+], [$($value:ident),*], [$($lent:ident),*]) => {
         // SAFETY: each pointer and length is that of a Rust slice, which lives for the call and which no other `&mut` shares; it is
-        // not null where the slice is empty. The functions are proved to keep within them, whatever numbers they hold.
+        // not null where the slice is empty. So is the pointer to a bookmark, a `&mut` of its own. The functions are proved to keep
+        // within them, whatever numbers they hold.
         unsafe {
             $export($($n,)? $($read.as_ptr(), $read.len(),)+ $($value,)* $($lent.as_mut_ptr(), $lent.len(),)*)
         }
@@ -495,7 +493,7 @@ pub fn starts_under(
     call!(zibewoka_starts_under, n, [starts, images, holders, lengths], [interval], [])
 }
 
-/// `zibewoka_advance`: [`Bookmark::advance`] with its answer as it crosses the boundary.
+/// `zibewoka_advance`: [`Bookmark::advance`] with its answer as it crosses the boundary. A refusal leaves the bookmark as it was.
 #[inline]
 pub fn advance(
     n: u32,
@@ -503,10 +501,9 @@ pub fn advance(
     images: &[u32],
     holders: &[u32],
     lengths: &[u32],
-    bookmark: Bookmark,
+    bookmark: &mut Bookmark,
 ) -> AdvanceAnswer {
-    let Bookmark { place, interval, distance, moves, count } = bookmark;
-    call!(zibewoka_advance, n, [starts, images, holders, lengths], [place, interval, distance, moves, count], [])
+    call!(zibewoka_advance, n, [starts, images, holders, lengths], [bookmark], [])
 }
 
 /// `zibewoka_questions`: [`zibewoka::questions`](crate::questions) with its answer as it crosses the boundary.

@@ -167,8 +167,9 @@ pub record Through (n : ℕ) (r t : Runs) : Type 0 where
   pub bookmark : (p g m c : ℕ) → p < n → m + 1 < 2 ^ 32 → c + plainMove n r t p .count < 2 ^ 64
       → markingOf n (tablesOf n t) (withDistance g (standing n r t p m c))
       ≡ marking (done (plainMove n r t p)) (standing n r t (mapOf n r p) (m + 1) (c + plainMove n r t p .count))
-  -- m moves of one that is fresh at p, with any distance g: each answer, and the bookmark after it. The last of m + 1 goes from where
-  -- the function's m-th power leads, as long as the counter of moves has room: the counter of starts then has room too.
+  -- m moves of one that is fresh at p, with any distance g: each answer, and the bookmark after it. The last of m + 1 leads from the
+  -- place of the function's m-th power to that of the next, as long as the counter of moves has room: the counter of starts then
+  -- has room too.
   pub trail : (m p g : ℕ) → p < n → servedTrail n (tablesOf n t) m (fresh p (runAt n t p) g) ≡ plainTrail n r t m p 0 0
   pub trail-end : (m p : ℕ) → suc m < 2 ^ 32
       → plainTrail n r t (suc m) p 0 0

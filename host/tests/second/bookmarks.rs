@@ -1,5 +1,5 @@
-//! Bookmarks moved through sound, damaged and senseless tables: each answer whole, with the bookmark in it, which goes into the
-//! next call.
+//! Bookmarks moved through sound, damaged and senseless tables: each answer whole, and all fields of the bookmark after it, which is
+//! lent to the next call.
 
 use crate::definition::{self as second, Mark, Tables};
 use crate::exports::{damage_tables, noted, senseless, somewhere, Numbers, WRONG_LENGTH};
@@ -20,16 +20,17 @@ struct Given {
 }
 
 impl Given {
-    /// One move of a bookmark by the export and by the second program; answers whether it was made.
+    /// One move of a bookmark by the export and by the second program; answers whether it was made. A refusal leaves the bookmark.
     fn advance(&mut self, n: u32, t: &Tables, mark: &mut Mark) -> bool {
         let before = *mark;
         let wanted = second::advance(n, t, mark);
         let [starts, images, holders, lengths] = t.columns();
-        let answer = exports::advance(n, starts, images, holders, lengths, bookmark(before));
+        let mut lent = bookmark(before);
+        let answer = exports::advance(n, starts, images, holders, lengths, &mut lent);
         let (number, place) = wanted.err().unwrap_or((0, 0));
         let count = wanted.map_or(0, |reached| reached.count);
-        assert_eq!(answer, AdvanceAnswer { number, place, count, bookmark: bookmark(*mark) });
-        assert!(number == 0 || *mark == before, "a refusal leaves the bookmark");
+        assert_eq!(answer, AdvanceAnswer { number, place, count });
+        assert_eq!(lent, bookmark(if number == 0 { *mark } else { before }));
         self.too_many_moves += u32::from(number == 13 && before.count == 0);
         self.too_many_reads += u32::from(number == 13 && before.moves != u32::MAX);
         self.numbers.add(noted(n, t, &wanted));
@@ -85,22 +86,27 @@ fn random_bookmarks() {
     assert!(given.too_many_moves >= 1000 && given.too_many_reads >= 1000, "13 for each counter");
 }
 
-/// Document 01's list, balanced at degree 2, from place 11 of interval 4: at the last move, at the last start, and one short of
-/// each.
-#[test]
-fn known_bookmarks() {
-    let t = Tables {
+/// Document 01's list, balanced at degree 2.
+fn example() -> Tables {
+    Tables {
         starts: vec![0, 2, 4, 6, 8, 12],
         images: vec![14, 12, 10, 8, 0, 4],
         holders: vec![5, 5, 4, 4, 0, 2],
         lengths: vec![2, 2, 2, 2, 4, 4],
-    };
+    }
+}
+
+/// From place 11 of interval 4: at the last move, at the last start, and one short of each.
+#[test]
+fn known_bookmarks() {
+    let t = example();
     let [s, i, h, l] = t.columns();
     let at = |moves, count| Bookmark { place: 11, interval: 4, distance: 99, moves, count };
     let to = |moves, count| Bookmark { place: 3, interval: 1, distance: 1, moves, count };
-    let made = |moves, count| AdvanceAnswer { number: 0, place: 0, count: 2, bookmark: to(moves, count) };
-    let refused = |number, place, bookmark| AdvanceAnswer { number, place, count: 0, bookmark };
-    let advance = |bookmark| exports::advance(16, s, i, h, l, bookmark);
+    let made = |moves, count| (AdvanceAnswer { number: 0, place: 0, count: 2 }, to(moves, count));
+    let refused = |number, place, bookmark| (AdvanceAnswer { number, place, count: 0 }, bookmark);
+    let advance_by = |l, mut lent| (exports::advance(16, s, i, h, l, &mut lent), lent);
+    let advance = |bookmark| advance_by(l, bookmark);
     assert_eq!(advance(at(0, 0)), made(1, 2));
     assert_eq!(advance(at(u32::MAX - 1, u64::MAX - 2)), made(u32::MAX, u64::MAX));
     for full in [at(u32::MAX, 0), at(0, u64::MAX - 1), at(u32::MAX, u64::MAX)] {
@@ -110,7 +116,24 @@ fn known_bookmarks() {
     assert_eq!(advance(outside), refused(11, 12, outside));
     let unknown = Bookmark { interval: 6, ..outside };
     assert_eq!(advance(unknown), refused(10, 6, unknown));
-    assert_eq!(exports::advance(16, s, i, h, &l[1..], unknown), refused(9, 0, unknown));
+    assert_eq!(advance_by(&l[1..], unknown), refused(9, 0, unknown));
+}
+
+/// Four moves of one bookmark from place 0, four from place 11, and a third one that is refused with 12, so that the fourth is too.
+#[test]
+fn known_trails() {
+    let trail = |t: &Tables, place, interval| {
+        let [s, i, h, l] = t.columns();
+        let mut lent = Bookmark { place, interval, distance: 999, ..Bookmark::default() };
+        let moves = [(); 4].map(|()| (exports::advance(16, s, i, h, l, &mut lent).number, lent.place));
+        (moves, lent)
+    };
+    let left = |place, interval, distance, moves, count| Bookmark { place, interval, distance, moves, count };
+    let mut t = example();
+    assert_eq!(trail(&t, 0, 0), ([(0, 14), (0, 6), (0, 8), (0, 0)], left(0, 0, 0, 4, 4)));
+    assert_eq!(trail(&t, 11, 4), ([(0, 3), (0, 13), (0, 5), (0, 11)], left(11, 4, 3, 4, 4)));
+    t.holders[3] = 6;
+    assert_eq!(trail(&t, 0, 0), ([(0, 14), (0, 6), (12, 6), (12, 6)], left(6, 3, 0, 2, 2)));
 }
 
 /// A fresh bookmark's moves, one by one, come to what as many moves in one call do.
@@ -125,10 +148,9 @@ fn a_bookmark_of_a_million_moves() {
     let mut walked = Bookmark { place, interval, ..Bookmark::default() };
     let mut read = 0;
     for _ in 0..1_000_000 {
-        let answer = exports::advance(list.n, s, i, h, l, walked);
+        let answer = exports::advance(list.n, s, i, h, l, &mut walked);
         assert_eq!(answer.number, 0);
         read += answer.count;
-        walked = answer.bookmark;
     }
     let whole = exports::moves(list.n, s, i, h, l, interval, place, 1_000_000);
     assert_eq!((walked.place, walked.interval, walked.distance), (whole.place, whole.interval, whole.distance));
