@@ -1,9 +1,5 @@
 // A bookmark's move as a C function on numbers and slices, for a host program in Rust or C: thin above the proved operation.
-//
-// A slice passes as pointer and length, and the bookmark as a pointer: it is moved where it lies. A caller in C owes pointers that
-// are not null, also where the length is 0, and a bookmark that overlaps nothing else. The answer is a struct by value: `number` 0
-// means done; else it is the paper's number, `place` is the place given with it, and the bookmark is as it was. specs/Answers.antt
-// says which answer each outcome is.
+// docs/BOUNDARY.md says what a caller owes and how an answer is read.
 mod answers;
 
 use bookmarks::Bookmark;
