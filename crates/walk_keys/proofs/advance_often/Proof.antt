@@ -14,8 +14,8 @@ abbrev μ-loop : tie.MeasureT-loop
 bookmark-at-requires : tie.Need-bookmark-at-requires Inv-loop μ-loop
 bookmark-at-requires c κs = search needs
 
-number-requires : tie.Need-number-requires Inv-loop μ-loop
-number-requires c κs = search needs
+entry-or-requires : tie.Need-entry-or-requires Inv-loop μ-loop
+entry-or-requires c κs = search needs
 
 advanced-requires : tie.Need-advanced-requires Inv-loop μ-loop
 advanced-requires c κs = search needs
@@ -48,7 +48,7 @@ advance-often-spec =
     Inv-loop
     μ-loop
     bookmark-at-requires
-    number-requires
+    entry-or-requires
     advanced-requires
     loop-holds
     advanced-requires-2
