@@ -14,11 +14,11 @@ use Rattle.outcomes.proofs.Searches.{first-true, first-least, first-only, any-f
 use Rattle.order.proofs.Laws.{lt-or-le}
 use Rattle.runs.proofs.Sums.{and-true}
 use Rattle.runs.specs.Legal.{Legal}
-use Rattle.runs.specs.Runs.{Runs, countOf, imageOf, imageEnd, mapOf}
+use Rattle.runs.specs.Runs.{Runs, countOf, startOf, imageOf, imageEnd, mapOf}
 use Rattle.runs.specs.Weight.{under, weight}
 use Rattle.cuts.specs.Balance.{heavy, lowestHeavy, pick, cutAt, cutting, balanced, boundOf}
 use Rattle.runs.proofs.Legality.{homes}
-use Rattle.cuts.proofs.Refine.{Refines, refines-self, refines-on, refined-legal, refined-map}
+use Rattle.cuts.proofs.Refine.{Refines, refines-self, refines-on, refined-legal, refined-map, refined-starts}
 use Rattle.cuts.proofs.Cut.{cut-count, cut-refines}
 use Rattle.cuts.proofs.Weights.{place, ample, ample-bound, ample-grows}
 
@@ -262,6 +262,10 @@ module _ (d n : ℕ) (many : 2 ≤ d) (r : Runs) (c : Legal n r) where
 
   pub balanced-map : (p : ℕ) → p < n → mapOf n (balanced d n r) p ≡ mapOf n r p
   balanced-map = refined-map n r (balanced d n r) c balanced-refines
+
+  pub balanced-starts : (x : ℕ) → x < countOf r
+      → (y : ℕ) × (y < countOf (balanced d n r)) × (startOf (balanced d n r) y ≡ startOf r x)
+  balanced-starts = refined-starts n r (balanced d n r) c balanced-refines
 
   pub balanced-light : (x : ℕ) → x < countOf (balanced d n r) → weight n (balanced d n r) x < 2 * d
   unfolding balanced

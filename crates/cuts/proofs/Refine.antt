@@ -1,6 +1,6 @@
 -- A list whose every interval is a piece of an interval of another is legal if that is, and has its function.
 use Prim.Native.Nat.{ℕ, suc, _+_, _-_, _≤_, _<_}
-use mathlib.Core.Path.{_≡_, refl, sym, _∙_}
+use mathlib.Core.Path.{_≡_, refl, sym, ap, _∙_}
 use native.Mathlib.Omega.{arith}
 use mathlib.Core.List.{map}
 use lib.ListN.{length, getD, length-map}
@@ -68,6 +68,18 @@ module _ (n : ℕ) (r q : Runs) (c : Legal n r) (f : Refines n r q) where
           let o = f .piece y l in
           map-at n q refined-homes y p l a b ∙ omega (arith, o .1)
           ∙ sym (map-at n r (homes n r c) (o .0) p (o .1 .known) (omega (arith, o .1)) (omega (arith, o .1)))
+
+  -- it has each start of the other
+  pub refined-starts : (x : ℕ) → x < countOf r → (y : ℕ) × (y < countOf q) × (startOf q y ≡ startOf r x)
+  refined-starts x h = go (home n q refined-homes (startOf r x) (c .below x h))
+    where
+      go : (y : ℕ) × (y < countOf q) × (startOf q y ≤ startOf r x) × (startOf r x < endOf n q y)
+          → (y : ℕ) × (y < countOf q) × (startOf q y ≡ startOf r x)
+      go (y, l, a, b) =
+          let o = f .piece y l in
+          let same : o .0 ≡ x = home-one n r (homes n r c) (o .0) x (startOf r x) (o .1 .known) h
+          (omega (arith, o .1)) (omega (arith, o .1)) (omega arith) (homes n r c .lasting x h) in
+          (y, l, omega (arith, ap (startOf r) same, o .1 .from))
 
   -- its images are those of its starts
   pub refined-images : q .images ≡ map (mapOf n r) (q .starts)

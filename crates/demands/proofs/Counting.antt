@@ -5,18 +5,17 @@ use mathlib.Core.Path.{_≡_, refl, sym, ap, _∙_}
 use mathlib.Core.Bool.{Bool, true, false}
 use mathlib.Core.List.{List, [], _∷_, map}
 use native.Mathlib.Omega.{arith}
-use lib.ListN.{length, length-append}
+use lib.ListN.{length, getD, drop, length-append}
 use lib.Dec.{ltb}
 use borrow.Author.Tests.{ltb-true}
 use Rattle.order.specs.Lists.{All}
 use Rattle.order.proofs.Laws.{all-append, sum-append}
 use Rattle.outcomes.specs.Outcome.{_then_else_}
-use Rattle.bookmarks.specs.Bookmark.{Marking}
-use Rattle.questions.specs.declared.Question.{Question}
 use Rattle.runs.specs.Runs.{Runs, mapOf}
-use Rattle.demands.specs.Calls.{Call, find, move, moves, total, movesIn, countOfMove, countIn, Bounded}
+use Rattle.demands.specs.Calls.{Call, find, move, moves, total, movesIn, countIn}
 use Rattle.walks.specs.Plain.{plainMove, plainMoves}
 use Rattle.demands.specs.PlainWalk.{plainWalk, movesCounts, walkCounts}
+use Rattle.demands.specs.Served.{Made, callOf, replyOf}
 use Rattle.walks.proofs.PlainMoves.{move-below, moves-below}
 
 module _ (n : ℕ) (r t : Runs) where
@@ -83,16 +82,27 @@ module _ (n b : ℕ) (r t : Runs) (below : (p : ℕ) → p < n → mapOf n r p <
   counts-most (moves m ∷ cs) p h =
       (moves-most m p h, counts-most cs (plainMoves n r t m p .place) (moves-below n r t below m p h))
 
--- the counts of a bookmark's moves
-pub bounded-total : (b : ℕ) (l : List Marking) → All (Bounded b) l
-    → total (map (λ w. countOfMove (w .answer)) l) ≤ length l * b
-bounded-total b [] a = omega arith
-bounded-total b (w ∷ l) a = omega (arith, a .0 .move, bounded-total b l (a .1))
+-- the counts of elements, if what is known of each bounds its own
+pub counts-total : {A : Type 0} (P : A → Type 0) (count : A → ℕ) (b : ℕ) → ((a : A) → P a → count a ≤ b) → (l : List A) → All P l
+    → total (map count l) ≤ length l * b
+counts-total P count b h [] a = omega arith
+counts-total P count b h (x ∷ l) a = omega (arith, h x (a .0), counts-total P count b h l (a .1))
 
--- those of questions together
-pub records-total : (b : ℕ) (l : List Question) → All (λ q. q .count ≤ b) l → total (map (λ q. q .count) l) ≤ length l * b
-records-total b [] a = omega arith
-records-total b (q ∷ l) a = omega (arith, a .0, records-total b l (a .1))
+-- each call counts at most b for each of its moves
+pub calls-most : (b : ℕ) (ms : List Made) (ls : List (List ℕ)) → map countIn (map replyOf ms) ≡ map total ls
+    → map length ls ≡ map movesIn (map callOf ms) → All (All (λ c. c ≤ b)) ls
+    → All (λ m. countIn (replyOf m) ≤ movesIn (callOf m) * b) ms
+calls-most b [] ls e f a = tt
+calls-most b (m ∷ ms) [] e f a = absurd (omega (arith, ap length e))
+calls-most b (m ∷ ms) (l ∷ ls) e f a = (
+  omega (
+    arith,
+    ap (λ (k : List ℕ). getD k 0 0) e,
+    ap (λ (k : List ℕ). getD k 0 0 * b) f,
+    sum-most b l (a .0),
+  ),
+  calls-most b ms ls (ap (drop 1) e) (ap (drop 1) f) (a .1),
+)
 
 -- so all counts together are at most b for each move
 pub all-most : (b : ℕ) (ls : List (List ℕ)) → All (All (λ c. c ≤ b)) ls → total (map total ls) ≤ total (map length ls) * b

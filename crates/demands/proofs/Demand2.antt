@@ -48,6 +48,7 @@ demand2 = record {
   split-function = split-map;
   accepted-file = file-accepted;
   own-tables = λ n r a. let l = accepted-legal n r a in through n r r (l .0) (l .0) (omega (arith, l .1)) (λ p h. refl);
+  legal-tables = λ n r c few. through n r r c c few (λ p h. refl);
   balanced-tables = λ n r d a many few. let l = accepted-legal n r a in through-balanced n r (l .0) (l .1) d many;
   move-reads = move-reads;
   bookmark-reads = marked-reads;

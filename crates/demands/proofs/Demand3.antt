@@ -13,29 +13,30 @@ use Rattle.runs.specs.Legal.{Legal}
 use Rattle.runs.specs.Check.{maxRuns}
 use Rattle.runs.proofs.Accepted.{accepted-legal}
 use Rattle.tables.specs.Tables.{tablesOf, maxIntervals}
-use Rattle.bookmarks.specs.Bookmark.{fresh}
+use Rattle.bookmarks.specs.Bookmark.{fresh, markedSays}
+use Rattle.bookmarks.specs.declared.Marked.{Marked}
 use Rattle.questions.specs.Questions.{answeredSays, placesOf, recordsAfter, Answers}
 use Rattle.questions.specs.Plain.{plainAnswers, plainQuestion}
 use Rattle.questions.specs.declared.Question.{Question}
 use Rattle.questions.specs.declared.Answered.{Answered}
 use Rattle.questions.proofs.LegalQuestions.{plain-counts}
 use Rattle.walks.proofs.LegalTables.{legal-find-beyond}
-use Rattle.walks.specs.Move.{findOf}
+use Rattle.walks.specs.Move.{movedSays, findOf}
 use Rattle.cuts.specs.Balance.{balanced}
 use Rattle.balance.proofs.Heads.{answer-is, head-is}
 use Rattle.balance.specs.Lent.{Room}
 use Rattle.balance.proofs.Outcomes.{balance-done, room-in-bound}
-use Rattle.cuts.proofs.Balancing.{balanced-legal, balanced-map, balanced-light, balanced-unlimited, balanced-count}
-use Rattle.demands.specs.Calls.{Call, total, countIn, allMoves, allCounts, Bounded}
+use Rattle.cuts.proofs.Balancing.{balanced-legal, balanced-map, balanced-starts, balanced-light, balanced-unlimited, balanced-count}
+use Rattle.demands.specs.Calls.{Call, total, countOfMove, countIn, allMoves, allCounts, Bounded}
 use Rattle.walks.specs.Plain.{maxCount, plainMove}
 use Rattle.walks.proofs.LegalCounts.{count-most}
 use Rattle.demands.specs.PlainWalk.{walkCounts}
-use Rattle.demands.specs.Served.{served, callOf, replyOf, servedTrail}
+use Rattle.demands.specs.Served.{served, callOf, replyOf, servedTrail, Advancing}
 use Rattle.demands.specs.Demands.{Through, Serves, BalancesFor, Demand3}
 use Rattle.demands.proofs.Demand2.{balanced-few, through-balanced}
-use Rattle.demands.proofs.Serving.{same-replies, calling-served}
-use Rattle.demands.proofs.Counting.{counts-length, counts-sum, counts-most, bounded-total, records-total, all-most}
-use Rattle.demands.proofs.Marking.{fresh-stands, trail-length, trail-bounds, advance-bounds, advancing-served}
+use Rattle.demands.proofs.Serving.{same-replies, turns-served}
+use Rattle.demands.proofs.Counting.{counts-length, counts-sum, counts-most, counts-total, calls-most, all-most}
+use Rattle.demands.proofs.Marking.{fresh-stands, trail-length, trail-bounds, advance-bounds}
 
 module _ (n : ℕ) (r : Runs) (d : ℕ) (c : Legal n r) (k : countOf r ≤ maxRuns) (many : 2 ≤ d) (few : d ≤ 64) where
   abbrev t : Runs
@@ -81,13 +82,21 @@ module _ (n : ℕ) (r : Runs) (d : ℕ) (c : Legal n r) (k : countOf r ≤ maxRu
       λ p h cs. rw (replied p h cs, ← counts-length n r t cs p) (all-most b (walkCounts n r t p cs) (each p h cs)) in
       let trails : (p g : ℕ) → p < n → (m : ℕ) → All (Bounded b) (servedTrail n (tablesOf n t) m (fresh p (runAt n t p) g)) =
       λ p g h m. trail-bounds n b r t (tablesOf n t) (walks .move) (walks .inside) most small m _ (fresh-stands n b r t p g h) in
+      let advanced : (p g : ℕ) → p < n → (ms : List Marked) → Advancing n (tablesOf n t) (fresh p (runAt n t p) g) ms
+      → All (λ m. Bounded b (markedSays m)) ms =
+      λ p g h ms a. advance-bounds n b r t (tablesOf n t) (walks .move) (walks .inside) most small ms _ (fresh-stands n b r t p g h) a in
       record {
         filled = refl;
         same-permutation = balanced-map d n many r c;
+        cuts-only = balanced-starts d n many r c;
         light = balanced-light d n many r c;
         unlimited = balanced-unlimited d n many r c;
-        same-calls = λ p h ms a. calling-served n (tablesOf n t) ms p (runAt n t p) a ∙ replies _ p h;
-        call-total = λ p h ms a. rw (calling-served n (tablesOf n t) ms p (runAt n t p) a) (all-total p h (map callOf ms));
+        same-calls = λ p h ms a. turns-served n (tablesOf n t) ms p (runAt n t p) a ∙ replies _ p h;
+        call-bounds = λ p h ms a.
+            calls-most b ms (walkCounts n r t p (map callOf ms))
+            (ap (map countIn) (turns-served n (tablesOf n t) ms p (runAt n t p) a) ∙ replied p h (map callOf ms))
+            (counts-length n r t (map callOf ms) p) (each p h (map callOf ms));
+        call-total = λ p h ms a. rw (turns-served n (tablesOf n t) ms p (runAt n t p) a) (all-total p h (map callOf ms));
         same-replies = λ p h cs. replies cs p h;
         move-counts = λ p h cs. counts-length n r t cs p;
         reply-counts = replied;
@@ -99,15 +108,16 @@ module _ (n : ℕ) (r : Runs) (d : ℕ) (c : Legal n r) (k : countOf r ≤ maxRu
             let w = fresh p (runAt n t p) g in
             omega (
               arith,
-              bounded-total b (servedTrail n (tablesOf n t) m w) (trails p g h m),
+              counts-total (Bounded b) (λ w. countOfMove (w .answer)) b (λ w k. k .move) (servedTrail n (tablesOf n t) m w) (trails p g h m),
               ap (λ (k : ℕ). k * b) (trail-length n (tablesOf n t) m w),
             );
-        same-advances = λ p g h ms a. advancing-served n (tablesOf n t) ms _ a ∙ walks .trail (length ms) p g h;
-        advance-bounds = λ p g h ms a.
-            advance-bounds n b r t (tablesOf n t) (walks .move) (walks .inside) most small ms _ (fresh-stands n b r t p g h) a;
+        same-advances = walks .advances;
+        advance-bounds = advanced;
+        advance-total = λ p g h ms a.
+            counts-total (λ m. Bounded b (markedSays m)) (λ m. countOfMove (movedSays (m .moved))) b (λ m k. k .move) ms (advanced p g h ms a);
         same-questions = told;
         question-bounds = told-most;
-        question-total = λ qs a left w c e. records-total b left (told-most qs a left w c e);
+        question-total = λ qs a left w c e. counts-total (λ q. q .count ≤ b) (λ q. q .count) b (λ q k. k) left (told-most qs a left w c e);
       }
 
 pub demand3 : Demand3

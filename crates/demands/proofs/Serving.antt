@@ -16,7 +16,7 @@ use Rattle.demands.specs.Calls.{Call, find, move, moves, Reply, found, m
 use Rattle.walks.specs.Plain.{plainMove, plainMoves}
 use Rattle.walks.proofs.PlainMoves.{moves-interval, moves-below}
 use Rattle.demands.specs.PlainWalk.{plainFind, plainWalk}
-use Rattle.demands.specs.Served.{served, placeAfter, intervalAfter, placeFound, intervalFound, Made, findMade, moveMade, movesMade, callOf, replyOf, Calling}
+use Rattle.demands.specs.Served.{served, placeAfter, intervalAfter, placeFound, intervalFound, Made, findMade, moveMade, movesMade, callOf, replyOf, InTurn}
 
 pub find-below : (n : ℕ) (r t : Runs) (i : ℕ) → i < n → plainFind n r t i ≡ done (runAt n t i)
 unfolding plainFind judge
@@ -67,12 +67,12 @@ moved-next n t p x a ms rest e =
     ∙ ap (λ (o : Outcome Step). moved o ∷ served n t (placeAfter o p) (intervalAfter o x) (map callOf ms)) e
 
 -- calls that meet their contracts are the calls served
-pub calling-served : (n : ℕ) (t : Tables) (ms : List Made) (p x : ℕ) → Calling n t p x ms
+pub turns-served : (n : ℕ) (t : Tables) (ms : List Made) (p x : ℕ) → InTurn n t p x ms
     → map replyOf ms ≡ served n t p x (map callOf ms)
 unfolding served
-calling-served n t [] p x c = refl
-calling-served n t (findMade i a ∷ ms) p x c =
-    ap (λ (l : List Reply). found (foundSays a) ∷ l) (calling-served n t ms _ _ (c .1))
+turns-served n t [] p x c = refl
+turns-served n t (findMade i a ∷ ms) p x c =
+    ap (λ (l : List Reply). found (foundSays a) ∷ l) (turns-served n t ms _ _ (c .1))
     ∙ ap (λ (o : Outcome ℕ). found o ∷ served n t (placeFound o i p) (intervalFound o x) (map callOf ms)) (c .0)
-calling-served n t (moveMade a ∷ ms) p x c = moved-next n t p x a ms (calling-served n t ms _ _ (c .1)) (c .0)
-calling-served n t (movesMade m a ∷ ms) p x c = moved-next n t p x a ms (calling-served n t ms _ _ (c .1)) (c .0)
+turns-served n t (moveMade a ∷ ms) p x c = moved-next n t p x a ms (turns-served n t ms _ _ (c .1)) (c .0)
+turns-served n t (movesMade m a ∷ ms) p x c = moved-next n t p x a ms (turns-served n t ms _ _ (c .1)) (c .0)

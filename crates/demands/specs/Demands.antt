@@ -11,15 +11,15 @@ use lib.ListN.{length, replicate}
 use Rattle.order.specs.Lists.{All, Strict}
 use Rattle.outcomes.specs.Outcome.{done, refused, anyShort, Long, over}
 use Rattle.outcomes.specs.Refusal.{checkedSays}
-use Rattle.runs.specs.Runs.{Runs, countOf, runAt, mapOf, powerOf, carryBack}
-use Rattle.runs.specs.Legal.{DisjointIntervals, IntervalSequence, SplitPermutation}
+use Rattle.runs.specs.Runs.{Runs, countOf, startOf, runAt, mapOf, powerOf, carryBack}
+use Rattle.runs.specs.Legal.{Legal, DisjointIntervals, IntervalSequence, SplitPermutation}
 use Rattle.runs.specs.Weight.{under, weight}
 use Rattle.runs.specs.Check.{maxRuns, checkTests, checkOf, writeTests}
 use Rattle.lists.specs.Inverse.{inverseRuns, inverseListOf, InverseListed}
 use Rattle.outcomes.specs.declared.Checked.{Checked}
 use Rattle.permutations.specs.Next.{nextTests, nextRuns, nextOf, nextSays, NextListed}
 use Rattle.permutations.specs.declared.Next.{Next}
-use Rattle.tables.specs.Tables.{Tables, sizeOf, linksOf, lengthsOf, tablesOf, allColumns, misshapen, wrongAt, allLengths}
+use Rattle.tables.specs.Tables.{Tables, sizeOf, linksOf, lengthsOf, tablesOf, maxIntervals, allColumns, misshapen, wrongAt, allLengths}
 use Rattle.tables.specs.Parts.{Measured}
 use Rattle.walks.specs.Move.{movedSays, findTests, locateTests, moveTests, foundAt, stepOf, stayAt, findOf, moveOf, movesOf, Stopped, ReadsTo, LiesIn}
 use Rattle.preimages.specs.Inverse.{sourceOf, inverseTests, inverseOf}
@@ -53,7 +53,7 @@ use Rattle.demands.specs.Judged.{Judged}
 use Rattle.demands.specs.Calls.{Call, total, movesIn, allMoves, countOfMove, countIn, allCounts, Bounded}
 use Rattle.walks.specs.Plain.{maxCount, plainMove, plainMoves}
 use Rattle.demands.specs.PlainWalk.{plainWalk, walkCounts, plainTrail, standing}
-use Rattle.demands.specs.Served.{served, Made, callOf, replyOf, Calling, servedTrail, Advancing}
+use Rattle.demands.specs.Served.{served, Made, callOf, replyOf, InTurn, servedTrail, Advancing}
 
 -- DEMAND 1. Whatever numbers stand in a list, a file, tables, a bookmark or questions, a call does its work or gives the
 -- number of the first condition that applies, in an order that is fixed; and a refused call leaves all that was lent as it
@@ -167,10 +167,12 @@ pub record Through (n : ℕ) (r t : Runs) : Type 0 where
   pub bookmark : (p g m c : ℕ) → p < n → m + 1 < 2 ^ 32 → c + plainMove n r t p .count < 2 ^ 64
       → markingOf n (tablesOf n t) (withDistance g (standing n r t p m c))
       ≡ marking (done (plainMove n r t p)) (standing n r t (mapOf n r p) (m + 1) (c + plainMove n r t p .count))
-  -- m moves of one that is fresh at p, with any distance g: each answer, and the bookmark after it. The last of m + 1 leads from the
-  -- place of the function's m-th power to that of the next, as long as the counter of moves has room: the counter of starts then
-  -- has room too.
+  -- m moves of one that is fresh at p, with any distance g: each answer, and the bookmark after it; the same of calls of `advance` by
+  -- their contract. The last of m + 1 leads from the place that m moves reach to the next, as long as the counter of moves has room.
+  -- The counter of starts then has room too.
   pub trail : (m p g : ℕ) → p < n → servedTrail n (tablesOf n t) m (fresh p (runAt n t p) g) ≡ plainTrail n r t m p 0 0
+  pub advances : (p g : ℕ) → p < n → (ms : List Marked) → Advancing n (tablesOf n t) (fresh p (runAt n t p) g) ms
+      → map markedSays ms ≡ plainTrail n r t (length ms) p 0 0
   pub trail-end : (m p : ℕ) → suc m < 2 ^ 32
       → plainTrail n r t (suc m) p 0 0
       ≡ plainTrail n r t m p 0 0
@@ -203,6 +205,8 @@ pub record Demand2 : Type 0 where
   -- a file is accepted if and only if its header, its list and its degree are right; its header is then given
   pub accepted-file : (bytes : List ℕ) (h : Header) → (fileOf maxRuns bytes ≡ done h) ↔ ((h ≡ headerOf bytes) × RightFile bytes)
   pub own-tables : (n : ℕ) (r : Runs) → checkOf n r ≡ done tt → Through n r r
+  -- so it is of each legal list whose tables pass 9, which has up to 32,768 runs
+  pub legal-tables : (n : ℕ) (r : Runs) → Legal n r → countOf r ≤ maxIntervals → Through n r r
   pub balanced-tables : (n : ℕ) (r : Runs) (d : ℕ) → checkOf n r ≡ done tt → 2 ≤ d → d ≤ 64 → Through n r (balanced d n r)
   -- The count that a move answers, on any tables: the index of the interval reached minus the holder, which is not above it, and one
   -- more unless that interval is the table's last. So it is for a bookmark, which adds it to its own, and for a question's record; a
@@ -274,15 +278,19 @@ pub record Serves (n : ℕ) (r t : Runs) (d : ℕ) (τ : Tables) : Type 0 where
   -- they are the tables of t, so that all of demand 2 holds through them, and t has the permutation of r
   pub filled : τ ≡ tablesOf n t
   pub same-permutation : (p : ℕ) → p < n → mapOf n (τ .links .list) p ≡ mapOf n r p
+  -- balancing cuts runs: each start of r is a start of t
+  pub cuts-only : (x : ℕ) → x < countOf r → (y : ℕ) × (y < countOf t) × (startOf t y ≡ startOf r x)
   -- "While one is heavy": at the end none is, which is the first bound of theorem 1 in source document 001. No limit on the number of
   -- cuts has ended them: with any higher one the list is the same.
   pub light : (x : ℕ) → x < countOf t → weight n t x < 2 * d
   pub unlimited : (cuts : ℕ) → countOf r ≤ cuts → cutting cuts d n r ≡ t
-  -- One claim about the whole list of calls, each of which meets its contract: the answers are the plain walk's. Together they count at
-  -- most 2d for each move.
-  pub same-calls : (p : ℕ) → p < n → (ms : List Made) → Calling n τ p (runAt n t p) ms
+  -- One claim about the whole list of calls, each of which meets its contract: the answers are the plain walk's. A call counts at most
+  -- 2d for each of its moves, and so do all together.
+  pub same-calls : (p : ℕ) → p < n → (ms : List Made) → InTurn n τ p (runAt n t p) ms
       → map replyOf ms ≡ plainWalk n r t p (map callOf ms)
-  pub call-total : (p : ℕ) → p < n → (ms : List Made) → Calling n τ p (runAt n t p) ms
+  pub call-bounds : (p : ℕ) → p < n → (ms : List Made) → InTurn n τ p (runAt n t p) ms
+      → All (λ m. countIn (replyOf m) ≤ movesIn (callOf m) * maxCount d) ms
+  pub call-total : (p : ℕ) → p < n → (ms : List Made) → InTurn n τ p (runAt n t p) ms
       → allCounts (map replyOf ms) ≤ allMoves (map callOf ms) * maxCount d
   -- the same claim over the definitions that these contracts cite
   pub same-replies : (p : ℕ) → p < n → (cs : List Call) → served n τ p (runAt n t p) cs ≡ plainWalk n r t p cs
@@ -303,6 +311,8 @@ pub record Serves (n : ℕ) (r t : Runs) (d : ℕ) (τ : Tables) : Type 0 where
       → map markedSays ms ≡ plainTrail n r t (length ms) p 0 0
   pub advance-bounds : (p g : ℕ) → p < n → (ms : List Marked) → Advancing n τ (fresh p (runAt n t p) g) ms
       → All (λ m. Bounded (maxCount d) (markedSays m)) ms
+  pub advance-total : (p g : ℕ) → p < n → (ms : List Marked) → Advancing n τ (fresh p (runAt n t p) g) ms
+      → total (map (λ m. countOfMove (movedSays (m .moved))) ms) ≤ length ms * maxCount d
   -- Questions together, over the contract of `answer` and for any records: the answer, and each record as the plain walk's find
   -- and move would fill it in. Where they are answered, the count of each record, and all of them together.
   pub same-questions : (qs : List Question) (a : Answered) (left : List Question) → Answers n τ qs a left

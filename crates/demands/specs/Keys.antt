@@ -66,13 +66,14 @@ markingRow m =
     let b = m .bookmark in
     movedRow (m .answer) ++ (b .place ∷ b .interval ∷ b .distance ∷ b .moves ∷ b .count ∷ [])
 
+-- the moves of a bookmark, one after the other
 abbrev pub trailRow : List Marking → List ℕ
 trailRow [] = []
 trailRow (m ∷ ms) = markingRow m ++ trailRow ms
 
 -- a bookmark at place p of interval x, with distance g, whose m moves have read c starts
-abbrev pub kept : ℕ → ℕ → ℕ → ℕ → ℕ → Bookmark
-kept p x g m c = record { place = p; interval = x; distance = g; moves = m; count = c }
+abbrev pub bookmarkAt : ℕ → ℕ → ℕ → ℕ → ℕ → Bookmark
+bookmarkAt p x g m c = record { place = p; interval = x; distance = g; moves = m; count = c }
 
 -- records that ask about these places, with another number in the fields to be filled in; the answer, and what it leaves
 abbrev pub asked : ℕ → Question
@@ -246,10 +247,10 @@ keys =
     -- four moves
     (markingRow (markingOf 16 listedTables (fresh 11 4 999)) is 0 ∷ 3 ∷ 1 ∷ 1 ∷ 2 ∷ 3 ∷ 1 ∷ 1 ∷ 1 ∷ 2 ∷ []) ∷
     (markingRow (markingOf 16 listedTables (fresh 0 0 999)) is 0 ∷ 14 ∷ 5 ∷ 2 ∷ 0 ∷ 14 ∷ 5 ∷ 2 ∷ 1 ∷ 0 ∷ []) ∷
-    (markingRow (markingOf 16 listedTables (kept 11 4 999 4294967295 0)) is 13 ∷ 0 ∷ 11 ∷ 4 ∷ 999 ∷ 4294967295 ∷ 0 ∷ []) ∷
-    (markingRow (markingOf 16 listedTables (kept 11 4 999 3 18446744073709551614)) is
+    (markingRow (markingOf 16 listedTables (bookmarkAt 11 4 999 4294967295 0)) is 13 ∷ 0 ∷ 11 ∷ 4 ∷ 999 ∷ 4294967295 ∷ 0 ∷ []) ∷
+    (markingRow (markingOf 16 listedTables (bookmarkAt 11 4 999 3 18446744073709551614)) is
     13 ∷ 0 ∷ 11 ∷ 4 ∷ 999 ∷ 3 ∷ 18446744073709551614 ∷ []) ∷
-    (markingRow (markingOf 16 listedTables (kept 11 4 999 3 18446744073709551613)) is
+    (markingRow (markingOf 16 listedTables (bookmarkAt 11 4 999 3 18446744073709551613)) is
     0 ∷ 3 ∷ 1 ∷ 1 ∷ 2 ∷ 3 ∷ 1 ∷ 1 ∷ 4 ∷ 18446744073709551615 ∷ []) ∷
     (trailRow (servedTrail 16 listedTables 4 (fresh 11 4 999)) is
     0 ∷ 3 ∷ 1 ∷ 1 ∷ 2 ∷ 3 ∷ 1 ∷ 1 ∷ 1 ∷ 2 ∷ 0 ∷ 13 ∷ 5 ∷ 1 ∷ 0 ∷ 13 ∷ 5 ∷ 1 ∷ 2 ∷ 2 ∷

@@ -1,10 +1,9 @@
 -- The same calls served by tables, each from where the one before left off.
 use Prim.Native.Nat.{ℕ, zero, suc}
 use mathlib.Core.List.{List, [], _∷_}
-use mathlib.Core.Path.{_≡_}
 use Rattle.outcomes.specs.Outcome.{Outcome, done, refused}
 use Rattle.tables.specs.Tables.{Tables}
-use Rattle.walks.specs.Move.{foundSays, movedSays, findOf, moveOf, movesOf}
+use Rattle.walks.specs.Move.{foundSays, movedSays, findOf, moveOf, movesOf, Finds, MovesOnce, MovesOften}
 use Rattle.walks.specs.declared.Found.{Found}
 use Rattle.walks.specs.declared.Moved.{Moved}
 use Rattle.bookmarks.specs.Bookmark.{Advances, Marking, markingOf}
@@ -58,16 +57,16 @@ module _ (n : ℕ) (t : Tables) where
   served p x (moves m ∷ cs) =
       let a = movesOf n t m x p in moved a ∷ served (placeAfter a p) (intervalAfter a x) cs
 
-  -- Calls of `find`, `move_query` and `repeated_moves`: each meets its contract, at the place and the interval that the one before
-  -- left. Nobody writes the tables meanwhile.
-  abbrev pub Calling : ℕ → ℕ → List Made → Type 0
-  Calling p x [] = Unit {0}
-  Calling p x (findMade i a ∷ ms) =
-      (foundSays a ≡ findOf n t i) × Calling (placeFound (foundSays a) i p) (intervalFound (foundSays a) x) ms
-  Calling p x (moveMade a ∷ ms) =
-      (movedSays a ≡ moveOf n t x p) × Calling (placeAfter (movedSays a) p) (intervalAfter (movedSays a) x) ms
-  Calling p x (movesMade m a ∷ ms) =
-      (movedSays a ≡ movesOf n t m x p) × Calling (placeAfter (movedSays a) p) (intervalAfter (movedSays a) x) ms
+  -- Calls of `find`, `move_query` and `repeated_moves` in turn: each meets its contract, at the place and the interval that the one
+  -- before left. Nobody writes the tables meanwhile.
+  abbrev pub InTurn : ℕ → ℕ → List Made → Type 0
+  InTurn p x [] = Unit {0}
+  InTurn p x (findMade i a ∷ ms) =
+      Finds n t i a × InTurn (placeFound (foundSays a) i p) (intervalFound (foundSays a) x) ms
+  InTurn p x (moveMade a ∷ ms) =
+      MovesOnce n t x p a × InTurn (placeAfter (movedSays a) p) (intervalAfter (movedSays a) x) ms
+  InTurn p x (movesMade m a ∷ ms) =
+      MovesOften n t m x p a × InTurn (placeAfter (movedSays a) p) (intervalAfter (movedSays a) x) ms
 
   -- the moves of a bookmark stand in a list of their own: k of them
   unfoldable pub servedTrail : ℕ → Bookmark → List Marking

@@ -1,5 +1,5 @@
 -- The listing (document 01, "The file and the listing").
-use Prim.Native.Nat.{ℕ, _≤_}
+use Prim.Native.Nat.{ℕ, _+_, _*_, _≤_}
 use mathlib.Core.Path.{_≡_}
 use mathlib.Core.List.{List, [], _∷_, _++_}
 use lib.ListN.{length, take, drop}
@@ -52,10 +52,10 @@ pub record FileListed (bytes text text′ : List ℕ) (count : ℕ) : Type 0 whe
   pub counts : count ≡ (ltb (length text) (length (listingOf bytes)) then 0 else length (listingOf bytes))
   pub text-at-exit : text′ ≡ (ltb (length text) (length (listingOf bytes)) then text else listingOf bytes ++ drop (length (listingOf bytes)) text)
 
--- What is promised of a listing beside that: of a file that has more bytes than 1,024 runs take, which are 20 + 8 × 1,024, the first
--- 8,213 decide. So a program need not read on. Proved in proofs/Longer.
+-- What is promised of a listing beside that: of a file longer than 20 + 8 × 1,024 bytes, which 1,024 runs take, only the first 8,213
+-- matter. So a program need not read on. Proved in proofs/Longer.
 abbrev pub decidingBytes : ℕ
-decidingBytes = 8213
+decidingBytes = 21 + 8 * maxListed
 
 abbrev pub FirstBytesDecide : Type 0
 FirstBytesDecide = (bytes : List ℕ) → decidingBytes ≤ length bytes → listingOf bytes ≡ listingOf (take decidingBytes bytes)

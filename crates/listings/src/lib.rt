@@ -33,7 +33,7 @@ const MAX_TABLED: usize = 2048;
 // No listing has more bytes.
 pub const MAX_TEXT: usize = 137260;
 
-// No file that is listed has so many bytes: of a longer one so many first bytes decide (proofs/Longer).
+// No file that is listed has so many bytes: of a longer one so many first bytes decide (specs/Listing).
 pub const DECIDING_BYTES: usize = 8213;
 
 // Writes the line of a refusal at the page's start.

@@ -1,5 +1,5 @@
 -- What is promised of legal lists, gathered from the laws of runs and of this crate.
-use Prim.Native.Nat.{ℕ, zero, suc, _+_}
+use Prim.Native.Nat.{ℕ, zero, suc, _+_, _<_}
 use mathlib.Core.Path.{_≡_, refl, sym, ap, _∙_}
 use mathlib.Core.List.{List, [], _∷_}
 use native.Mathlib.Omega.{arith}
@@ -10,15 +10,16 @@ use Rattle.outcomes.specs.Outcome.{Outcome, done, refused, judge, mapDone, andT
 use Rattle.outcomes.specs.Refusal.{checkedSays}
 use Rattle.outcomes.specs.declared.Checked.{Checked}
 use Rattle.outcomes.proofs.Judging.{done-refused, judge-append, judge-done}
-use Rattle.runs.specs.Runs.{Runs, runs, countOf, lengthOf}
+use Rattle.runs.specs.Runs.{Runs, runs, countOf, startOf, imageOf, lengthOf}
 use Rattle.runs.specs.Legal.{Legal}
 use Rattle.runs.specs.Check.{unmatched, unordered, outOfRange, overlap, overlaps, listTests, testsUpTo, checkTests, checkOf}
 use Rattle.runs.proofs.Sums.{sumTo, sum-same}
 use Rattle.runs.proofs.Legality.{homes, map-at, length-sum, land}
 use Rattle.runs.proofs.Accepted.{accepted-legal, legal-accepted}
+use Rattle.runs.proofs.Ranking.{ranked-occurs}
 use Rattle.lists.specs.Inverse.{inverseRuns, inverseListOf, InverseListed}
 use Rattle.lists.specs.LegalLists.{LegalLists}
-use Rattle.lists.proofs.Inversion.{inverse-count, inverse-paired, inverse-legal, inverse-after, inverse-before, inverse-twice}
+use Rattle.lists.proofs.Inversion.{inverse-count, inverse-paired, inverse-start, inverse-image, inverse-legal, inverse-after, inverse-before, inverse-twice}
 use Rattle.lists.proofs.Shifting.{shift-range}
 
 -- a sum over indexes is one over their list
@@ -45,6 +46,17 @@ accepted-down = refl
 accepted-up : checkOf 4294967295 up ≡ done tt
 unfolding testsUpTo listTests unmatched unordered outOfRange overlaps overlap judge
 accepted-up = refl
+
+-- run x stands in the inverse list at its place in the order by image
+swapped : (n : ℕ) (r : Runs) → Legal n r → (x : ℕ) → x < countOf r
+    → (y : ℕ) × (y < countOf (inverseRuns r)) × (startOf (inverseRuns r) y ≡ imageOf r x) × (imageOf (inverseRuns r) y ≡ startOf r x)
+swapped n r c x h =
+    let t = ranked-occurs r (c .paired) x h in (
+      t .0,
+      omega (arith, t .1, inverse-count r (c .paired)),
+      inverse-start r (c .paired) (t .0) (t .1) ∙ ap (imageOf r) (t .2),
+      inverse-image r (c .paired) (t .0) (t .1) ∙ ap (startOf r) (t .2),
+    )
 
 -- what is written is the inverse list, of a list that is accepted
 inverse-done : (n : ℕ) (r : Runs) (a b : List ℕ) (q : Runs) → inverseListOf n r a b ≡ done q
@@ -91,6 +103,7 @@ legal-lists = record {
   shifts = shift-range;
   lowest-shift = (down, accepted-legal 4294967295 down accepted-down .0, 1, omega arith, refl);
   highest-shift = (up, accepted-legal 4294967295 up accepted-up .0, 0, omega arith, refl);
+  inverse-swaps = swapped;
   inverse-legal = λ n r c. (inverse-legal n r c, inverse-count r (c .paired));
   inverse-after = inverse-after;
   inverse-before = inverse-before;

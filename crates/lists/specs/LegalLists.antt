@@ -1,4 +1,4 @@
--- All that is promised of legal lists beside the demands (document 01, "The collection's objects", and what "Balancing" says of the
+-- What is promised of legal lists beside the demands (document 01, "The collection's objects", and what "Balancing" says of the
 -- inverse list). Proved in proofs/LegalLists.
 use Prim.Native.Nat.{ℕ, _+_, _-_, _^_, _≤_, _<_}
 use mathlib.Core.Path.{_≡_}
@@ -30,8 +30,11 @@ pub record LegalLists : Type 0 where
   pub shifts : (n : ℕ) (r : Runs) → Legal n r → n < 2 ^ 32 → (x : ℕ) → x < countOf r → natAbs (shiftOf r x) ≤ 4294967294
   pub lowest-shift : (r : Runs) × Legal 4294967295 r × (x : ℕ) × (x < countOf r) × (shiftOf r x ≡ negsuc 4294967293)
   pub highest-shift : (r : Runs) × Legal 4294967295 r × (x : ℕ) × (x < countOf r) × (shiftOf r x ≡ pos 4294967294)
-  -- the inverse list is legal and has as many runs; its function is the inverse, on either side; and its own inverse is the list
+  -- the inverse list has each run with start and image exchanged, and is legal, so that it stands in rising order of the old images
+  pub inverse-swaps : (n : ℕ) (r : Runs) → Legal n r → (x : ℕ) → x < countOf r
+      → (y : ℕ) × (y < countOf (inverseRuns r)) × (startOf (inverseRuns r) y ≡ imageOf r x) × (imageOf (inverseRuns r) y ≡ startOf r x)
   pub inverse-legal : (n : ℕ) (r : Runs) → Legal n r → Legal n (inverseRuns r) × (countOf (inverseRuns r) ≡ countOf r)
+  -- its function is the inverse, on either side; and its own inverse is the list
   pub inverse-after : (n : ℕ) (r : Runs) → Legal n r → (p : ℕ) → p < n → mapOf n (inverseRuns r) (mapOf n r p) ≡ p
   pub inverse-before : (n : ℕ) (r : Runs) → Legal n r → (q : ℕ) → q < n → mapOf n r (mapOf n (inverseRuns r) q) ≡ q
   pub inverse-twice : (n : ℕ) (r : Runs) → Legal n r → inverseRuns (inverseRuns r) ≡ r

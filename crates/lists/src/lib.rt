@@ -5,9 +5,8 @@ mod inverse;
 
 use outcomes::Checked;
 ghost use mathlib.Core.Path.{_≡_};
-ghost use lib.IntN.{subℕ};
 ghost use Rattle.outcomes.specs.Refusal.{checkedSays};
-ghost use Rattle.runs.specs.Runs.{runs};
+ghost use Rattle.runs.specs.Runs.{runs, shiftFrom};
 ghost use Rattle.runs.specs.Check.{checkOf};
 ghost use Rattle.runs.specs.Parts.{HoldsRuns};
 ghost use Rattle.lists.specs.Inverse.{InverseListed};
@@ -146,7 +145,7 @@ pub fn inverse_list(
 
 // The shift of a run, its image minus its start.
 pub fn shift(start: u32, image: u32) -> i64
-    ensures { λ r. ⌜ r ≡ subℕ image start ⌝ }
+    ensures { λ r. ⌜ r ≡ shiftFrom start image ⌝ }
 {
     image as i64 - start as i64
 }

@@ -1,6 +1,6 @@
--- A legal list as document 01 has it, and the three published forms that it names: the disjoint interval sequence in the words of
--- source document 002 and in those of Nishimoto and Tabei, and the split permutation of source document 001. That all four agree is
--- proved (proofs/Intervals, proofs/Sequences, and folds/proofs/Splitting).
+-- A legal list as document 01 has it, and the three published forms that the papers name: the disjoint interval sequence in the words
+-- of source document 002 and in those of Nishimoto and Tabei, and the split permutation of source document 001. That all four agree
+-- is proved (proofs/Intervals, proofs/Sequences, and folds/proofs/Splitting).
 use Prim.Native.Nat.{ℕ, suc, _+_, _≤_, _<_}
 use mathlib.Core.Path.{_≡_}
 use mathlib.Core.Logic.{_⊎_, _≢_}
@@ -53,9 +53,9 @@ pub record IntervalSequence (n : ℕ) (r : Runs) : Type 0 where
   pub from : imageOf r (order 0) ≡ 0
   pub next : (j : ℕ) → suc j < countOf r → imageOf r (order (suc j)) ≡ imageOf r (order j) + lengthOf n r (order j)
 
--- Source 001: π is a permutation of the n places. The starts are some of them, among these 0 and every place whose value is not one
--- above the value of the place before. The images are the values at the starts. That n is at least 1 and that the starts stand in
--- rising order is document 01's.
+-- Source 001: π is a permutation of the n places. The starts are some of these places, which have 0 among them and every place whose
+-- value is not one above the value of the place before; the images are the values at the starts. In the source's theorem 1 they are
+-- P′ and Q′. That they stand in two lists of one length, the starts in rising order, is document 01's.
 pub record SplitPermutation (n : ℕ) (π : ℕ → ℕ) (r : Runs) : Type 0 where
   pub inside : (p : ℕ) → p < n → π p < n
   pub one-to-one : (p q : ℕ) → p < n → q < n → π p ≡ π q → p ≡ q

@@ -37,8 +37,11 @@ abbrev pub imageEnd : ℕ → Runs → ℕ → ℕ
 imageEnd n r x = imageOf r x + lengthOf n r x
 
 -- the shift of a run, how far it takes its places: its image minus its start, an integer
+abbrev pub shiftFrom : ℕ → ℕ → ℤ
+shiftFrom start image = subℕ image start
+
 abbrev pub shiftOf : Runs → ℕ → ℤ
-shiftOf r x = subℕ (imageOf r x) (startOf r x)
+shiftOf r x = shiftFrom (startOf r x) (imageOf r x)
 
 -- whether run x has place p, and the run that has p
 abbrev pub has : ℕ → Runs → ℕ → ℕ → Bool

@@ -106,6 +106,16 @@ unfoldable pub movesOf : ℕ → Tables → ℕ → ℕ → ℕ → Outcome Step
 movesOf n t zero x i = judge (locateTests n t x i) (stayAt (t .links .list .starts) x i)
 movesOf n t (suc m) x i = andThen (movesOf n t m x i) (onwards n t)
 
+-- what `find`, `move_query` and `repeated_moves` promise of their answers
+abbrev pub Finds : ℕ → Tables → ℕ → Found → Type 0
+Finds n t i r = foundSays r ≡ findOf n t i
+
+abbrev pub MovesOnce : ℕ → Tables → ℕ → ℕ → Moved → Type 0
+MovesOnce n t x i r = movedSays r ≡ moveOf n t x i
+
+abbrev pub MovesOften : ℕ → Tables → ℕ → ℕ → ℕ → Moved → Type 0
+MovesOften n t m x i r = movedSays r ≡ movesOf n t m x i
+
 -- Where a repeated move stopped on the way: after fewer moves than it was asked for, it stood in an interval that it
 -- could not leave. It gives 12 and that interval, and no part of what it had walked.
 pub record Stopped (n : ℕ) (t : Tables) (m x i number place : ℕ) : Type 0 where

@@ -12,7 +12,7 @@ ghost use mathlib.Core.Path.{_≡_};
 ghost use Prim.Native.Nat.{_+_, _≤_, _<_};
 ghost use lib.ListN.{length};
 ghost use Rattle.tables.specs.Tables.{links, tables, maxIntervals};
-ghost use Rattle.walks.specs.Move.{foundSays, movedSays, passed, unfindable, findOf, moveOf, movesOf, stepOf};
+ghost use Rattle.walks.specs.Move.{passed, unfindable, stepOf, Finds, MovesOnce, MovesOften};
 ghost use Rattle.walks.specs.Parts.{Movable};
 
 // Where a move or a repeated move ends: the place, the interval that has it and the place's distance from the interval's
@@ -44,7 +44,7 @@ pub fn find(
     lengths: &[u32],
     i: u32,
 ) -> Found
-    ensures { λ r. ⌜ foundSays r ≡ findOf n (tables (now (starts .entry)) (now (images .entry)) (now (holders .entry)) (now (lengths .entry))) i ⌝ }
+    ensures { λ r. ⌜ Finds n (tables (now (starts .entry)) (now (images .entry)) (now (holders .entry)) (now (lengths .entry))) i r ⌝ }
 {
     if tables::is_misshapen(n, starts, images, holders, lengths) {
         return Found::Refused(Refusal::TableShape);
@@ -69,7 +69,7 @@ pub fn move_query(
     x: u32,
     i: u32,
 ) -> Moved
-    ensures { λ r. ⌜ movedSays r ≡ moveOf n (tables (now (starts .entry)) (now (images .entry)) (now (holders .entry)) (now (lengths .entry))) x i ⌝ }
+    ensures { λ r. ⌜ MovesOnce n (tables (now (starts .entry)) (now (images .entry)) (now (holders .entry)) (now (lengths .entry))) x i r ⌝ }
 {
     match locating::locate(n, starts, images, holders, lengths, x, i) {
         Moved::Refused(r) => Moved::Refused(r),
@@ -88,7 +88,7 @@ pub fn repeated_moves(
     i: u32,
     m: u32,
 ) -> Moved
-    ensures { λ r. ⌜ movedSays r ≡ movesOf n (tables (now (starts .entry)) (now (images .entry)) (now (holders .entry)) (now (lengths .entry))) m x i ⌝ }
+    ensures { λ r. ⌜ MovesOften n (tables (now (starts .entry)) (now (images .entry)) (now (holders .entry)) (now (lengths .entry))) m x i r ⌝ }
 {
     match locating::locate(n, starts, images, holders, lengths, x, i) {
         Moved::Refused(r) => Moved::Refused(r),

@@ -38,4 +38,10 @@ fn listings_of_random_files() {
         begun.insert(refused.map_or(0, |number| number.parse().expect("a number")));
     }
     assert_eq!(Vec::from_iter(begun), [0, 1, 2, 3, 4, 5, 6, 7, 15], "each number that a file can give");
+    // The program reads one byte more than the longest file that is listed: with that byte it is refused.
+    let places = (0..1024).chain(0..1024);
+    let mut longest: Vec<u8> = [1024, 1024, 2, 20, 4116].into_iter().chain(places).flat_map(u32::to_le_bytes).collect();
+    assert_eq!(printed(&program, &longest), definition::listing(&longest));
+    longest.push(0);
+    assert_eq!(printed(&program, &longest), "refused 15 20\n");
 }
