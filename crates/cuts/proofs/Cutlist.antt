@@ -17,7 +17,7 @@ use Rattle.runs.proofs.Bijection.{map-injective}
 use Rattle.runs.proofs.Walks.{run-below}
 use Rattle.merging.specs.Merged.{merged, Starts}
 use Rattle.cuts.specs.Cuts.{withCuts}
-use Rattle.cuts.specs.Parts.{Higher, Begins, PieceAt, Covers}
+use Rattle.cuts.specs.Parts.{Higher, Begins, PieceAt, Around}
 use Rattle.cuts.specs.Ranks.{Ranked, Ranking, SentTo}
 use Rattle.cuts.proofs.Refine.{PieceOf, Refines, refined-legal, refined-map, refined-images}
 use Rattle.merging.proofs.Merged.{nextFrom, lastTo, merged-length, merged-start, last-start, last-cut}
@@ -154,29 +154,45 @@ module _ (n : ℕ) (r : Runs) (cuts : List ℕ) (c : Legal n r) (s : Starts n (r
         record { index = x; known = b .known; at = b .at; start-is = st; to-is = t },
       )
 
-  -- the piece whose image has u: v is sent to u, and its piece starts at w
-  pub piece-covers : (u v w : ℕ) → v < n → mapOf n r v ≡ u → w ≡ lastTo (merged (r .starts) cuts) v
-      → (w ≤ v) × (v - w ≤ u) × Covers n (withCuts n r cuts) u (u - (v - w))
-  piece-covers u v w h e f = go (home n (withCuts n r cuts) (homes n (withCuts n r cuts) with-legal) v h)
+  -- the piece whose image has u: v is sent to u, and its piece starts at w and ends at end
+  pub piece-around : (u v w end : ℕ) → v < n → mapOf n r v ≡ u → w ≡ lastTo (merged (r .starts) cuts) v
+      → end ≡ nextFrom n (merged (r .starts) cuts) (v + 1)
+      → (w ≤ v) × (v - w ≤ u) × (w ≤ end) × (u - (v - w) + (end - w) ≤ n)
+      × Around n (withCuts n r cuts) u
+      (record { p = u - (v - w); piece = record { start = w; to = u - (v - w) + (end - w) } })
+  piece-around u v w end h e f g = go (home n (withCuts n r cuts) (homes n (withCuts n r cuts) with-legal) v h)
     where
       go : (y : ℕ) × (y < countOf (withCuts n r cuts)) × (startOf (withCuts n r cuts) y ≤ v)
-          × (v < endOf n (withCuts n r cuts) y) → (w ≤ v) × (v - w ≤ u) × Covers n (withCuts n r cuts) u (u - (v - w))
+          × (v < endOf n (withCuts n r cuts) y)
+          → (w ≤ v) × (v - w ≤ u) × (w ≤ end) × (u - (v - w) + (end - w) ≤ n)
+          × Around n (withCuts n r cuts) u
+          (record { p = u - (v - w); piece = record { start = w; to = u - (v - w) + (end - w) } })
       go (y, hy, a, b) =
           let hs = homes n (withCuts n r cuts) with-legal in
-          let k : countBelow (v + 1) (merged (r .starts) cuts) - 1 ≡ y =
+          let k : countBelow (v + 1) (merged (r .starts) cuts) ≡ suc y =
           omega (
             arith,
             ap (λ (t : ℕ). countBelow t (merged (r .starts) cuts)) (add-one v),
             run-below n (withCuts n r cuts) hs v h,
             run-at n (withCuts n r cuts) hs y v hy a b,
           ) in
-          let w-is : w ≡ startOf (withCuts n r cuts) y = f ∙ ap (λ (i : ℕ). getD (merged (r .starts) cuts) i 0) k in
+          let j : countBelow (v + 1) (merged (r .starts) cuts) - 1 ≡ y = omega arith in
+          let w-is : w ≡ startOf (withCuts n r cuts) y = f ∙ ap (λ (i : ℕ). getD (merged (r .starts) cuts) i 0) j in
+          let end-is : end ≡ endOf n (withCuts n r cuts) y = g
+          ∙ ap (λ (i : ℕ). getD (merged (r .starts) cuts) i n) k in
           let m : imageOf (withCuts n r cuts) y + (v - startOf (withCuts n r cuts) y) ≡ u =
           sym (map-at n (withCuts n r cuts) hs y v hy a b)
-          ∙ refined-map n r (withCuts n r cuts) c with-refines v h ∙ e in (
+          ∙ refined-map n r (withCuts n r cuts) c with-refines v h ∙ e in
+          let p-is : imageOf (withCuts n r cuts) y ≡ u - (v - w) = omega arith in
+          let to-is : imageEnd n (withCuts n r cuts) y ≡ u - (v - w) + (end - w) = omega arith in (
             omega arith,
             omega arith,
-            record { index = y; known = hy; at = omega arith; from = omega arith; to = omega arith },
+            omega arith,
+            omega (arith, with-legal .within y hy),
+            record {
+              covers = record { index = y; known = hy; at = p-is; from = omega arith; to = omega arith };
+              piece-at = record { index = y; known = hy; at = p-is; start-is = sym w-is; to-is = to-is };
+            },
           )
 
 -- a list that refines r and has its starts merged with the cuts is the list after them
@@ -199,7 +215,7 @@ run-count n r c x v h a b =
 
 -- the start of the piece that has v
 pub higher-last : (n : ℕ) (S C : List ℕ) → Starts n S C → (x v w : ℕ) → x + 1 ≡ countBelow (v + 1) S
-    → Higher (getD S x 0) C v w → w ≡ lastTo (merged S C) v
+    → Higher (getD S x 0) C (countBelow (v + 1) C) w → w ≡ lastTo (merged S C) v
 higher-last n S C c x v w e h =
     go (lt-or-le 0 (countBelow (v + 1) C)) (lt-or-le (getD S x 0) (getD C (countBelow (v + 1) C - 1) 0))
   where
@@ -223,14 +239,14 @@ pub record RankedRun (n : ℕ) (r : Runs) (order ranked : List ℕ) (q x : ℕ) 
   pub to : q < imageEnd n r x
 
 module _ (n : ℕ) (r : Runs) (c : Legal n r) where
-  ranked-length : length (orderOf (r .images)) ≡ countOf r
+  pub ranked-length : length (orderOf (r .images)) ≡ countOf r
   ranked-length = order-length (keyOf (r .images)) (length (r .images)) ∙ c .paired
 
-  ranked-at : (j : ℕ) → j < countOf r
+  pub ranked-at : (j : ℕ) → j < countOf r
       → getD (map (imageOf r) (orderOf (r .images))) j 0 ≡ imageOf r (getD (orderOf (r .images)) j 0)
   ranked-at j h = getD-map (imageOf r) (orderOf (r .images)) j 0 (omega (arith, ranked-length))
 
-  order-sorted : Sorted (map (imageOf r) (orderOf (r .images)))
+  pub order-sorted : Sorted (map (imageOf r) (orderOf (r .images)))
   order-sorted = at-pairwise _≤_ (map (imageOf r) (orderOf (r .images)))
       (λ i j l h. at i j l (omega (arith, length-map (orderOf (r .images)) (imageOf r), ranked-length)))
     where
@@ -243,7 +259,7 @@ module _ (n : ℕ) (r : Runs) (c : Legal n r) where
         order-keys (keyOf (r .images)) (length (r .images)) i j (omega arith) (omega (arith, c .paired)),
       )
 
-  rank-found : (q : ℕ) → q < n
+  pub rank-found : (q : ℕ) → q < n
       → RankedRun n r (orderOf (r .images)) (map (imageOf r) (orderOf (r .images))) q
       (getD (orderOf (r .images)) (countBelow (q + 1) (map (imageOf r) (orderOf (r .images))) - 1) 0)
   rank-found q h = go (land n r c q h)

@@ -7,4 +7,6 @@ pub mod Certain
 pub mod Swept
 pub mod Sweeping
 pub mod Cutlist
+pub mod Ahead
+pub mod Looking
 pub mod Progress

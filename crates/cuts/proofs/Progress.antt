@@ -12,24 +12,23 @@ use Rattle.order.specs.Lists.{All, Strict, countBelow}
 use Rattle.order.specs.Order.{insertSorted}
 use Rattle.order.proofs.Laws.{lt-or-le, at-all, strict-sorted, strict-insert, count-mono, count-gt, insert-split, length-insert, take-insert, getD-default}
 use Rattle.runs.specs.Legal.{Legal}
-use Rattle.runs.specs.Runs.{Runs, countOf, startOf, imageOf, endOf, imageEnd}
+use Rattle.runs.specs.Runs.{Runs, countOf, startOf, imageOf, endOf, imageEnd, mapOf}
 use Rattle.runs.proofs.Sums.{count-inside}
-use Rattle.runs.proofs.Legality.{homes, run-at, end-next}
+use Rattle.runs.proofs.Legality.{homes, run-at, map-at, end-next}
 use Rattle.runs.specs.Weight.{weight}
 use Rattle.runs.proofs.Walks.{weight-is, run-below, under-at, weight-less}
 use Rattle.cuts.specs.Balance.{cutPlace, cutAt, balanced}
 use Rattle.merging.specs.Merged.{merged, Starts}
-use Rattle.cuts.specs.Marks.{Skips}
 use Rattle.cuts.specs.Cuts.{withCuts, CutsStand, BalancingCuts}
-use Rattle.cuts.specs.Parts.{Begins, PieceAt, Covers}
-use Rattle.merging.specs.declared.Mark.{Mark}
+use Rattle.cuts.specs.Parts.{Begins, PieceAt, BackAt}
 use Rattle.cuts.specs.declared.Piece.{Piece}
-use Rattle.cuts.proofs.Refine.{refines-self, refines-on}
+use Rattle.cuts.specs.declared.Spot.{Spot}
+use Rattle.cuts.proofs.Refine.{refined-map, refines-self, refines-on}
 use Rattle.cuts.proofs.Cut.{cut-count}
 use Rattle.cuts.proofs.Weights.{place}
 use Rattle.cuts.proofs.Balancing.{heavy-refines, heavy-legal}
 use Rattle.cuts.proofs.Swept.{landing-is, back, added, swept-at}
-use Rattle.cuts.proofs.Sweeping.{Sweeping, sweepLeft, sweeping-start, sweeping-end, sweeping-back, sweeping-on, sweeping-cut}
+use Rattle.cuts.proofs.Sweeping.{Sweeping, sweepLeft, sweeping-start, sweeping-end, sweeping-back, sweeping-on, sweeping-cut, sweeping-cut-on}
 use Rattle.merging.proofs.Merged.{merged-length, merged-none, merged-insert, merged-cut}
 use Rattle.cuts.proofs.Cutlist.{with-legal, with-refines, refined-cuts}
 
@@ -61,13 +60,13 @@ uncut-stand d n r c e table =
     }
 
 -- where the sweep looks after a cut that added u
-back-is : (n : ℕ) (q : Runs) (u Q P : ℕ) → Legal n q → (u < Q → Covers n q u P) → (Q ≤ u → P ≡ Q) → back n q u Q ≡ P
-back-is n q u Q P c f g = go (lt-or-le u Q)
+back-is : (n : ℕ) (q : Runs) (u Q : ℕ) (spot : Spot) → Legal n q → BackAt n q Q u spot → back n q u Q ≡ spot .p
+back-is n q u Q spot c b = go (lt-or-le u Q)
   where
-    go : (u < Q) ⊎ (Q ≤ u) → back n q u Q ≡ P
-    go (inl l) = let w = f l in
+    go : (u < Q) ⊎ (Q ≤ u) → back n q u Q ≡ spot .p
+    go (inl l) = let w = b .around l .covers in
         rw (lt-ltb u Q l, landing-is n q c u (w .index) (w .known) (omega (arith, w .at, w .from)) (w .to)) (w .at)
-    go (inr l) = rw (le-ltb u Q l) (sym (g l))
+    go (inr l) = rw (le-ltb u Q l) (sym (b .stays l))
 
 -- the working table after an insertion
 insert-kept : (u c : ℕ) (l : List ℕ) → c < length l → length (insertSorted u (take c l) ++ drop (c + 1) l) ≡ length l
@@ -150,44 +149,28 @@ pub piece-to : (n : ℕ) (r : Runs) (cuts : List ℕ) (P : ℕ) (piece : Piece) 
 piece-to n r cuts P piece c s a =
     omega (arith, a .at, a .to-is, with-legal n r cuts c s .within (a .index) (a .known))
 
--- what two looks of d starts each, from the mark before P, tell of the piece's weight
-module _ (n d : ℕ) (r : Runs) (cuts : List ℕ) (P : ℕ) (piece : Piece) (c : Starts n (r .starts) cuts)
-    (a : PieceAt n (withCuts n r cuts) P piece)
-    (mark middle last : Mark) (some : 0 < d) (e : mark .starts + mark .cuts ≡ countBelow P (merged (r .starts) cuts))
-    (f : Skips n (r .starts) cuts mark d (piece .to) middle) (g : Skips n (r .starts) cuts middle d (piece .to) last)
-  where
-    weight-between : weight n (withCuts n r cuts) (a .index) + countBelow P (merged (r .starts) cuts) ≡ countBelow
-        (piece .to) (merged (r .starts) cuts)
-    weight-between =
-        let q = withCuts n r cuts in
-        let l = merged (r .starts) cuts in
-        omega (
-          arith,
-          weight-is n q (a .index),
-          count-inside (imageOf q (a .index)) (imageEnd n q (a .index)) l (omega arith),
-          ap (λ (p : ℕ). countBelow p l) (a .at),
-          ap (λ (p : ℕ). countBelow p l) (a .to-is),
-        )
+-- what the starts between the ends of its image tell of a piece's weight
+module _ (n d : ℕ) (r : Runs) (cuts : List ℕ) (P : ℕ) (piece : Piece) (a : PieceAt n (withCuts n r cuts) P piece)
+    (m : ℕ) (e : m ≡ countBelow P (merged (r .starts) cuts)) where
+  weight-between : weight n (withCuts n r cuts) (a .index) + m ≡ countBelow (piece .to) (merged (r .starts) cuts)
+  weight-between =
+      let q = withCuts n r cuts in
+      let l = merged (r .starts) cuts in
+      omega (
+        arith,
+        weight-is n q (a .index),
+        count-inside (imageOf q (a .index)) (imageEnd n q (a .index)) l (omega arith),
+        ap (λ (p : ℕ). countBelow p l) (a .at),
+        ap (λ (p : ℕ). countBelow p l) (a .to-is),
+      )
 
-    pub looked-light : last .starts + last .cuts < mark .starts + mark .cuts + 2 * d
-        → (weight n (withCuts n r cuts) (a .index) < 2 * d)
-        × (last .starts + last .cuts ≡ countBelow (piece .to) (merged (r .starts) cuts))
-    looked-light h =
-        let w = weight-between in
-        let k : last .starts + last .cuts ≡ countBelow (piece .to) (merged (r .starts) cuts) =
-        go (lt-or-le (middle .starts + middle .cuts) (mark .starts + mark .cuts + d)) in
-        (omega arith, k)
-      where
-        go : (middle .starts + middle .cuts < mark .starts + mark .cuts + d)
-            ⊎ (mark .starts + mark .cuts + d ≤ middle .starts + middle .cuts)
-            → last .starts + last .cuts ≡ countBelow (piece .to) (merged (r .starts) cuts)
-        go (inl l) = let k = f .stopped l in g .stopped (omega (arith, g .below))
-        go (inr l) = g .stopped (omega arith)
+  pub looked-light : countBelow (piece .to) (merged (r .starts) cuts) < m + 2 * d
+      → weight n (withCuts n r cuts) (a .index) < 2 * d
+  looked-light h = omega (arith, weight-between)
 
-    pub looked-heavy : mark .starts + mark .cuts + 2 * d ≤ last .starts + last .cuts
-        → (2 * d ≤ weight n (withCuts n r cuts) (a .index))
-        × (middle .starts + middle .cuts ≡ countBelow P (merged (r .starts) cuts) + d)
-    looked-heavy h = (omega (arith, weight-between, g .below), omega (arith, g .far, f .far))
+  pub looked-heavy : m + 2 * d ≤ countBelow (piece .to) (merged (r .starts) cuts)
+      → 2 * d ≤ weight n (withCuts n r cuts) (a .index)
+  looked-heavy h = omega (arith, weight-between)
 
 -- a cut of the piece at P, which is heavy: s is the (d + 1)th start under its image, and u the start that is added
 module _ (d n : ℕ) (many : 2 ≤ d) (r : Runs) (c₀ : Legal n r) (working₀ working : List ℕ) (P Q c : ℕ)
@@ -223,6 +206,29 @@ module _ (d n : ℕ) (many : 2 ≤ d) (r : Runs) (c₀ : Legal n r) (working₀ 
 
     pub cut-below : piece .start + (s - P) < n
     cut-below = omega (arith, cut-start, homes n (withCuts n r (take c working)) legal .ending (a .index) (a .known))
+
+    -- the new start is sent to the cut's place, which is not past the front
+    pub cut-sent : mapOf n r (piece .start + (s - P)) ≡ s
+    cut-sent =
+        let q = withCuts n r (take c working) in
+        let u = piece .start + (s - P) in
+        let m = map-at n q (homes n q legal) (a .index) u (a .known) (omega (arith, cut-start .0)) (cut-start .1) in
+        sym (refined-map n r q c₀ (with-refines n r (take c working) c₀ (g .starts)) u cut-below)
+        ∙ omega (arith, m, cut-inside, a .start-is, a .at)
+
+    pub cut-behind : (T : ℕ) → (P < Q → T ≡ Q) → (Q ≤ P → T ≡ s) → mapOf n r (piece .start + (s - P)) ≤ T
+    cut-behind T behind on = go (lt-or-le P Q)
+      where
+        go : (P < Q) ⊎ (Q ≤ P) → mapOf n r (piece .start + (s - P)) ≤ T
+        go (inl l) = let b = behind l in
+            omega (
+              arith,
+              cut-sent,
+              cut-inside,
+              a .to-is,
+              g .sweeping .swept .edge-Q (a .index) (a .known) (omega (arith, a .at)),
+            )
+        go (inr l) = omega (arith, cut-sent, on l)
 
     -- its index in the merged list is the next one
     cut-count-below : countBelow (piece .start + (s - P)) (merged (r .starts) (take c working)) ≡ suc (a .index)
@@ -273,7 +279,7 @@ module _ (d n : ℕ) (many : 2 ≤ d) (r : Runs) (c₀ : Legal n r) (working₀ 
             ∙ f in
             omega (arith, cut-start .1, end-next n (withCuts n r (take c working)) (a .index) (omega (arith, i .0)))
 
-    cut-taken : (working′ : List ℕ)
+    pub cut-taken : (working′ : List ℕ)
         → working′ ≡ insertSorted (piece .start + (s - P)) (take c working) ++ drop (c + 1) working
         → take (c + 1) working′ ≡ insertSorted (piece .start + (s - P)) (take c working)
     cut-taken working′ f =
@@ -290,14 +296,23 @@ module _ (d n : ℕ) (many : 2 ≤ d) (r : Runs) (c₀ : Legal n r) (working₀ 
         weighs))
         (strict-insert (piece .start + (s - P)) (take c working) (g .starts .cuts-rise) cut-new))
 
-    step : Sweeping d n r (cutAt d n (withCuts n r (take c working)) (a .index))
+    -- the sweep after the cut, and that it has fewer steps left
+    abbrev StepTo : ℕ → Type 0
+    StepTo T = Sweeping d n r (cutAt d n (withCuts n r (take c working)) (a .index))
         (back n (cutAt d n (withCuts n r (take c working)) (a .index))
-        (added d n (withCuts n r (take c working)) (a .index)) Q) Q
+        (added d n (withCuts n r (take c working)) (a .index)) T) T
         × sweepLeft r (cutAt d n (withCuts n r (take c working)) (a .index))
         (back n (cutAt d n (withCuts n r (take c working)) (a .index))
-        (added d n (withCuts n r (take c working)) (a .index)) Q) Q < sweepLeft r (withCuts n r (take c working)) P Q
+        (added d n (withCuts n r (take c working)) (a .index)) T) T < sweepLeft r (withCuts n r (take c working)) P Q
+
+    step : StepTo Q
     step = sweeping-cut d n many r c₀ (withCuts n r (take c working)) P Q (g .sweeping) (a .index) (a .known) (a .at)
         weighs
+
+    step-on : Q ≤ P → StepTo s
+    step-on l = subst (λ (t : ℕ). StepTo t) (sym e)
+        (sweeping-cut-on d n many r c₀ (withCuts n r (take c working)) P Q (g .sweeping) (a .index) (a .known) (a .at)
+        weighs l)
 
     -- there is room for the cut: with it there are no more cuts than runs
     pub cut-room : countOf r ≤ length working → c < length working
@@ -309,25 +324,23 @@ module _ (d n : ℕ) (many : 2 ≤ d) (r : Runs) (c₀ : Legal n r) (working₀ 
       progress-count d n many r c₀ working₀ working P Q c g,
     )
 
-    pub progress-cut : (P′ : ℕ) (working′ : List ℕ) → c < length working
+    progress-to : (T : ℕ) → StepTo T → (spot : Spot) (working′ : List ℕ) → c < length working
         → working′ ≡ insertSorted (piece .start + (s - P)) (take c working) ++ drop (c + 1) working
-        → (piece .start + (s - P) < Q → Covers n (withCuts n r (take (c + 1) working′)) (piece .start + (s - P)) P′)
-        → (Q ≤ piece .start + (s - P) → P′ ≡ Q)
-        → Progress d n r working₀ working′ P′ Q (c + 1)
-        × turnsLeft n r working′ P′ Q (c + 1) < turnsLeft n r working P Q c
-    progress-cut P′ working′ room f covers stays =
+        → BackAt n (withCuts n r (take (c + 1) working′)) T (piece .start + (s - P)) spot
+        → Progress d n r working₀ working′ (spot .p) T (c + 1)
+        × turnsLeft n r working′ (spot .p) T (c + 1) < turnsLeft n r working P Q c
+    progress-to T step-T spot working′ room f b =
         let u = piece .start + (s - P) in
         let q = withCuts n r (take c working) in
         let q′ = withCuts n r (take (c + 1) working′) in
         let l : cutAt d n q (a .index) ≡ q′ = cut-list ∙ ap (withCuts n r) (sym (cut-taken working′ f)) in
-        let p : back n (cutAt d n q (a .index)) (added d n q (a .index)) Q ≡ P′ =
-        (λ i. back n (l i) (sym cut-added i) Q)
-        ∙ back-is n q′ u Q P′ (subst (Legal n) l (heavy-legal d n many q legal (a .index) (a .known) weighs))
-        covers stays in
-        let next : Sweeping d n r q′ P′ Q × sweepLeft r q′ P′ Q < sweepLeft r q P Q =
-        subst (λ (k : Runs). Sweeping d n r k P′ Q × sweepLeft r k P′ Q < sweepLeft r q P Q) l
-        (subst (λ (k : ℕ). Sweeping d n r (cutAt d n q (a .index)) k Q
-        × sweepLeft r (cutAt d n q (a .index)) k Q < sweepLeft r q P Q) p step) in (
+        let p : back n (cutAt d n q (a .index)) (added d n q (a .index)) T ≡ spot .p =
+        (λ i. back n (l i) (sym cut-added i) T)
+        ∙ back-is n q′ u T spot (subst (Legal n) l (heavy-legal d n many q legal (a .index) (a .known) weighs)) b in
+        let next : Sweeping d n r q′ (spot .p) T × sweepLeft r q′ (spot .p) T < sweepLeft r q P Q =
+        subst (λ (k : Runs). Sweeping d n r k (spot .p) T × sweepLeft r k (spot .p) T < sweepLeft r q P Q) l
+        (subst (λ (k : ℕ). Sweeping d n r (cutAt d n q (a .index)) k T
+        × sweepLeft r (cutAt d n q (a .index)) k T < sweepLeft r q P Q) p step-T) in (
           record {
             sweeping = next .0;
             starts = cut-starts working′ f;
@@ -338,3 +351,16 @@ module _ (d n : ℕ) (many : 2 ≤ d) (r : Runs) (c₀ : Legal n r) (working₀ 
           },
           next .1,
         )
+
+    -- the turn of a heavy piece: a cut at the front takes that on to the cut's place
+    pub progress-cut : (spot : Spot) (T : ℕ) (working′ : List ℕ) → c < length working
+        → working′ ≡ insertSorted (piece .start + (s - P)) (take c working) ++ drop (c + 1) working
+        → BackAt n (withCuts n r (take (c + 1) working′)) T (piece .start + (s - P)) spot
+        → (P < Q → T ≡ Q) → (Q ≤ P → T ≡ s)
+        → Progress d n r working₀ working′ (spot .p) T (c + 1)
+        × turnsLeft n r working′ (spot .p) T (c + 1) < turnsLeft n r working P Q c
+    progress-cut spot T working′ room f b behind on = progress-to T (at (lt-or-le P Q)) spot working′ room f b
+      where
+        at : (P < Q) ⊎ (Q ≤ P) → StepTo T
+        at (inl l) = subst (λ (t : ℕ). StepTo t) (sym (behind l)) step
+        at (inr l) = subst (λ (t : ℕ). StepTo t) (sym (on l)) (step-on l)

@@ -9,7 +9,7 @@ use Rattle.cuts.specs.Balance.{cutPlace, cutAt, cutting, balanced, bound
 use Rattle.cuts.proofs.Cut.{cut-count}
 use Rattle.cuts.proofs.Weights.{ample, ample-bound}
 use Rattle.cuts.proofs.Balancing.{cutting-cuts, cutting-next, cutting-done, fuel-left, heavy-legal, balanced-count}
-use Rattle.cuts.proofs.Swept.{SweptTo, swept-start, swept-end, swept-lowest, swept-cut, swept-back, swept-on, back, added, stepsLeft, steps-cut, steps-back, steps-on}
+use Rattle.cuts.proofs.Swept.{SweptTo, swept-start, swept-end, swept-lowest, swept-cut, swept-cut-on, swept-back, swept-on, back, added, stepsLeft, steps-cut, steps-back, steps-on}
 
 pub record Sweeping (d n : ℕ) (list₀ r : Runs) (P Q : ℕ) : Type 0 where
   pub swept : SweptTo d n r P Q
@@ -73,18 +73,20 @@ module _ (d n : ℕ) (many : 2 ≤ d) (list₀ : Runs) (c₀ : Legal n list₀) 
       steps-on (2 * countOf list₀ - countOf r) r P Q n x (c .swept .legal) hx (omega (arith, c .swept .ordered)),
     )
 
-    pub sweeping-cut : 2 * d ≤ weight n r x
-        → Sweeping d n list₀ (cutAt d n r x) (back n (cutAt d n r x) (added d n r x) Q) Q
-        × sweepLeft list₀ (cutAt d n r x) (back n (cutAt d n r x) (added d n r x) Q) Q < sweepLeft list₀ r P Q
-    sweeping-cut w = go (c .cuts) (c .counted) (c .enough) (c .goal)
+    -- a cut, after which the sweep has come to T
+    cut-to : 2 * d ≤ weight n r x → (T : ℕ) → Q ≤ T
+        → SweptTo d n (cutAt d n r x) (back n (cutAt d n r x) (added d n r x) T) T
+        → Sweeping d n list₀ (cutAt d n r x) (back n (cutAt d n r x) (added d n r x) T) T
+        × sweepLeft list₀ (cutAt d n r x) (back n (cutAt d n r x) (added d n r x) T) T < sweepLeft list₀ r P Q
+    cut-to w T m swept = go (c .cuts) (c .counted) (c .enough) (c .goal)
       where
         k : countOf (cutAt d n r x) ≡ suc (countOf r)
         k = cut-count n r (c .swept .legal .paired) x (cutPlace d n r x) hx
 
         go : (g : ℕ) → g + countOf r ≡ 2 * countOf list₀ → countOf r ≤ d * ample d n r + g
             → cutting g d n r ≡ balanced d n list₀
-            → Sweeping d n list₀ (cutAt d n r x) (back n (cutAt d n r x) (added d n r x) Q) Q
-            × sweepLeft list₀ (cutAt d n r x) (back n (cutAt d n r x) (added d n r x) Q) Q < sweepLeft list₀ r P Q
+            → Sweeping d n list₀ (cutAt d n r x) (back n (cutAt d n r x) (added d n r x) T) T
+            × sweepLeft list₀ (cutAt d n r x) (back n (cutAt d n r x) (added d n r x) T) T < sweepLeft list₀ r P Q
         go zero a e f = absurd (omega (
           arith,
           fuel-left d n many 0 r x (c .swept .legal) hx w e,
@@ -94,13 +96,26 @@ module _ (d n : ℕ) (many : 2 ≤ d) (list₀ : Runs) (c₀ : Legal n list₀) 
             let p : 2 * countOf list₀ - countOf r ≡ suc g = omega arith in
             let q : 2 * countOf list₀ - countOf (cutAt d n r x) ≡ g = omega (arith, k) in (
               record {
-                swept = swept-cut d n r P Q (c .swept) x hx at many w;
+                swept = swept;
                 cuts = g;
                 counted = omega (arith, k);
                 enough = omega (arith, fuel-left d n many (suc g) r x (c .swept .legal) hx w e);
                 goal = sym (cutting-next g d n r x (c .swept .legal) (swept-lowest d n r P Q (c .swept) x hx at w))
                     ∙ f;
               },
-              rw (p, q) (steps-cut g r P Q x (cutPlace d n r x) (back n (cutAt d n r x) (added d n r x) Q)
-                  (c .swept .legal .paired) hx),
+              rw (p, q) (steps-cut g r P Q x (cutPlace d n r x) (back n (cutAt d n r x) (added d n r x) T) T
+                  (c .swept .legal .paired) hx m),
             )
+
+    pub sweeping-cut : 2 * d ≤ weight n r x
+        → Sweeping d n list₀ (cutAt d n r x) (back n (cutAt d n r x) (added d n r x) Q) Q
+        × sweepLeft list₀ (cutAt d n r x) (back n (cutAt d n r x) (added d n r x) Q) Q < sweepLeft list₀ r P Q
+    sweeping-cut w = cut-to w Q (omega arith) (swept-cut d n r P Q (c .swept) x hx at many w)
+
+    -- at Q, on to the second part
+    pub sweeping-cut-on : 2 * d ≤ weight n r x → Q ≤ P → let s = cutPlace d n r x in
+        Sweeping d n list₀ (cutAt d n r x) (back n (cutAt d n r x) (added d n r x) s) s
+        × sweepLeft list₀ (cutAt d n r x) (back n (cutAt d n r x) (added d n r x) s) s < sweepLeft list₀ r P Q
+    sweeping-cut-on w l =
+        let o = swept-cut-on d n r P Q (c .swept) x hx at many w (omega (arith, c .swept .ordered)) in
+        cut-to w (cutPlace d n r x) (omega (arith, o .0)) (o .1)

@@ -14,7 +14,7 @@ use Rattle.outcomes.specs.Search.{firstBelow}
 use Rattle.outcomes.proofs.Searches.{first-only}
 use Rattle.order.specs.Lists.{bit}
 use Rattle.order.proofs.Laws.{lt-or-le, bit-le}
-use Rattle.runs.proofs.Sums.{bit-leb, inside-true, inside-is, tally, sum-cut, sum-less}
+use Rattle.runs.proofs.Sums.{bit-leb, inside-true, inside-is, tally, sum-mono, sum-cut, sum-less}
 use Rattle.runs.specs.Legal.{Legal}
 use Rattle.runs.specs.Runs.{Runs, countOf, imageOf, imageEnd, carryBack}
 use Rattle.runs.specs.Weight.{weight}
@@ -206,68 +206,116 @@ module _ (d n : ℕ) (r : Runs) (P Q : ℕ) (c : SweptTo d n r P Q) (x : ℕ) (h
           (λ e. ne (sym (image-one n r (c .legal) x y hx hy (omega arith)
           (omega (arith, image-some n r (c .legal) x hx)))))
 
-  swept-hit : (y : ℕ) → y < countOf (cutAt d n r x) → imageOf (cutAt d n r x) y < Q
-      → lands n (cutAt d n r x) (added d n r x) y ≡ true
-      → imageOf (cutAt d n r x) y ≡ back n (cutAt d n r x) (added d n r x) Q
-  swept-hit y hy l e =
-      let i = inside-is (imageOf (cutAt d n r x) y) (imageEnd n (cutAt d n r x) y) (added d n r x) e in
-      rw (
-        lt-ltb (added d n r x) Q (omega (arith, edge-q y hy l)),
-        landing-is n (cutAt d n r x) legal-q (added d n r x) y hy (i .0) (i .1),
-      )
-
-  swept-miss : (y : ℕ) → y < countOf (cutAt d n r x) → imageOf (cutAt d n r x) y < Q
-      → (imageOf (cutAt d n r x) y ≡ back n (cutAt d n r x) (added d n r x) Q → ⊥)
-      → bit (lands n (cutAt d n r x) (added d n r x) y) ≡ 0
-  swept-miss y hy l ne = go (lands n (cutAt d n r x) (added d n r x) y) refl
-    where
-      go : (t : Bool) → lands n (cutAt d n r x) (added d n r x) y ≡ t → bit t ≡ 0
-      go true e = absurd (ne (swept-hit y hy l e))
-      go false e = refl
-
   added-below : added d n r x < n
   added-below = let p = place d n r (c .legal) x (omega arith) (omega arith) in
       omega (arith, p .0, p .1, homes n r (c .legal) .ending x hx)
 
-  back-edge : (back n (cutAt d n r x) (added d n r x) Q ≤ Q)
-      × Edge n (cutAt d n r x) (back n (cutAt d n r x) (added d n r x) Q)
-  back-edge = go (lt-or-le (added d n r x) Q) (land n (cutAt d n r x) legal-q (added d n r x) added-below)
+  -- up to a place T that is an edge, and before which no interval is heavy but for the new start
+  module _ (T : ℕ) (bound : T ≤ n) (edge-T : Edge n (cutAt d n r x) T)
+      (kept-T : (y : ℕ) → y < suc (countOf r) → imageOf (cutAt d n r x) y < T → kept n r x (cutPlace d n r x) y < 2 * d)
     where
-      go : (added d n r x < Q) ⊎ (Q ≤ added d n r x)
-          → (z : ℕ) × (z < countOf (cutAt d n r x)) × (imageOf (cutAt d n r x) z ≤ added d n r x)
-          × (added d n r x < imageEnd n (cutAt d n r x) z)
-          → (back n (cutAt d n r x) (added d n r x) Q ≤ Q)
-          × Edge n (cutAt d n r x) (back n (cutAt d n r x) (added d n r x) Q)
-      go (inl l) (z, hz, a, b) =
-          rw (lt-ltb (added d n r x) Q l, landing-is n (cutAt d n r x) legal-q (added d n r x) z hz a b) (
-            omega arith,
-            edge-image n (cutAt d n r x) legal-q z hz,
+      swept-hit : (y : ℕ) → y < countOf (cutAt d n r x) → imageOf (cutAt d n r x) y < T
+          → lands n (cutAt d n r x) (added d n r x) y ≡ true
+          → imageOf (cutAt d n r x) y ≡ back n (cutAt d n r x) (added d n r x) T
+      swept-hit y hy l e =
+          let i = inside-is (imageOf (cutAt d n r x) y) (imageEnd n (cutAt d n r x) y) (added d n r x) e in
+          rw (
+            lt-ltb (added d n r x) T (omega (arith, edge-T y hy l)),
+            landing-is n (cutAt d n r x) legal-q (added d n r x) y hy (i .0) (i .1),
           )
-      go (inr l) z = rw (le-ltb (added d n r x) Q l) (omega arith, edge-q)
+
+      swept-miss : (y : ℕ) → y < countOf (cutAt d n r x) → imageOf (cutAt d n r x) y < T
+          → (imageOf (cutAt d n r x) y ≡ back n (cutAt d n r x) (added d n r x) T → ⊥)
+          → bit (lands n (cutAt d n r x) (added d n r x) y) ≡ 0
+      swept-miss y hy l ne = go (lands n (cutAt d n r x) (added d n r x) y) refl
+        where
+          go : (t : Bool) → lands n (cutAt d n r x) (added d n r x) y ≡ t → bit t ≡ 0
+          go true e = absurd (ne (swept-hit y hy l e))
+          go false e = refl
+
+      back-edge : (back n (cutAt d n r x) (added d n r x) T ≤ T)
+          × Edge n (cutAt d n r x) (back n (cutAt d n r x) (added d n r x) T)
+      back-edge = go (lt-or-le (added d n r x) T) (land n (cutAt d n r x) legal-q (added d n r x) added-below)
+        where
+          go : (added d n r x < T) ⊎ (T ≤ added d n r x)
+              → (z : ℕ) × (z < countOf (cutAt d n r x)) × (imageOf (cutAt d n r x) z ≤ added d n r x)
+              × (added d n r x < imageEnd n (cutAt d n r x) z)
+              → (back n (cutAt d n r x) (added d n r x) T ≤ T)
+              × Edge n (cutAt d n r x) (back n (cutAt d n r x) (added d n r x) T)
+          go (inl l) (z, hz, a, b) =
+              rw (lt-ltb (added d n r x) T l, landing-is n (cutAt d n r x) legal-q (added d n r x) z hz a b) (
+                omega arith,
+                edge-image n (cutAt d n r x) legal-q z hz,
+              )
+          go (inr l) z = rw (le-ltb (added d n r x) T l) (omega arith, edge-T)
+
+      swept-to : SweptTo d n (cutAt d n r x) (back n (cutAt d n r x) (added d n r x) T) T
+      swept-to = record {
+        legal = legal-q;
+        ordered = back-edge .0;
+        bounded = bound;
+        edge-P = back-edge .1;
+        edge-Q = edge-T;
+        light = λ y hy l e. omega (
+          arith,
+          weight-cut n r x (cutPlace d n r x) y,
+          swept-miss y hy l e,
+          kept-T y (known y hy) l,
+        );
+        nearly = λ y hy e l. omega (
+          arith,
+          weight-cut n r x (cutPlace d n r x) y,
+          bit-le (lands n (cutAt d n r x) (added d n r x) y),
+          kept-T y (known y hy) (omega arith),
+        );
+      }
+        where
+          known : (y : ℕ) → y < countOf (cutAt d n r x) → y < suc (countOf r)
+          known y h = omega (arith, cut-count n r (c .legal .paired) x (cutPlace d n r x) hx)
 
   pub swept-cut : SweptTo d n (cutAt d n r x) (back n (cutAt d n r x) (added d n r x) Q) Q
-  swept-cut = record {
-    legal = legal-q;
-    ordered = back-edge .0;
-    bounded = c .bounded;
-    edge-P = back-edge .1;
-    edge-Q = edge-q;
-    light = λ y hy l e. omega (
-      arith,
-      weight-cut n r x (cutPlace d n r x) y,
-      swept-miss y hy l e,
-      kept-light y (known y hy) l,
-    );
-    nearly = λ y hy e l. omega (
-      arith,
-      weight-cut n r x (cutPlace d n r x) y,
-      bit-le (lands n (cutAt d n r x) (added d n r x) y),
-      kept-light y (known y hy) (omega arith),
-    );
-  }
+  swept-cut = swept-to Q (c .bounded) edge-q kept-light
+
+  -- the cut's place: after P, within the image
+  at-place : (P < cutPlace d n r x) × (cutPlace d n r x < imageEnd n r x) × (cutPlace d n r x ≤ n)
+  at-place = let p = place d n r (c .legal) x (omega arith) (omega arith) in
+      (omega (arith, p .0), p .1, omega (arith, p .1, c .legal .within x hx))
+
+  -- a cut at Q takes it on to the second part: the first keeps d starts
+  pub swept-cut-on : P ≡ Q
+      → (Q < cutPlace d n r x)
+      × SweptTo d n (cutAt d n r x) (back n (cutAt d n r x) (added d n r x) (cutPlace d n r x)) (cutPlace d n r x)
+  swept-cut-on same = (omega (arith, at-place .0), swept-to s (at-place .2) edge-s kept-s)
     where
-      known : (y : ℕ) → y < countOf (cutAt d n r x) → y < suc (countOf r)
-      known y h = omega (arith, cut-count n r (c .legal .paired) x (cutPlace d n r x) hx)
+      s : ℕ
+      s = cutPlace d n r x
+
+      pair : length (r .images) ≡ countOf r
+      pair = c .legal .paired
+
+      second : imageOf (cutAt d n r x) (suc x) ≡ s
+      second = cut-second n r pair x s hx .image-is
+
+      edge-s : Edge n (cutAt d n r x) s
+      edge-s = rw second at (edge-image n (cutAt d n r x) legal-q (suc x) (omega (arith, cut-count n r pair x s hx)))
+
+      -- no other image begins between P and the cut's place
+      old : (y : ℕ) → y < countOf r → (y ≡ x → ⊥) → imageOf r y < s → weight n r y < 2 * d
+      old y hy ne l = go (lt-or-le (imageOf r y) Q)
+        where
+          go : (imageOf r y < Q) ⊎ (Q ≤ imageOf r y) → weight n r y < 2 * d
+          go (inl m) = c .light y hy m (λ e. omega arith)
+          go (inr m) = absurd (ne (sym (image-one n r (c .legal) x y hx hy (omega arith)
+              (omega (arith, at-place .1)))))
+
+      kept-s : (y : ℕ) → y < suc (countOf r) → imageOf (cutAt d n r x) y < s → kept n r x s y < 2 * d
+      kept-s = cut-cases (λ y. y < suc (countOf r) → imageOf (cutAt d n r x) y < s → kept n r x s y < 2 * d) x
+          (λ y l h m. rw (kept-left n r pair x s hx y l)
+          (old y (omega arith) (λ e. omega arith) (omega (arith, cut-left n r pair x s hx y l .image-is))))
+          (λ h m. omega (arith, cutAt-kept d n r (c .legal) x hx (omega arith) (omega arith) .0))
+          (λ h m. absurd (omega (arith, second)))
+          (λ y l h m. rw (kept-right n r pair x s hx y l)
+          (old y (omega arith) (λ e. omega arith) (omega (arith, cut-right n r pair x s hx y l .image-is))))
 
 -- the steps that are left, where at most g cuts are
 abbrev pub ahead : Runs → ℕ → ℕ
@@ -299,10 +347,16 @@ ahead-on n r x c hx = sum-less x (countOf r) (λ y. bit (leb (imageEnd n r x) (i
     ) (omega arith))
     (λ y l. bit-leb (imageEnd n r x) (imageOf r y) (imageOf r x) (imageOf r y) (λ e. omega arith))
 
+-- fewer are ahead further on
+ahead-less : (r : Runs) (Q T : ℕ) → Q ≤ T → ahead r T ≤ ahead r Q
+ahead-less r Q T l = sum-mono (countOf r) (λ y. bit (leb T (imageOf r y))) (λ y. bit (leb Q (imageOf r y)))
+    (λ y h. bit-leb T (imageOf r y) Q (imageOf r y) (λ e. omega arith))
+
 module _ (g : ℕ) (r : Runs) (P Q : ℕ) where
-  pub steps-cut : (x s P′ : ℕ) → length (r .images) ≡ countOf r → x < countOf r
-      → stepsLeft g (cut r x s) P′ Q < stepsLeft (suc g) r P Q
-  steps-cut x s P′ pair hx = omega (arith, ahead-cut r x s Q pair hx, bit-le (ltb P′ Q))
+  pub steps-cut : (x s P′ T : ℕ) → length (r .images) ≡ countOf r → x < countOf r → Q ≤ T
+      → stepsLeft g (cut r x s) P′ T < stepsLeft (suc g) r P Q
+  steps-cut x s P′ T pair hx l =
+      omega (arith, ahead-cut r x s Q pair hx, ahead-less (cut r x s) Q T l, bit-le (ltb P′ T))
 
   pub steps-back : P < Q → stepsLeft g r Q Q < stepsLeft g r P Q
   steps-back l = rw (lt-ltb P Q l, le-ltb Q Q (omega arith)) (omega arith)

@@ -1,13 +1,16 @@
 // Cuts: where a legal list is cut so that no interval is heavy, found by a sweep along the images (Nishimoto and Tabei's
-// fast balancing, with binary searches for its trees). The list itself is read where it lies.
+// fast balancing, with marks carried along for its trees, and binary searches behind the front). The list itself is read where it
+// lies.
 //
 // What balancing is stands in specs/Balance, and what `find_cuts` asks and promises in specs/Cuts. It is for crates that
 // have had the list checked.
 
+mod fronts;
 mod marks;
 mod pieces;
 mod sweep;
 
+use merging::Mark;
 ghost use Rattle.runs.specs.Runs.{runs};
 ghost use Rattle.cuts.specs.Cuts.{Cuttable, BalancingCuts};
 
@@ -21,6 +24,40 @@ struct Origin {
 struct Piece {
     start: u32,
     to: u32,
+}
+
+// Where an image begins, and the piece that it is of.
+struct Spot {
+    p: u32,
+    piece: Piece,
+}
+
+// A piece, and the mark before its image.
+struct Here {
+    piece: Piece,
+    mark: Mark,
+}
+
+// What two looks along the starts under a piece's image tell: whether it is heavy, and how far it is passed. That is where it is
+// to be cut if it is heavy, and else the end of its image. The mark stands before that place.
+struct Looked {
+    heavy: bool,
+    to: u32,
+    mark: Mark,
+}
+
+// The front of the sweep: the place that it has come to, the rank of the run whose image has it, and the mark before it.
+struct Front {
+    q: u32,
+    rank: usize,
+    mark: Mark,
+}
+
+// Where the sweep stands: at `p`, which is its front or lies behind it. Behind it `piece` is the piece at `p`.
+struct Stand {
+    p: u32,
+    piece: Piece,
+    front: Front,
 }
 
 // The cuts that balance the list, in rising order in `working`. Answers how many there are. `order` begins with the runs
