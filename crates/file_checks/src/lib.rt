@@ -6,6 +6,9 @@ use files::Header;
 use outcomes::Checked;
 use outcomes::Refusal;
 ghost use mathlib.Core.Path.{_≡_};
+ghost use mathlib.Core.List.{[], _∷_};
+ghost use Prim.Native.Nat.{_≤_};
+ghost use Rattle.outcomes.specs.Outcome.{Long};
 ghost use Rattle.runs.specs.Runs.{runs};
 ghost use Rattle.runs.specs.Check.{maxRuns};
 ghost use Rattle.files.specs.File.{fileOf, fileSays};
@@ -40,8 +43,36 @@ fn check_list(file: &[u8], h: Header, starts: &mut [u32], images: &mut [u32]) ->
     check_listed(h, starts, images)
 }
 
-// The same, with room of its own.
-fn check_body(file: &[u8], h: Header) -> FileChecked
+// The same with room for as many runs or more.
+fn check_in(file: &[u8], h: Header, starts: &mut [u32], images: &mut [u32]) -> FileChecked
+    requires { ⌜ Laid maxRuns (now file) h × Long (h .k) (now starts ∷ now images ∷ []) ⌝ }
+    ensures { λ r. ⌜ fileSays r ≡ bodyOf (now (file .entry)) ⌝ }
+{
+    let k = h.k as usize;
+    check_list(file, h, &mut starts[..k], &mut images[..k])
+}
+
+// The same with room of its own, for a short list, for a longer one, and for any: functions of their own, since a call clears its
+// tables and touches each page of its frame.
+fn check_few(file: &[u8], h: Header) -> FileChecked
+    requires { ⌜ Laid maxRuns (now file) h × (h .k ≤ 64) ⌝ }
+    ensures { λ r. ⌜ fileSays r ≡ bodyOf (now (file .entry)) ⌝ }
+{
+    let mut starts: [u32; runs::FEW_RUNS] = [0; runs::FEW_RUNS];
+    let mut images: [u32; runs::FEW_RUNS] = [0; runs::FEW_RUNS];
+    check_in(file, h, &mut starts, &mut images)
+}
+
+fn check_some(file: &[u8], h: Header) -> FileChecked
+    requires { ⌜ Laid maxRuns (now file) h × (h .k ≤ 1024) ⌝ }
+    ensures { λ r. ⌜ fileSays r ≡ bodyOf (now (file .entry)) ⌝ }
+{
+    let mut starts: [u32; runs::SOME_RUNS] = [0; runs::SOME_RUNS];
+    let mut images: [u32; runs::SOME_RUNS] = [0; runs::SOME_RUNS];
+    check_in(file, h, &mut starts, &mut images)
+}
+
+fn check_any(file: &[u8], h: Header) -> FileChecked
     requires { ⌜ Laid maxRuns (now file) h ⌝ }
     ensures { λ r. ⌜ fileSays r ≡ bodyOf (now (file .entry)) ⌝ }
 {
@@ -49,6 +80,20 @@ fn check_body(file: &[u8], h: Header) -> FileChecked
     let mut starts: [u32; runs::MAX_RUNS] = [0; runs::MAX_RUNS];
     let mut images: [u32; runs::MAX_RUNS] = [0; runs::MAX_RUNS];
     check_list(file, h, &mut starts[..k], &mut images[..k])
+}
+
+fn check_body(file: &[u8], h: Header) -> FileChecked
+    requires { ⌜ Laid maxRuns (now file) h ⌝ }
+    ensures { λ r. ⌜ fileSays r ≡ bodyOf (now (file .entry)) ⌝ }
+{
+    let k = h.k as usize;
+    if k <= runs::FEW_RUNS {
+        check_few(file, h)
+    } else if k <= runs::SOME_RUNS {
+        check_some(file, h)
+    } else {
+        check_any(file, h)
+    }
 }
 
 // Whether the file is one of a legal list of at most 16,384 runs with a degree from 2 to 64, and what its header says.

@@ -1,9 +1,9 @@
--- `check_body` meets its contract: there is room for as many runs as the header may say.
+-- `check_any` meets its contract: there is room for as many runs as the header may say.
 use mathlib.Core.Path.{sym}
 use lib.Seq.{length-take-le}
 use borrow.Author.Needs.{needs}
-use Rattle.file_checks.proofs.check_body.Statement.{statement}
-use Rattle.file_checks.proofs.check_body.Tie as tie
+use Rattle.file_checks.proofs.check_any.Statement.{statement}
+use Rattle.file_checks.proofs.check_any.Tie as tie
 
 cast-k : tie.Need-cast-k
 cast-k c = search needs
@@ -28,8 +28,8 @@ check-list-requires c κs =
 returns : tie.Need-returns
 returns c = search needs
 
-pub check-body-spec : {M : Type 1} → statement M
-check-body-spec =
+pub check-any-spec : {M : Type 1} → statement M
+check-any-spec =
     tie.close
     (tie.spec
     cast-k
