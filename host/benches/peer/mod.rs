@@ -77,66 +77,98 @@ pub fn check_file(file: &[u8]) -> Outcome<[u32; 3]> {
     Ok([n, k, d])
 }
 
-/// The starts of a list with cuts, answered by binary searches.
-struct Cut<'a> {
+/// A place among the starts and the cuts: how many of each are below it.
+#[derive(Clone, Copy, Default)]
+struct Below {
+    starts: usize,
+    cuts: usize,
+}
+
+/// The sweep that balances a legal list, by rising image.
+struct Sweep<'a> {
     n: u32,
     starts: &'a [u32],
+    /// The runs in rising order of image, as image and index.
+    order: &'a [(u32, u32)],
     cuts: Vec<u32>,
 }
 
-impl Cut<'_> {
-    fn below(&self, t: u32) -> usize {
-        self.starts.partition_point(|&s| s < t) + self.cuts.partition_point(|&s| s < t)
-    }
-
-    /// The first start at or above t, or n.
-    fn from(&self, t: u32) -> u32 {
-        let s = self.starts.get(self.starts.partition_point(|&s| s < t)).copied().unwrap_or(self.n);
-        let u = self.cuts.get(self.cuts.partition_point(|&s| s < t)).copied().unwrap_or(self.n);
-        s.min(u)
-    }
-
-    /// The last start not above v.
-    fn to(&self, v: u32) -> u32 {
-        let s = self.starts[self.starts.partition_point(|&s| s <= v) - 1];
-        match self.cuts.partition_point(|&s| s <= v) {
-            0 => s,
-            c => s.max(self.cuts[c - 1]),
+impl Sweep<'_> {
+    /// The next start or cut, and the place behind it.
+    fn next(&self, at: Below) -> (u32, Below) {
+        let start = self.starts.get(at.starts).copied().unwrap_or(self.n);
+        match self.cuts.get(at.cuts) {
+            Some(&cut) if cut < start => (cut, Below { cuts: at.cuts + 1, ..at }),
+            _ => (start, Below { starts: at.starts + 1, ..at }),
         }
+    }
+
+    /// Whether 2d starts and cuts or more stand below `to`: then where d of them end, and what is below that, else what is below `to`.
+    fn look(&self, mut at: Below, d: usize, to: u32) -> (Option<u32>, Below) {
+        let mut middle = (to, at);
+        for count in 0..2 * d {
+            let (place, behind) = self.next(at);
+            if to <= place {
+                return (None, at);
+            }
+            if count == d {
+                middle = (place, at);
+            }
+            at = behind;
+        }
+        (Some(middle.0), middle.1)
+    }
+
+    /// What is below a place.
+    fn below(&self, t: u32) -> Below {
+        Below { starts: self.starts.partition_point(|&s| s < t), cuts: self.cuts.partition_point(|&c| c < t) }
+    }
+
+    /// The piece in whose image a place lies: where that image begins, where it ends, and where the piece starts.
+    fn around(&self, u: u32) -> (u32, u32, u32) {
+        let (image, x) = self.order[self.order.partition_point(|&(image, _)| image <= u) - 1];
+        let x = x as usize;
+        let place = self.starts[x] + (u - image);
+        let count = self.cuts.partition_point(|&cut| cut <= place);
+        let start = if count == 0 { self.starts[x] } else { self.starts[x].max(self.cuts[count - 1]) };
+        let (end, _) = self.next(Below { starts: x + 1, cuts: count });
+        let p = u - (place - start);
+        (p, p + (end - start), start)
+    }
+
+    fn insert(&mut self, u: u32) {
+        let at = self.cuts.partition_point(|&cut| cut < u);
+        self.cuts.insert(at, u);
     }
 }
 
-/// The cuts that balance a legal list: a sweep by rising image that goes back where a cut makes an interval behind heavy.
-fn balancing_cuts(n: u32, starts: &[u32], images: &[u32], order: &[(u32, u32)], d: u32) -> Vec<u32> {
-    let mut list = Cut { n, starts, cuts: Vec::new() };
-    let preimage = |q: u32| {
-        let x = order[order.partition_point(|&(image, _)| image <= q) - 1].1 as usize;
-        starts[x] + (q - images[x])
-    };
-    let (mut p, mut q) = (0, 0);
-    while p < n {
-        let start = preimage(p);
-        let end = p + (list.from(start + 1) - start);
-        if list.below(end) - list.below(p) < 2 * d as usize {
-            if p == q {
-                q = end;
+/// The cuts that balance a legal list. The front goes along the runs by rising image, and no cut lies ahead of it, so that it searches
+/// for nothing. Where a cut makes an interval behind it heavy, the sweep goes back there.
+fn balancing_cuts(n: u32, starts: &[u32], order: &[(u32, u32)], d: u32) -> Vec<u32> {
+    let mut sweep = Sweep { n, starts, order, cuts: Vec::new() };
+    let (mut front, mut rank, mut passed) = (0, 0, Below::default());
+    let mut back = None;
+    while back.is_some() || front < n {
+        let (p, to, start) = back.take().unwrap_or_else(|| {
+            let (image, x) = order[rank];
+            (front, order.get(rank + 1).map_or(n, |&(next, _)| next), starts[x as usize] + (front - image))
+        });
+        let at_front = p == front;
+        let (cut, below) = sweep.look(if at_front { passed } else { sweep.below(p) }, d as usize, to);
+        if at_front {
+            (front, passed) = (cut.unwrap_or(to), below);
+            rank += usize::from(cut.is_none());
+        }
+        if let Some(place) = cut {
+            let u = start + (place - p);
+            sweep.insert(u);
+            if u < front {
+                passed.cuts += 1;
+                back = Some(sweep.around(u)).filter(|&(p, ..)| p < front);
             }
-            p = q;
-            continue;
-        }
-        let mut s = list.from(p);
-        for _ in 0..d {
-            s = list.from(s + 1);
-        }
-        let u = start + (s - p);
-        list.cuts.insert(list.cuts.partition_point(|&c| c < u), u);
-        p = q;
-        if u < q {
-            let v = preimage(u);
-            p = u - (v - list.to(v));
         }
     }
-    list.cuts
+    sweep.cuts
 }
 
 /// Tests 1 to 7, and 8 for the working table. Answers the runs in rising order of image, and B.
@@ -162,7 +194,7 @@ fn check_with_room(
 #[inline(never)]
 pub fn forecast(n: u32, starts: &[u32], images: &[u32], d: u32, working: &mut [u32]) -> Outcome<Forecast> {
     let (order, b) = check_with_room(n, starts, images, d, working)?;
-    let cuts = balancing_cuts(n, starts, images, &order, d).len();
+    let cuts = balancing_cuts(n, starts, &order, d).len();
     working[..b].fill(0);
     Ok(Forecast { intervals: (starts.len() + cuts) as u32, cuts: cuts as u32 })
 }
@@ -174,7 +206,7 @@ pub fn least_degree(n: u32, starts: &[u32], images: &[u32], entries: u32, workin
     let (order, b) = check_with_room(n, starts, images, 2, working)?;
     working[..b].fill(0);
     for degree in 2..=64 {
-        let intervals = (starts.len() + balancing_cuts(n, starts, images, &order, degree).len()) as u32;
+        let intervals = (starts.len() + balancing_cuts(n, starts, &order, degree).len()) as u32;
         if intervals <= entries {
             return Ok(LeastDegree { degree, intervals });
         }
@@ -196,7 +228,7 @@ pub fn balance(
     working: &mut [u32],
 ) -> Outcome<u32> {
     let (order, b) = check_with_room(n, starts, images, d, working)?;
-    let cuts = balancing_cuts(n, starts, images, &order, d);
+    let cuts = balancing_cuts(n, starts, &order, d);
     working[..b].fill(0);
     let k = starts.len() + cuts.len();
     if to_starts.len().min(to_images.len()).min(to_holders.len()).min(to_lengths.len()) < k {
@@ -204,8 +236,10 @@ pub fn balance(
     }
     let mut rest = &cuts[..];
     let mut at = 0;
+    let mut firsts = Vec::with_capacity(starts.len() + 1);
     for (x, (&start, &image)) in starts.iter().zip(images).enumerate() {
         let end = starts.get(x + 1).copied().unwrap_or(n);
+        firsts.push(at);
         (to_starts[at], to_images[at]) = (start, image);
         at += 1;
         while let Some((&cut, others)) = rest.split_first().filter(|(&cut, _)| cut < end) {
@@ -214,15 +248,22 @@ pub fn balance(
             rest = others;
         }
     }
-    link(&to_starts[..k], &to_images[..k], &mut to_holders[..k]);
+    firsts.push(at);
+    link(&order, &firsts, &to_starts[..k], &to_images[..k], &mut to_holders[..k]);
     measure(n, &to_starts[..k], &mut to_lengths[..k]);
     Ok(k as u32)
 }
 
-/// The holder of each image.
-fn link(starts: &[u32], images: &[u32], holders: &mut [u32]) {
-    for (holder, &image) in holders.iter_mut().zip(images) {
-        *holder = starts.partition_point(|&s| s <= image) as u32 - 1;
+/// The holder of each image, by one walk along starts and images. The pieces of run x stand from `firsts[x]` up to the next one's.
+fn link(order: &[(u32, u32)], firsts: &[usize], starts: &[u32], images: &[u32], holders: &mut [u32]) {
+    let mut holder = 0;
+    for &(_, x) in order {
+        for piece in firsts[x as usize]..firsts[x as usize + 1] {
+            while starts.get(holder + 1).is_some_and(|&next| next <= images[piece]) {
+                holder += 1;
+            }
+            holders[piece] = holder as u32;
+        }
     }
 }
 
