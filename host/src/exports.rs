@@ -493,6 +493,25 @@ pub fn starts_under(
     call!(zibewoka_starts_under, n, [starts, images, holders, lengths], [interval], [])
 }
 
+/// The part of the starts that [`starts_under`] answers by an index and a count; or the answer, where it is a refusal.
+#[inline]
+pub(crate) fn part_under<'a>(
+    n: u32,
+    starts: &'a [u32],
+    images: &[u32],
+    holders: &[u32],
+    lengths: &[u32],
+    interval: u32,
+) -> Result<&'a [u32], UnderAnswer> {
+    let answer = starts_under(n, starts, images, holders, lengths, interval);
+    if answer.number != 0 {
+        return Err(answer);
+    }
+    let first = answer.first as usize;
+    // SAFETY: the starts that are told lie within the table, whatever it holds, as is proved (`under-within`).
+    Ok(unsafe { starts.get_unchecked(first..first + answer.count as usize) })
+}
+
 /// `zibewoka_advance`: [`Bookmark::advance`] with its answer as it crosses the boundary. A refusal leaves the bookmark as it was.
 #[inline]
 pub fn advance(

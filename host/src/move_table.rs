@@ -106,6 +106,7 @@ impl MoveTable {
     ///
     /// # Errors
     /// Number 9; then 12, with the lowest interval whose length is wrong; then 11.
+    #[inline]
     pub fn find(&self, place: u32) -> Result<Position, Refusal> {
         let interval = plain::find(self.n, &self.starts, &self.images, &self.holders, &self.lengths, place)?;
         Ok(Position { place, interval })
@@ -126,12 +127,14 @@ impl MoveTable {
     /// # Errors
     /// Numbers 9 and 10; then 12 where the interval's length is wrong; then 11; then 12 at each move, and then there is no part
     /// result.
+    #[inline]
     pub fn steps(&self, from: impl Into<Position>, m: u32) -> Result<Step, Refusal> {
         let Position { place, interval } = from.into();
         plain::moves(self.n, &self.starts, &self.images, &self.holders, &self.lengths, interval, place, m)
     }
 
     /// The moves from a place on, one after the other: a walk has no end, but for a refusal, which is its last item.
+    #[inline]
     pub fn walk(&self, from: impl Into<Position>) -> Walk<'_> {
         Walk { table: self, at: Some(from.into()) }
     }
@@ -140,6 +143,7 @@ impl MoveTable {
     ///
     /// # Errors
     /// Number 9; then 12, with the lowest interval whose length is wrong; then 11; then 14.
+    #[inline]
     pub fn preimage(&self, place: u32) -> Result<Position, Refusal> {
         plain::inverse(self.n, &self.starts, &self.images, &self.holders, &self.lengths, place)
     }
@@ -148,6 +152,7 @@ impl MoveTable {
     ///
     /// # Errors
     /// Numbers 9, 10 and 12.
+    #[inline]
     pub fn weight(&self, interval: u32) -> Result<u32, Refusal> {
         plain::weight(self.n, &self.starts, &self.images, &self.holders, &self.lengths, interval)
     }
@@ -156,6 +161,7 @@ impl MoveTable {
     ///
     /// # Errors
     /// Numbers 9, 10 and 12.
+    #[inline]
     pub fn starts_under(&self, interval: u32) -> Result<&[u32], Refusal> {
         plain::starts_under(self.n, &self.starts, &self.images, &self.holders, &self.lengths, interval)
     }
@@ -165,6 +171,7 @@ impl MoveTable {
     /// # Errors
     /// Number 9; then 12, with the lowest interval whose length is wrong; then 16, with the question's index; then 11; then 12:
     /// each of these three of the lowest question that it applies to. All records stay as they were.
+    #[inline]
     pub fn questions(&self, questions: &mut [Question]) -> Result<u32, Refusal> {
         plain::questions(self.n, &self.starts, &self.images, &self.holders, &self.lengths, questions)
     }

@@ -408,13 +408,9 @@ pub fn starts_under<'a>(
     lengths: &[u32],
     interval: u32,
 ) -> Result<&'a [u32], Refusal> {
-    let answer = exports::starts_under(n, starts, images, holders, lengths, interval);
-    done(answer.number, |number| {
-        Table { n, columns: [starts, images, holders, lengths] }.refusal(number, answer.place, None)
-    })?;
-    let first = answer.first as usize;
-    // They are part of the starts: an empty slice is never given for want of them.
-    Ok(starts.get(first..first + answer.count as usize).unwrap_or_default())
+    exports::part_under(n, starts, images, holders, lengths, interval).map_err(|answer| {
+        Table { n, columns: [starts, images, holders, lengths] }.refusal(answer.number, answer.place, None)
+    })
 }
 
 /// Answers questions that stand in rising order of place, equal ones too: each record gets the interval that has its
