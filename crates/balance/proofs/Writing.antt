@@ -3,14 +3,13 @@ use Prim.Native.Nat.{ℕ, suc, _+_, _-_, _≤_, _<_}
 use mathlib.Core.Path.{_≡_, sym, ap, _∙_}
 use mathlib.Core.List.{List, map}
 use native.Mathlib.Omega.{arith}
-use native.Mathlib.Numerals.{add-one}
 use lib.ListN.{length, take, drop, getD, set, length-map}
 use Rattle.order.specs.Lists.{countBelow}
 use Rattle.order.proofs.Filling.{Filling, filling-none, filling-length, filling-next, filling-all}
-use Rattle.order.proofs.Laws.{all-at, at-all, strict-length, getD-map}
+use Rattle.order.proofs.Laws.{all-at, getD-map}
 use Rattle.runs.specs.Legal.{Legal}
-use Rattle.runs.specs.Runs.{Runs, runs, countOf, startOf, imageOf, endOf, runAt, mapOf}
-use Rattle.runs.proofs.Legality.{homes, home, run-at, image-below}
+use Rattle.runs.specs.Runs.{Runs, runs, countOf, startOf, endOf, runAt, mapOf}
+use Rattle.runs.proofs.Legality.{homes, home, run-at}
 use lib.Seq.{take-at}
 use Rattle.tables.specs.Tables.{tables, lengthsOf, tablesOf}
 use Rattle.runs.proofs.Walks.{run-below}
@@ -31,16 +30,6 @@ has-counted n r c p k h e = go (home n r (homes n r c) p h)
     go (x, hx, a, b) =
         let f : k - 1 ≡ x = omega (arith, run-below n r (homes n r c) p h, run-at n r (homes n r c) x p hx a b) in
         (omega (arith, run-below n r (homes n r c) p h), rw f (record { known = hx; from = a; to = b }))
-
--- there are no more runs than places
-pub runs-below : (n : ℕ) (r : Runs) → Legal n r → countOf r ≤ n
-runs-below n r c = strict-length n (r .starts) (homes n r c .up) (at-all (λ y. y < n) (r .starts) (c .below))
-
--- the holder of an image, by counting the starts up to it
-pub holder-counted : (n : ℕ) (r : Runs) → Legal n r → (x : ℕ) → x < countOf r
-    → countBelow (imageOf r x + 1) (r .starts) ≡ suc (runAt n r (imageOf r x))
-holder-counted n r c x h = ap (λ (t : ℕ). countBelow t (r .starts)) (add-one (imageOf r x))
-    ∙ run-below n r (homes n r c) (imageOf r x) (image-below n r c x h)
 
 -- m entries are written
 pub record Writing (n : ℕ) (r : Runs) (cuts starts₀ images₀ starts images : List ℕ) (mark : Mark) (m : ℕ) : Type 0

@@ -47,20 +47,6 @@ fn write_list(
     }
 }
 
-// Writes the holder of each image: the run that has it.
-fn write_holders(n: u32, starts: &[u32], images: &[u32], to: &mut [u32])
-    requires { ⌜ Legal n (runs (now starts) (now images)) × (length (now starts) ≤ length (now to)) ⌝ }
-    ensures { λ _. ⌜ now (to .exit) ≡ over
-        (map (runAt n (runs (now (starts .entry)) (now (images .entry)))) (now (images .entry)))
-        (now (to .entry)) ⌝ }
-{
-    let mut x = 0;
-    while x < images.len() {
-        to[x] = (searching::count_below(starts, images[x] + 1) - 1) as u32;
-        x += 1;
-    }
-}
-
 // Writes the length of each interval: where it ends minus its start. The last one, which ends at n, stands apart, so that each
 // turn does the same and the compiler can make several at a time.
 fn write_lengths(n: u32, starts: &[u32], to: &mut [u32])
@@ -74,6 +60,26 @@ fn write_lengths(n: u32, starts: &[u32], to: &mut [u32])
         x += 1;
     }
     to[last] = n - starts[last];
+}
+
+// Writes the holder of each image, and the length of each interval. The holders are found with the table of the lengths as room,
+// before these are written.
+fn write_holders_and_lengths(
+    n: u32,
+    starts: &[u32],
+    images: &[u32],
+    to_holders: &mut [u32],
+    to_lengths: &mut [u32],
+)
+    requires { ⌜ Legal n (runs (now starts) (now images)) × (length (now starts) ≤ length (now «to_holders»))
+        × (length (now starts) ≤ length (now «to_lengths»)) ⌝ }
+    ensures { λ _. ⌜ (now («to_holders» .exit) ≡ over
+        (map (runAt n (runs (now (starts .entry)) (now (images .entry)))) (now (images .entry))) (now («to_holders» .entry)))
+        × (now («to_lengths» .exit) ≡ over (lengthsOf n (now (starts .entry))) (now («to_lengths» .entry))) ⌝ }
+{
+    let room = &mut to_lengths[..starts.len()];
+    holders::write_holders(n, starts, images, to_holders, room);
+    write_lengths(n, starts, to_lengths);
 }
 
 // Writes the tables of the list after the cuts.
@@ -97,6 +103,5 @@ pub(crate) fn write_tables(
 {
     write_list(n, starts, images, cuts, to_starts, to_images);
     let k = starts.len() + cuts.len();
-    write_holders(n, &to_starts[..k], &to_images[..k], to_holders);
-    write_lengths(n, &to_starts[..k], to_lengths);
+    write_holders_and_lengths(n, &to_starts[..k], &to_images[..k], to_holders, to_lengths);
 }

@@ -8,7 +8,6 @@ use lib.ListN.{length, take}
 use lib.Seq.{length-take-le}
 use Rattle.runs.specs.Legal.{Legal}
 use Rattle.runs.specs.Runs.{Runs, runs}
-use Rattle.runs.proofs.Legality.{homes}
 use Rattle.cuts.proofs.Cutlist.{with-legal}
 use Rattle.balance.proofs.Writing.{list-taken, tables-written}
 use Rattle.balance.proofs.fill.write_tables.Statement.{statement}
@@ -20,18 +19,18 @@ listOf a = runs (a .args .starts .now) (a .args .images .now)
 abbrev sizeOf : tie.Start → ℕ
 sizeOf a = length (a .args .starts .now) + length (a .args .cuts .now)
 
--- the places: the call, after the list is written, and after its holders are
+-- the places: the call, after the list is written, and after the other two tables are
 abbrev start : tie.After-write-list → tie.Start
 start c = c .before .before .before .before .before .before .before .before .before .before
 
 abbrev listed : tie.After-slice-known6 → tie.After-write-list
 listed c = c .before .before .before .before
 
-abbrev held : tie.After-slice-known7 → tie.After-write-holders
-held c = c .before .before
+abbrev held : tie.After-slice-known8 → tie.After-write-holders-and-lengths
+held c = c .before .before .before .before
 
-abbrev listed-of : tie.After-write-holders → tie.After-write-list
-listed-of c = listed (c .before .before .before .before)
+abbrev listed-of : tie.After-write-holders-and-lengths → tie.After-write-list
+listed-of c = listed (c .before .before .before .before .before)
 
 -- the two tables as they are then, as far as they hold the list, for which they have room
 abbrev starts-of : tie.After-write-list → List ℕ
@@ -60,33 +59,22 @@ write-list-requires c κs = search needs
 add-k : tie.Need-add-k
 add-k c = search needs
 
-slice-reshare-prefix-write-holders : tie.Need-slice-reshare-prefix-write-holders
-slice-reshare-prefix-write-holders c = search needs
+slice-reshare-prefix-write-holders-and-lengths : tie.Need-slice-reshare-prefix-write-holders-and-lengths
+slice-reshare-prefix-write-holders-and-lengths c = search needs
 
-slice-aggregate-write-holders : tie.Need-slice-aggregate-write-holders
-slice-aggregate-write-holders c = sym (starts-taken (listed (c .before)))
+slice-aggregate-write-holders-and-lengths : tie.Need-slice-aggregate-write-holders-and-lengths
+slice-aggregate-write-holders-and-lengths c = sym (starts-taken (listed (c .before)))
 
-slice-reshare-prefix-write-holders-2 : tie.Need-slice-reshare-prefix-write-holders-2
-slice-reshare-prefix-write-holders-2 c = search needs
+slice-reshare-prefix-write-holders-and-lengths-2 : tie.Need-slice-reshare-prefix-write-holders-and-lengths-2
+slice-reshare-prefix-write-holders-and-lengths-2 c = search needs
 
-slice-aggregate-write-holders-2 : tie.Need-slice-aggregate-write-holders-2
-slice-aggregate-write-holders-2 c = sym (images-taken (listed (c .before .before)))
+slice-aggregate-write-holders-and-lengths-2 : tie.Need-slice-aggregate-write-holders-and-lengths-2
+slice-aggregate-write-holders-and-lengths-2 c = sym (images-taken (listed (c .before .before)))
 
-write-holders-requires : tie.Need-write-holders-requires
-write-holders-requires c κs =
-    let w = listed (c .before .before .before) in
-    (legal w, omega (arith, starts-taken w, start w .pre .2 .1 .1 .0))
-
-slice-reshare-prefix-write-lengths : tie.Need-slice-reshare-prefix-write-lengths
-slice-reshare-prefix-write-lengths c = search needs
-
-slice-aggregate-write-lengths : tie.Need-slice-aggregate-write-lengths
-slice-aggregate-write-lengths c = sym (starts-taken (listed-of (held (c .before))))
-
-write-lengths-requires : tie.Need-write-lengths-requires
-write-lengths-requires c κs =
-    let w = listed-of (held (c .before .before)) in
-    (legal w .some, homes _ _ (legal w) .lasting, omega (arith, starts-taken w, start w .pre .2 .1 .1 .1 .0))
+write-holders-and-lengths-requires : tie.Need-write-holders-and-lengths-requires
+write-holders-and-lengths-requires c κs =
+    let w = listed (c .before .before .before .before) in
+    (legal w, omega (arith, starts-taken w, start w .pre .2 .1 .1 .0), omega (arith, starts-taken w, start w .pre .2 .1 .1 .1 .0))
 
 same-length : tie.Need-same-length
 same-length c = search needs
@@ -102,11 +90,10 @@ same-length-4 c = search needs
 
 returns : tie.Need-returns
 returns c =
-    let l = c .before .before in
-    let h = held (l .before .before .before) in
+    let h = held c in
     let w = listed-of h in
-    tables-written _ (listOf (start w)) _ _ _ _ _ (w .write-list .ensures) _ _ _ _ _ refl
-    (h .write-holders .ensures) (l .write-lengths .ensures)
+    let e = h .write-holders-and-lengths .ensures in
+    tables-written _ (listOf (start w)) _ _ _ _ _ (w .write-list .ensures) _ _ _ _ _ refl (e .0) (e .1)
 
 pub write-tables-spec : {M : Type 1} → statement M
 write-tables-spec =
@@ -114,14 +101,11 @@ write-tables-spec =
     (tie.spec
     write-list-requires
     add-k
-    slice-reshare-prefix-write-holders
-    slice-aggregate-write-holders
-    slice-reshare-prefix-write-holders-2
-    slice-aggregate-write-holders-2
-    write-holders-requires
-    slice-reshare-prefix-write-lengths
-    slice-aggregate-write-lengths
-    write-lengths-requires
+    slice-reshare-prefix-write-holders-and-lengths
+    slice-aggregate-write-holders-and-lengths
+    slice-reshare-prefix-write-holders-and-lengths-2
+    slice-aggregate-write-holders-and-lengths-2
+    write-holders-and-lengths-requires
     same-length
     same-length-2
     same-length-3

@@ -1,0 +1,3 @@
+-- What is noted in the buckets, and the holder that is found from there.
+mod Noting
+mod Holding
