@@ -2,7 +2,7 @@
 // would then have more intervals than there are entries, nothing has to be cut to know it. At a high one it may make none.
 //
 // How many cuts are certain stands in the crate cuts (specs/Certain), and what `first_degree` asks and promises in
-// specs/Bound. It is for crates that have had the list checked.
+// specs/Bound. It is for our own crates, which have had the list checked.
 
 ghost use mathlib.Core.Path.{_≡_};
 ghost use Prim.Native.Nat.{_≤_};

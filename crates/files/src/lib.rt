@@ -1,4 +1,4 @@
-// The file of a run list: its words, its header and its list, for crates that go on with a file.
+// The file of a run list: its words, its header and its list, for our own crates, which go on with a file.
 //
 // What a file is, and the tests that it is held to, stand in specs/Words and specs/File; specs/Right says in plain facts
 // which files are accepted, and specs/Parts what the functions here ask.
