@@ -2,8 +2,8 @@
 // fast balancing, with marks carried along for its trees, and binary searches behind the front). The list itself is read where it
 // lies.
 //
-// What balancing is stands in specs/Balance, and what `find_cuts` asks and promises in specs/Cuts. It is for our own
-// crates, which have had the list checked.
+// What balancing is stands in specs/Balance, and what `find_cuts` asks and promises in specs/Cuts.
+// It is for our own crates, which have had the list checked.
 
 mod fronts;
 mod marks;
