@@ -10,3 +10,4 @@ pub mod Cutlist
 pub mod Ahead
 pub mod Looking
 pub mod Progress
+pub mod Light

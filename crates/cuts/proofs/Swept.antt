@@ -19,6 +19,7 @@ use Rattle.runs.specs.Legal.{Legal}
 use Rattle.runs.specs.Runs.{Runs, countOf, imageOf, imageEnd, carryBack}
 use Rattle.runs.specs.Weight.{weight}
 use Rattle.cuts.specs.Balance.{cut, cutPlace, cutAt}
+use Rattle.cuts.specs.Parts.{Edge}
 use Rattle.runs.proofs.Legality.{homes, lands, land, land-one, image-some}
 use Rattle.cuts.proofs.Refine.{Refines}
 use Rattle.cuts.proofs.Cut.{cut-cases, cut-count, cut-left, cut-first, cut-second, cut-right}
@@ -36,10 +37,6 @@ back n r u Q = ltb u Q then imageOf r (landing n r u) else Q
 -- the start that a cut adds
 abbrev pub added : ℕ → ℕ → Runs → ℕ → ℕ
 added d n r x = carryBack r x (cutPlace d n r x)
-
--- no image goes on past place p
-abbrev pub Edge : ℕ → Runs → ℕ → Type 0
-Edge n r p = (x : ℕ) → x < countOf r → imageOf r x < p → imageEnd n r x ≤ p
 
 -- before place Q only the interval with image P may be heavy, and barely
 pub record SweptTo (d n : ℕ) (r : Runs) (P Q : ℕ) : Type 0 where
@@ -357,6 +354,10 @@ module _ (g : ℕ) (r : Runs) (P Q : ℕ) where
       → stepsLeft g (cut r x s) P′ T < stepsLeft (suc g) r P Q
   steps-cut x s P′ T pair hx l =
       omega (arith, ahead-cut r x s Q pair hx, ahead-less (cut r x s) Q T l, bit-le (ltb P′ T))
+
+  -- further on there are no more
+  pub steps-less : (T : ℕ) → Q ≤ T → stepsLeft g r T T ≤ stepsLeft g r P Q
+  steps-less T l = rw (le-ltb T T (omega arith)) (omega (arith, ahead-less r Q T l))
 
   pub steps-back : P < Q → stepsLeft g r Q Q < stepsLeft g r P Q
   steps-back l = rw (lt-ltb P Q l, le-ltb Q Q (omega arith)) (omega arith)

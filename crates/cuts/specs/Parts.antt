@@ -1,5 +1,5 @@
 -- The pieces that cuts make of a list's runs: what the private searches for them ask and promise.
-use Prim.Native.Nat.{ℕ, _+_, _-_, _≤_, _<_}
+use Prim.Native.Nat.{ℕ, _+_, _-_, _*_, _≤_, _<_}
 use mathlib.Core.Path.{_≡_}
 use mathlib.Core.Bool.{true, false}
 use mathlib.Core.List.{List}
@@ -7,6 +7,7 @@ use lib.ListN.{getD}
 use lib.Dec.{ltb}
 use Rattle.order.specs.Lists.{All, bit, countBelow}
 use Rattle.runs.specs.Runs.{Runs, countOf, startOf, imageOf, imageEnd, mapOf}
+use Rattle.runs.specs.Weight.{weight}
 use Rattle.cuts.specs.Cuts.{withCuts}
 use Rattle.cuts.specs.declared.Piece.{Piece}
 use Rattle.cuts.specs.declared.Spot.{Spot}
@@ -20,6 +21,10 @@ pub record Begins (q : Runs) (p : ℕ) : Type 0 where
   pub index : ℕ
   pub known : index < countOf q
   pub at : imageOf q index ≡ p
+
+-- no image goes on past place p
+abbrev pub Edge : ℕ → Runs → ℕ → Type 0
+Edge n q p = (x : ℕ) → x < countOf q → imageOf q x < p → imageEnd n q x ≤ p
 
 -- the numbers of the interval of q that has its image at p
 pub record PieceAt (n : ℕ) (q : Runs) (p : ℕ) (piece : Piece) : Type 0 where
@@ -80,6 +85,15 @@ pub record Passes (front : Front) (p : ℕ) (looked : Looked) (r : Front) : Type
       → r ≡ record { q = looked .to; rank = front .rank; mark = looked .mark }
   pub on : front .q ≤ p → looked .heavy ≡ false
       → r ≡ record { q = looked .to; rank = front .rank + 1; mark = looked .mark }
+
+-- the front moved on: what it passes of the list after the cuts is light, and it stops between two images
+pub record PassesLight (d n : ℕ) (r : Runs) (ranked cuts : List ℕ) (front m : Front) : Type 0 where
+  pub at : FrontAt n r ranked cuts m
+  pub on : front .q ≤ m .q
+  pub within : m .q ≤ n
+  pub edge : Edge n (withCuts n r cuts) (m .q)
+  pub light : (x : ℕ) → x < countOf (withCuts n r cuts) → front .q ≤ imageOf (withCuts n r cuts) x
+      → imageOf (withCuts n r cuts) x < m .q → weight n (withCuts n r cuts) x < 2 * d
 
 -- the front with a cut at u counted
 pub record Counts (front : Front) (u : ℕ) (r : Front) : Type 0 where

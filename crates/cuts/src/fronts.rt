@@ -3,10 +3,16 @@ use super::Front;
 use super::Looked;
 use super::Piece;
 use super::Stand;
+use super::marks;
 use merging::Mark;
+use order::entry_or;
 ghost use mathlib.Core.Path.{_≡_};
-ghost use Prim.Native.Nat.{_<_};
-ghost use Rattle.cuts.specs.Parts.{AtFront, Passes, Counts};
+ghost use Prim.Native.Nat.{_≤_, _<_};
+ghost use Rattle.runs.specs.Runs.{runs};
+ghost use Rattle.merging.specs.Merged.{Starts};
+ghost use Rattle.cuts.specs.Cuts.{withCuts};
+ghost use Rattle.cuts.specs.Ranks.{Ranked};
+ghost use Rattle.cuts.specs.Parts.{Edge, FrontAt, AtFront, Passes, PassesLight, Counts};
 
 // The front where the sweep begins.
 pub(crate) fn first() -> Front
@@ -55,6 +61,42 @@ pub(crate) fn pass(at: Stand, looked: Looked) -> Front
         rank: front.rank + 1,
         mark,
     }
+}
+
+// The front moved on past light pieces: to the first one that is heavy, or to n. It is a loop of its own, since the sweep's keeps more
+// at hand than a processor has registers.
+pub(crate) fn pass_light(
+    n: u32,
+    starts: &[u32],
+    images: &[u32],
+    order: &[u32],
+    ranked: &[u32],
+    cuts: &[u32],
+    d: usize,
+    front: Front,
+) -> Front
+    requires { ⌜ Ranked n (runs (now starts) (now images)) (now order) (now ranked) × Starts n (now starts) (now cuts)
+        × FrontAt n (runs (now starts) (now images)) (now ranked) (now cuts) front
+        × Edge n (withCuts n (runs (now starts) (now images)) (now cuts)) (front .q)
+        × (front .q ≤ n) × (0 < d) × (d ≤ 64) ⌝ }
+    ensures { λ r. ⌜ PassesLight d n (runs (now (starts .entry)) (now (images .entry)))
+        (now (ranked .entry)) (now (cuts .entry)) front r ⌝ }
+{
+    let mut at = front;
+    while at.q < n {
+        let to = entry_or(ranked, at.rank + 1, n);
+        let looked = marks::look(n, starts, cuts, at.mark, d, to);
+        if looked.heavy {
+            return at;
+        }
+        let mark = looked.mark;
+        at = Front {
+            q: looked.to,
+            rank: at.rank + 1,
+            mark,
+        };
+    }
+    at
 }
 
 // The front with the cut at `u` counted.

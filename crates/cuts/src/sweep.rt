@@ -40,7 +40,17 @@ pub(crate) fn sweep(
             cuts += 1;
             at = after_cut(n, starts, images, order, ranked, &working[..cuts], front, u);
         } else {
-            at = fronts::at_front(front);
+            let on = fronts::pass_light(
+                n,
+                starts,
+                images,
+                order,
+                ranked,
+                &working[..cuts],
+                d,
+                front,
+            );
+            at = fronts::at_front(on);
         }
     }
     cuts

@@ -23,6 +23,7 @@ use Rattle.cuts.specs.declared.Front.{Front}
 use Rattle.cuts.specs.declared.Stand.{Stand}
 use Rattle.cuts.proofs.Ahead.{front-start, front-passed, front-counted}
 use Rattle.cuts.proofs.Progress.{Progress, turnsLeft, progress-start, progress-at, progress-on, progress-back, piece-to, looked-light, looked-heavy, cut-place, cut-inside, cut-below, cut-behind, cut-room, cut-starts, cut-taken, progress-cut, progress-end}
+use Rattle.cuts.proofs.Light.{progress-light}
 use Rattle.cuts.proofs.sweep.sweep.Statement.{statement}
 use Rattle.cuts.proofs.sweep.sweep.Tie as tie
 
@@ -367,9 +368,6 @@ loop-less c = stepped c .1
 loop-again : tie.Need-loop-again Inv-loop μ-loop
 loop-again c = (stepped c .0, counted c, behind-known _ _ _ _ _ (c .after-cut .ensures))
 
-at-front-requires-2 : tie.Need-at-front-requires-2 Inv-loop μ-loop
-at-front-requires-2 c κs = search needs
-
 -- a light piece: on from the front, or back to it
 moved : (c : tie.Else2 Inv-loop μ-loop) → let l = turn (seen (c .before .before)) in
     Moves l (l .loop .working) (c .before .pass .result .q) (c .before .pass .result .q) (l .loop .cuts)
@@ -398,23 +396,52 @@ moved c = go (lt-or-le (turn (seen (c .before .before)) .loop .at .p) (turn (see
         (progress-on _ _ (a .pre .1) (listOf a) (a .pre .0 .legal) _ _ _ _ _ (l .loop .inv .0) _
         (seen k .here .ensures .piece-at) (light k (c .if2 .left) .0) m)
 
+slice-reshare-prefix-pass-light : tie.Need-slice-reshare-prefix-pass-light Inv-loop μ-loop
+slice-reshare-prefix-pass-light c = turn (seen (c .before .before)) .loop .inv .0 .fits
+
+slice-aggregate-pass-light : tie.Need-slice-aggregate-pass-light Inv-loop μ-loop
+slice-aggregate-pass-light c = let l = turn (seen (c .before .before .before)) .loop in
+    sym (length-take-le (l .cuts) (l .working) (l .inv .0 .fits))
+
+pass-light-requires : tie.Need-pass-light-requires Inv-loop μ-loop
+pass-light-requires c κs =
+    let e = c .before in
+    let l = turn (seen (e .before .before)) in
+    let a = start l in
+    let m = moved e .0 .sweeping .swept in
+    (a .pre .0, l .loop .inv .0 .starts, passed (e .before), m .edge-Q, m .bounded, omega (arith, a .pre .1), a .pre .2)
+
+-- and on past the light ones that follow
+abbrev elseT : tie.After-pass-light Inv-loop μ-loop → tie.Else2 Inv-loop μ-loop
+elseT c = c .before .before
+
+further : (c : tie.After-pass-light Inv-loop μ-loop) → let l = turn (seen (elseT c .before .before)) in
+    Moves l (l .loop .working) (c .pass-light .result .q) (c .pass-light .result .q) (l .loop .cuts)
+further c =
+    let m = moved (elseT c) in
+    let p = progress-light _ _ (listOf (start (turn (seen (elseT c .before .before))))) _ _ _ _ _ _ (c .pass-light .ensures) (m .0) in
+    (p .0, omega (arith, p .1, m .1))
+
+at-front-requires-2 : tie.Need-at-front-requires-2 Inv-loop μ-loop
+at-front-requires-2 c κs = search needs
+
 -- the same where the sweep stands then
-stood : (c : tie.After-at-front2 Inv-loop μ-loop) → let l = turn (seen (c .before .before .before)) in let at = c .at-front2 .result in
+stood : (c : tie.After-at-front2 Inv-loop μ-loop) → let l = turn (seen (elseT (c .before) .before .before)) in let at = c .at-front2 .result in
     Moves l (l .loop .working) (at .p) (at .front .q) (l .loop .cuts)
 stood c =
-    let l = turn (seen (c .before .before .before)) in
-    front-holds (λ p f. Moves l (l .loop .working) p (f .q) (l .loop .cuts)) _ _ (c .at-front2 .ensures) (moved (c .before))
+    let l = turn (seen (elseT (c .before) .before .before)) in
+    front-holds (λ p f. Moves l (l .loop .working) p (f .q) (l .loop .cuts)) _ _ (c .at-front2 .ensures) (further (c .before))
 
 loop-less-2 : tie.Need-loop-less-2 Inv-loop μ-loop
 loop-less-2 c = stood c .1
 
 loop-again-2 : tie.Need-loop-again-2 Inv-loop μ-loop
 loop-again-2 c =
-    let l = turn (seen (c .before .before .before)) in
+    let l = turn (seen (elseT (c .before) .before .before)) in
     let a = start l in (
       stood c .0,
       front-holds (λ p f. FrontAt (a .args .n) (listOf a) (a .args .ranked .now) (cutsOf l) f) _ _ (c .at-front2 .ensures)
-          (passed (c .before .before)),
+          (c .before .pass-light .ensures .at),
       front-known _ _ _ _ (c .at-front2 .ensures),
     )
 
@@ -452,6 +479,9 @@ sweep-spec =
     after-cut-requires
     loop-less
     loop-again
+    slice-reshare-prefix-pass-light
+    slice-aggregate-pass-light
+    pass-light-requires
     at-front-requires-2
     loop-less-2
     loop-again-2
