@@ -14,17 +14,18 @@ pub(crate) fn differs(start: u32, end: u32, length: u32) -> bool
 }
 
 // Whether one of all lengths is wrong. Each turn does the same whatever it sees, so that the compiler can make several at a time;
-// the last interval, which ends at n, stands apart.
+// the last interval, which ends at n, stands apart. It collects that all are right, since vectors are compared for equal and above, and
+// what is not so would have to be turned over.
 pub(crate) fn is_any_wrong(n: u32, starts: &[u32], lengths: &[u32]) -> bool
     requires { ⌜ (0 < length (now starts)) × (length (now lengths) ≡ length (now starts)) ⌝ }
     ensures { λ r. ⌜ r ≡ anyBelow (wrongLength n (now (starts .entry)) (now (lengths .entry))) (length (now (starts .entry))) ⌝ }
 {
     let last = starts.len() - 1;
-    let mut wrong = false;
+    let mut right = true;
     let mut x = 0;
     while x < last {
-        wrong = wrong | differs(starts[x], starts[x + 1], lengths[x]);
+        right = right & !differs(starts[x], starts[x + 1], lengths[x]);
         x += 1;
     }
-    wrong | differs(starts[last], n, lengths[last])
+    !right | differs(starts[last], n, lengths[last])
 }

@@ -298,12 +298,12 @@ fn is_wrong_length(n: u32, starts: &[u32], lengths: &[u32], x: usize) -> bool {
 }
 
 /// The lowest interval whose length is wrong, if there is one. It is looked for only where a pass without an exit, which is quicker,
-/// has seen one.
+/// has not found all right.
 fn first_wrong_length(n: u32, starts: &[u32], lengths: &[u32]) -> Option<usize> {
     let last = starts.len() - 1;
     let others = starts[..last].iter().zip(&starts[1..]).zip(&lengths[..last]);
-    let is_any = others.fold(false, |is_any, ((&start, &end), &length)| is_any | differs(start, end, length));
-    if !is_any && !differs(starts[last], n, lengths[last]) {
+    let all_right = others.fold(true, |all_right, ((&start, &end), &length)| all_right & !differs(start, end, length));
+    if all_right && !differs(starts[last], n, lengths[last]) {
         return None;
     }
     (0..=last).find(|&x| is_wrong_length(n, starts, lengths, x))

@@ -1,7 +1,7 @@
--- `is_any_wrong` meets its contract: before each turn it is known whether a length of the intervals so far is wrong.
+-- `is_any_wrong` meets its contract: before each turn it is known whether all lengths of the intervals so far are right.
 use Prim.Native.Nat.{ℕ, suc, _-_, _≤_}
 use mathlib.Core.Path.{_≡_, refl, sym, ap, _∙_}
-use mathlib.Core.Bool.{Bool, _||_}
+use mathlib.Core.Bool.{Bool, true, false, not, _||_, _&&_}
 use native.Mathlib.Numerals.{add-one}
 use native.Mathlib.Omega.{arith}
 use mathlib.Core.List.{List}
@@ -15,15 +15,27 @@ use Rattle.tables.proofs.measuring.is_any_wrong.Statement.{statement}
 use Rattle.tables.proofs.measuring.is_any_wrong.Tie as tie
 
 abbrev Inv-loop : tie.InvT-loop
-Inv-loop n starts lengths last wrong₀ x₀ wrong x = (x ≤ last) × (wrong ≡ anyBelow (wrongLength n starts lengths) x)
+Inv-loop n starts lengths last right₀ x₀ right x = (x ≤ last) × (right ≡ not (anyBelow (wrongLength n starts lengths) x))
 
 abbrev μ-loop : tie.MeasureT-loop
-μ-loop n starts lengths last wrong₀ x₀ wrong x = last - x
+μ-loop n starts lengths last right₀ x₀ right x = last - x
 
 -- with one interval more, which ends at e
-further : (n : ℕ) (l m : List ℕ) (x e : ℕ) → e ≡ getD l (suc x) n → (a b : Bool) → a ≡ anyBelow (wrongLength n l m) x
-    → b ≡ mismatch (getD l x 0) e (getD m x 0) → (a || b) ≡ anyBelow (wrongLength n l m) (suc x)
-further n l m x e q a b f g = rw (f, g, q) (sym (any-more (wrongLength n l m) x))
+module _ (n : ℕ) (l m : List ℕ) (x e : ℕ) (q : e ≡ getD l (suc x) n) (a b : Bool)
+    (f : a ≡ not (anyBelow (wrongLength n l m) x)) (g : b ≡ mismatch (getD l x 0) e (getD m x 0)) where
+  further : (not a || b) ≡ anyBelow (wrongLength n l m) (suc x)
+  further = rw (f, g, q) (twice (anyBelow (wrongLength n l m) x) _ ∙ sym (any-more (wrongLength n l m) x))
+    where
+      twice : (t u : Bool) → (not (not t) || u) ≡ (t || u)
+      twice true u = refl
+      twice false u = refl
+
+  still : (a && not b) ≡ not (anyBelow (wrongLength n l m) (suc x))
+  still = both a b ∙ ap not further
+    where
+      both : (t u : Bool) → (t && not u) ≡ not (not t || u)
+      both true u = refl
+      both false u = refl
 
 sub-last : tie.Need-sub-last Inv-loop μ-loop
 sub-last c = search needs
@@ -68,7 +80,7 @@ loop-again c =
     let x = l .loop .x in
     let s = a .starts .now in
     let e = entry-after s x 0 ∙ getD-default s (suc x) 0 (a .n) (omega arith) in
-    (omega arith, rw add-one (further (a .n) s (a .lengths .now) x _ e _ _ (l .loop .inv .1) (c .differs .ensures)))
+    (omega arith, rw add-one (still (a .n) s (a .lengths .now) x _ e _ _ (l .loop .inv .1) (c .differs .ensures)))
 
 mul-differs-4 : tie.Need-mul-differs-4 Inv-loop μ-loop
 mul-differs-4 c = omega arith
@@ -95,7 +107,7 @@ returns c =
     let z : suc last ≡ length s = omega arith in
     let e : a .n ≡ getD s (suc last) (a .n) = sym (List·getD-eq-default s (a .n) (omega arith)) in
     further (a .n) s (a .lengths .now) last (a .n) e _ _
-    (l .loop .inv .1 ∙ ap (anyBelow (wrongLength (a .n) s (a .lengths .now))) x) (c .differs2 .ensures)
+    (l .loop .inv .1 ∙ ap (λ (k : ℕ). not (anyBelow (wrongLength (a .n) s (a .lengths .now)) k)) x) (c .differs2 .ensures)
     ∙ ap (anyBelow (wrongLength (a .n) s (a .lengths .now))) z
 
 pub is-any-wrong-spec : {M : Type 1} → statement M
