@@ -9,8 +9,10 @@ ghost use mathlib.Core.Path.{_≡_};
 ghost use mathlib.Core.List.{[], _∷_};
 ghost use Prim.Native.Nat.{_≤_};
 ghost use Rattle.outcomes.specs.Outcome.{Long};
-ghost use Rattle.runs.specs.Runs.{runs};
-ghost use Rattle.runs.specs.Check.{maxRuns};
+ghost use lib.ListN.{length};
+ghost use Rattle.outcomes.specs.Refusal.{checkedSays};
+ghost use Rattle.runs.specs.Runs.{Runs};
+ghost use Rattle.runs.specs.Check.{maxRuns, checkOf};
 ghost use Rattle.files.specs.File.{fileOf, fileSays};
 ghost use Rattle.files.specs.Parts.{Laid, ListRoom, degreeOf, listedOf, bodyOf};
 
@@ -24,11 +26,11 @@ fn check_degree(h: Header) -> FileChecked
     FileChecked::Refused(Refusal::Degree(h.d))
 }
 
-// Check's tests of the list that was read, and then test 7.
-fn check_listed(h: Header, starts: &[u32], images: &[u32]) -> FileChecked
-    ensures { λ r. ⌜ fileSays r ≡ listedOf h (runs (now (starts .entry)) (now (images .entry))) ⌝ }
+// What the check of the list says, and then test 7.
+fn then_degree(h: Header, checked: Checked) -> FileChecked
+    ensures { λ r. ⌜ ((q : Runs) → checkedSays checked ≡ checkOf (h .n) q → fileSays r ≡ listedOf h q) ⌝ }
 {
-    match lists::check(h.n, starts, images) {
+    match checked {
         Checked::Refused(r) => FileChecked::Refused(r),
         Checked::Accepted => check_degree(h),
     }
@@ -40,7 +42,7 @@ fn check_list(file: &[u8], h: Header, starts: &mut [u32], images: &mut [u32]) ->
     ensures { λ r. ⌜ fileSays r ≡ bodyOf (now (file .entry)) ⌝ }
 {
     files::read_list(file, h.k as usize, starts, images);
-    check_listed(h, starts, images)
+    then_degree(h, lists::check(h.n, starts, images))
 }
 
 // The same with room for as many runs or more.
@@ -52,15 +54,44 @@ fn check_in(file: &[u8], h: Header, starts: &mut [u32], images: &mut [u32]) -> F
     check_list(file, h, &mut starts[..k], &mut images[..k])
 }
 
+// The same with room for the check as well.
+fn check_list_by(
+    file: &[u8],
+    h: Header,
+    starts: &mut [u32],
+    images: &mut [u32],
+    order: &mut [u32],
+    spare: &mut [u32],
+) -> FileChecked
+    requires { ⌜ Laid maxRuns (now file) h × ListRoom (now file) (h .k) (now starts) (now images)
+        × (h .k ≤ length (now order)) × (h .k ≤ length (now spare)) ⌝ }
+    ensures { λ r. ⌜ fileSays r ≡ bodyOf (now (file .entry)) ⌝ }
+{
+    files::read_list(file, h.k as usize, starts, images);
+    let checked = runs::check_order(h.n, starts, images, runs::MOST_RUNS, order, spare);
+    then_degree(h, checked)
+}
+
 // The same with room of its own, for a short list, for a longer one, and for any: functions of their own, since a call clears its
-// tables and touches each page of its frame.
+// tables. It also touches each page of its frame. So a short list is checked here, and not by `lists::check`, which the compiler puts
+// into `check_list` with tables for any list.
 fn check_few(file: &[u8], h: Header) -> FileChecked
     requires { ⌜ Laid maxRuns (now file) h × (h .k ≤ 64) ⌝ }
     ensures { λ r. ⌜ fileSays r ≡ bodyOf (now (file .entry)) ⌝ }
 {
+    let k = h.k as usize;
     let mut starts: [u32; runs::FEW_RUNS] = [0; runs::FEW_RUNS];
     let mut images: [u32; runs::FEW_RUNS] = [0; runs::FEW_RUNS];
-    check_in(file, h, &mut starts, &mut images)
+    let mut order: [u32; runs::FEW_RUNS] = [0; runs::FEW_RUNS];
+    let mut spare: [u32; runs::FEW_RUNS] = [0; runs::FEW_RUNS];
+    check_list_by(
+        file,
+        h,
+        &mut starts[..k],
+        &mut images[..k],
+        &mut order,
+        &mut spare,
+    )
 }
 
 fn check_some(file: &[u8], h: Header) -> FileChecked

@@ -13,8 +13,11 @@ cast-read-list c = search needs
 read-list-requires : tie.Need-read-list-requires
 read-list-requires c κs = search needs
 
-check-listed-requires : tie.Need-check-listed-requires
-check-listed-requires c κs = search needs
+check-requires : tie.Need-check-requires
+check-requires c κs = search needs
+
+then-degree-requires : tie.Need-then-degree-requires
+then-degree-requires c κs = search needs
 
 same-length : tie.Need-same-length
 same-length c = search needs
@@ -24,11 +27,20 @@ same-length-2 c = search needs
 
 returns : tie.Need-returns
 returns c =
-    let l = c .before .before .before .before .before .before .before in
+    let k = c .before in
+    let l = k .before .before .before .before .before .before .before in
     let a = l .before .before .before .before .before .before .before in
-    c .check-listed .ensures ∙ body-is maxRuns _ (a .args .h) (a .pre .0) (omega arith) _ (l .read-list .ensures)
+    c .then-degree .ensures _ (k .check .ensures)
+    ∙ body-is maxRuns _ (a .args .h) (a .pre .0) (omega arith) _ (l .read-list .ensures)
 
 pub check-list-spec : {M : Type 1} → statement M
 check-list-spec =
     tie.close
-    (tie.spec cast-read-list read-list-requires check-listed-requires same-length same-length-2 returns)
+    (tie.spec
+    cast-read-list
+    read-list-requires
+    check-requires
+    then-degree-requires
+    same-length
+    same-length-2
+    returns)
