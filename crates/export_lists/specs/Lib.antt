@@ -1,3 +1,3 @@
--- The answers that cross the boundary, and what the exports that write promise.
+-- The answers that cross the boundary, and what the export that writes promises.
 pub mod Answers
 pub mod Lent

@@ -1,13 +1,12 @@
-// Check, the inverse list and balance as C functions on numbers and slices, for a host program in Rust or C: thin above the proved
+// Check and the inverse list as C functions on numbers and slices, for a host program in Rust or C: thin above the proved
 // operations. docs/BOUNDARY.md says what a caller owes and how an answer is read.
 mod answers;
 
 ghost use mathlib.Core.Path.{_≡_};
 ghost use Rattle.runs.specs.Runs.{runs};
 ghost use Rattle.runs.specs.Check.{checkOf};
-ghost use Rattle.balance.specs.Lent.{lent};
 ghost use Rattle.export_lists.specs.Answers.{listAnswer};
-ghost use Rattle.export_lists.specs.Lent.{BalanceAnswered, InverseListAnswered};
+ghost use Rattle.export_lists.specs.Lent.{InverseListAnswered};
 
 // The answer of check and inverse list.
 #[repr(C)]
@@ -16,52 +15,12 @@ pub struct ListAnswer {
     pub place: u32,
 }
 
-// The answer of balance: how many intervals the balanced list has.
-#[repr(C)]
-pub struct BalanceAnswer {
-    pub number: u32,
-    pub place: u32,
-    pub intervals: u32,
-}
-
 // Whether a list is legal and has at most 16,384 runs.
 #[no_mangle]
 pub extern "C" fn zibewoka_check(n: u32, starts: &[u32], images: &[u32]) -> ListAnswer
     ensures { λ r. ⌜ r ≡ listAnswer (checkOf n (runs (now (starts .entry)) (now (images .entry)))) ⌝ }
 {
     answers::of_list(lists::check(n, starts, images))
-}
-
-// Balances a list into four lent tables, over a lent working table.
-#[no_mangle]
-pub extern "C" fn zibewoka_balance(
-    n: u32,
-    starts: &[u32],
-    images: &[u32],
-    d: u32,
-    to_starts: &mut [u32],
-    to_images: &mut [u32],
-    to_holders: &mut [u32],
-    to_lengths: &mut [u32],
-    working: &mut [u32],
-) -> BalanceAnswer
-    ensures { λ r. ⌜ BalanceAnswered n (runs (now (starts .entry)) (now (images .entry))) d
-        (lent (now («to_starts» .entry)) (now («to_images» .entry)) (now («to_holders» .entry)) (now («to_lengths» .entry))
-        (now (working .entry)))
-        (lent (now («to_starts» .exit)) (now («to_images» .exit)) (now («to_holders» .exit)) (now («to_lengths» .exit))
-        (now (working .exit))) r ⌝ }
-{
-    answers::of_balance(balance::balance(
-        n,
-        starts,
-        images,
-        d,
-        to_starts,
-        to_images,
-        to_holders,
-        to_lengths,
-        working,
-    ))
 }
 
 // Writes the inverse list to two lent tables.

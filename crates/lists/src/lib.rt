@@ -12,11 +12,6 @@ ghost use Rattle.runs.specs.Parts.{HoldsRuns};
 ghost use Rattle.lists.specs.Inverse.{InverseListed};
 ghost use Rattle.lists.specs.Parts.{CheckedOrInverted};
 
-// Sizes of tables between those that `runs` has: clearing a larger one would take longer than the check.
-const MORE_RUNS: usize = 256;
-
-const MANY_RUNS: usize = 4096;
-
 // Tests 1 to 6 and, with `inverts`, 8 and the inverse list. `order` and `spare` are room to work in.
 fn check_or_invert(
     n: u32,
@@ -54,9 +49,9 @@ fn with_much_room(
     ensures { λ r. ⌜ CheckedOrInverted inverts n (runs (now (starts .entry)) (now (images .entry)))
         (now («to_starts» .entry)) (now («to_images» .entry)) (now («to_starts» .exit)) (now («to_images» .exit)) r ⌝ }
 {
-    if starts.len() <= MANY_RUNS {
-        let mut order: [u32; MANY_RUNS] = [0; MANY_RUNS];
-        let mut spare: [u32; MANY_RUNS] = [0; MANY_RUNS];
+    if starts.len() <= runs::MANY_RUNS {
+        let mut order: [u32; runs::MANY_RUNS] = [0; runs::MANY_RUNS];
+        let mut spare: [u32; runs::MANY_RUNS] = [0; runs::MANY_RUNS];
         return check_or_invert(
             n,
             starts,
@@ -121,9 +116,9 @@ pub fn check(n: u32, starts: &[u32], images: &[u32]) -> Checked
         let mut spare: [u32; runs::FEW_RUNS] = [0; runs::FEW_RUNS];
         return runs::check_order(n, starts, images, runs::MOST_RUNS, &mut order, &mut spare);
     }
-    if starts.len() <= MORE_RUNS {
-        let mut order: [u32; MORE_RUNS] = [0; MORE_RUNS];
-        let mut spare: [u32; MORE_RUNS] = [0; MORE_RUNS];
+    if starts.len() <= runs::MORE_RUNS {
+        let mut order: [u32; runs::MORE_RUNS] = [0; runs::MORE_RUNS];
+        let mut spare: [u32; runs::MORE_RUNS] = [0; runs::MORE_RUNS];
         return runs::check_order(n, starts, images, runs::MOST_RUNS, &mut order, &mut spare);
     }
     with_room(n, starts, images, false, &mut [], &mut [])

@@ -6,6 +6,7 @@
 // specs/Fitting, and what `plan` promises in specs/Plan.
 
 mod deciding;
+mod rooms;
 mod seeking;
 
 ghost use mathlib.Core.Path.{_≡_};
@@ -16,7 +17,6 @@ ghost use Rattle.runs.specs.Check.{maxRuns};
 ghost use Rattle.runs.specs.Runs.{runs};
 ghost use Rattle.plans.specs.Working.{workingSize};
 ghost use Rattle.plans.specs.Plan.{Plans};
-ghost use Rattle.plans.specs.Parts.{Roomy};
 
 // More entries than any list has intervals.
 pub const NO_LIMIT: u32 = 4294967295;
@@ -42,109 +42,6 @@ pub fn clear(d: u32, k: usize, working: &mut [u32])
     order::clear(working, deciding::bound_of(d, k));
 }
 
-// The tests, and the search for a degree, with `order` and `spare` as room to work in.
-fn plan_in(
-    n: u32,
-    starts: &[u32],
-    images: &[u32],
-    entries: u32,
-    low: u32,
-    order: &mut [u32],
-    spare: &mut [u32],
-    working: &mut [u32],
-) -> Planned
-    requires { ⌜ Roomy (now starts) (now order) (now spare) ⌝ }
-    ensures { λ r. ⌜ Plans n (runs (now (starts .entry)) (now (images .entry))) entries low
-        (now (working .entry)) (now (working .exit)) r ⌝ }
-{
-    let decided = deciding::decide_list(n, starts, images, low, working.len(), order, spare);
-    match decided {
-        outcomes::Checked::Refused(refusal) => Planned::Refused(refusal),
-        outcomes::Checked::Accepted => {
-            seeking::seek(n, starts, images, order, entries, low, spare, working)
-        }
-    }
-}
-
-// The same with room for a short list, for a longer one, and for any: functions of their own, since a call touches each
-// page of its frame.
-fn plan_few(
-    n: u32,
-    starts: &[u32],
-    images: &[u32],
-    entries: u32,
-    low: u32,
-    working: &mut [u32],
-) -> Planned
-    requires { ⌜ length (now starts) ≤ 64 ⌝ }
-    ensures { λ r. ⌜ Plans n (runs (now (starts .entry)) (now (images .entry))) entries low
-        (now (working .entry)) (now (working .exit)) r ⌝ }
-{
-    let mut order: [u32; runs::FEW_RUNS] = [0; runs::FEW_RUNS];
-    let mut spare: [u32; runs::FEW_RUNS] = [0; runs::FEW_RUNS];
-    plan_in(
-        n,
-        starts,
-        images,
-        entries,
-        low,
-        &mut order,
-        &mut spare,
-        working,
-    )
-}
-
-fn plan_some(
-    n: u32,
-    starts: &[u32],
-    images: &[u32],
-    entries: u32,
-    low: u32,
-    working: &mut [u32],
-) -> Planned
-    requires { ⌜ length (now starts) ≤ 1024 ⌝ }
-    ensures { λ r. ⌜ Plans n (runs (now (starts .entry)) (now (images .entry))) entries low
-        (now (working .entry)) (now (working .exit)) r ⌝ }
-{
-    let mut order: [u32; runs::SOME_RUNS] = [0; runs::SOME_RUNS];
-    let mut spare: [u32; runs::SOME_RUNS] = [0; runs::SOME_RUNS];
-    plan_in(
-        n,
-        starts,
-        images,
-        entries,
-        low,
-        &mut order,
-        &mut spare,
-        working,
-    )
-}
-
-fn plan_any(
-    n: u32,
-    starts: &[u32],
-    images: &[u32],
-    entries: u32,
-    low: u32,
-    working: &mut [u32],
-) -> Planned
-    ensures { λ r. ⌜ Plans n (runs (now (starts .entry)) (now (images .entry))) entries low
-        (now (working .entry)) (now (working .exit)) r ⌝ }
-{
-    let mut order: [u32; runs::MAX_RUNS] = [0; runs::MAX_RUNS];
-    let mut spare: [u32; runs::MAX_RUNS] = [0; runs::MAX_RUNS];
-    plan_in(
-        n,
-        starts,
-        images,
-        entries,
-        low,
-        &mut order,
-        &mut spare,
-        working,
-    )
-}
-
 // Tests 1 to 6; 7 and 8 at the degree `low`; 19 where no degree from there to 64 leaves at most `entries` intervals. The cuts
 // at the least such degree come to stand in `working`, and between them and entry k any numbers; after 19 its first B entries are
 // 0, and after the others it is as it was. Public for our own crates.
@@ -160,10 +57,8 @@ pub fn plan(
         (now (working .entry)) (now (working .exit)) r ⌝ }
 {
     if starts.len() <= runs::FEW_RUNS {
-        plan_few(n, starts, images, entries, low, working)
-    } else if starts.len() <= runs::SOME_RUNS {
-        plan_some(n, starts, images, entries, low, working)
+        rooms::in_little_room(n, starts, images, entries, low, working)
     } else {
-        plan_any(n, starts, images, entries, low, working)
+        rooms::in_more_room(n, starts, images, entries, low, working)
     }
 }

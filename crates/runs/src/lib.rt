@@ -17,11 +17,15 @@ pub const MOST_RUNS: u32 = 16384;
 
 pub const MAX_RUNS: usize = MOST_RUNS as usize;
 
-// Lists of at most so many runs get smaller tables to work in: clearing larger ones would take longer than their check.
+// Sizes of smaller tables, for lists of at most so many runs: clearing larger ones would take longer than their check. The first two
+// are not yet large for a frame.
 pub const FEW_RUNS: usize = 64;
 
-// And lists of at most so many runs tables that are not yet large for a frame.
+pub const MORE_RUNS: usize = 256;
+
 pub const SOME_RUNS: usize = 1024;
+
+pub const MANY_RUNS: usize = 4096;
 
 // Tests 1 to 6, of a list that may have `most` runs. `order` is room for the order of the runs by image, and holds it if
 // the list is accepted; `spare` is room to work in. Public for our own crates, which lend that room.

@@ -1,10 +1,10 @@
--- `answers::of_size` meets its contract, an arm for each variant.
+-- `sizes::of_size` meets its contract, an arm for each variant.
 use borrow.Author.Needs.{needs}
 use mathlib.Core.Path.{sym, ap}
 use Rattle.forecasts.specs.Sizing.{forecastedSays}
-use Rattle.export_forecasts.specs.Answers.{forecastAnswer}
-use Rattle.export_forecasts.proofs.answers.of_size.Statement.{statement}
-use Rattle.export_forecasts.proofs.answers.of_size.Tie as tie
+use Rattle.export_balance.specs.Answers.{forecastAnswer}
+use Rattle.export_balance.proofs.sizes.of_size.Statement.{statement}
+use Rattle.export_balance.proofs.sizes.of_size.Tie as tie
 
 enum-known-forecasted : tie.Need-enum-known-forecasted
 enum-known-forecasted c = search needs

@@ -1,9 +1,9 @@
 -- `zibewoka_balance` meets its contract: the library's promise, with its answer as a struct.
 use borrow.Author.Needs.{needs}
 use mathlib.Core.Path.{ap, _∙_}
-use Rattle.export_lists.specs.Answers.{balanceAnswer}
-use Rattle.export_lists.proofs.zibewoka_balance.Statement.{statement}
-use Rattle.export_lists.proofs.zibewoka_balance.Tie as tie
+use Rattle.export_balance.specs.Answers.{balanceAnswer}
+use Rattle.export_balance.proofs.zibewoka_balance.Statement.{statement}
+use Rattle.export_balance.proofs.zibewoka_balance.Tie as tie
 
 balance-requires : tie.Need-balance-requires
 balance-requires c κs = search needs

@@ -2,9 +2,9 @@
 use borrow.Author.Needs.{needs}
 use mathlib.Core.Path.{sym, ap}
 use Rattle.balance.specs.Lent.{balancedSays}
-use Rattle.export_lists.specs.Answers.{balanceAnswer}
-use Rattle.export_lists.proofs.answers.of_balance.Statement.{statement}
-use Rattle.export_lists.proofs.answers.of_balance.Tie as tie
+use Rattle.export_balance.specs.Answers.{balanceAnswer}
+use Rattle.export_balance.proofs.answers.of_balance.Statement.{statement}
+use Rattle.export_balance.proofs.answers.of_balance.Tie as tie
 
 enum-known-balanced : tie.Need-enum-known-balanced
 enum-known-balanced c = search needs

@@ -1,4 +1,4 @@
-// The answer struct for each of the library's answers.
+// The answer struct for what the forecast and the search for a degree answer.
 use super::DegreeAnswer;
 use super::ForecastAnswer;
 use forecasts::Forecasted;
@@ -6,7 +6,7 @@ use forecasts::Sought;
 ghost use mathlib.Core.Path.{_≡_};
 ghost use Rattle.forecasts.specs.Sizing.{forecastedSays};
 ghost use Rattle.forecasts.specs.Seeking.{soughtSays};
-ghost use Rattle.export_forecasts.specs.Answers.{forecastAnswer, degreeAnswer};
+ghost use Rattle.export_balance.specs.Answers.{forecastAnswer, degreeAnswer};
 
 pub(crate) fn of_size(forecasted: Forecasted) -> ForecastAnswer
     ensures { λ r. ⌜ r ≡ forecastAnswer (forecastedSays forecasted) ⌝ }

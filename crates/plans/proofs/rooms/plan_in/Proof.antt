@@ -9,8 +9,8 @@ use Rattle.runs.specs.Runs.{Runs, runs}
 use Rattle.plans.specs.Working.{plannedOf}
 use Rattle.plans.proofs.Outcomes.{planned-list, sought-refused}
 use Rattle.plans.proofs.Clearing.{working-kept}
-use Rattle.plans.proofs.plan_in.Statement.{statement}
-use Rattle.plans.proofs.plan_in.Tie as tie
+use Rattle.plans.proofs.rooms.plan_in.Statement.{statement}
+use Rattle.plans.proofs.rooms.plan_in.Tie as tie
 
 -- the places: the call, and after the tests
 abbrev start : tie.After-decide-list → tie.Start

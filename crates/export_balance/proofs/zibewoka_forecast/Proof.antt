@@ -1,9 +1,9 @@
 -- `zibewoka_forecast` meets its contract: the library's promise, with its answer as a struct.
 use borrow.Author.Needs.{needs}
 use mathlib.Core.Path.{ap, _∙_}
-use Rattle.export_forecasts.specs.Answers.{forecastAnswer}
-use Rattle.export_forecasts.proofs.zibewoka_forecast.Statement.{statement}
-use Rattle.export_forecasts.proofs.zibewoka_forecast.Tie as tie
+use Rattle.export_balance.specs.Answers.{forecastAnswer}
+use Rattle.export_balance.proofs.zibewoka_forecast.Statement.{statement}
+use Rattle.export_balance.proofs.zibewoka_forecast.Tie as tie
 
 forecast-requires : tie.Need-forecast-requires
 forecast-requires c κs = search needs

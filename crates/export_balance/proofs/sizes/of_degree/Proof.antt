@@ -1,10 +1,10 @@
--- `answers::of_degree` meets its contract, an arm for each variant.
+-- `sizes::of_degree` meets its contract, an arm for each variant.
 use borrow.Author.Needs.{needs}
 use mathlib.Core.Path.{sym, ap}
 use Rattle.forecasts.specs.Seeking.{soughtSays}
-use Rattle.export_forecasts.specs.Answers.{degreeAnswer}
-use Rattle.export_forecasts.proofs.answers.of_degree.Statement.{statement}
-use Rattle.export_forecasts.proofs.answers.of_degree.Tie as tie
+use Rattle.export_balance.specs.Answers.{degreeAnswer}
+use Rattle.export_balance.proofs.sizes.of_degree.Statement.{statement}
+use Rattle.export_balance.proofs.sizes.of_degree.Tie as tie
 
 enum-known-sought : tie.Need-enum-known-sought
 enum-known-sought c = search needs

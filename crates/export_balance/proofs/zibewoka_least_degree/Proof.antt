@@ -1,9 +1,9 @@
 -- `zibewoka_least_degree` meets its contract: the library's promise, with its answer as a struct.
 use borrow.Author.Needs.{needs}
 use mathlib.Core.Path.{ap, _∙_}
-use Rattle.export_forecasts.specs.Answers.{degreeAnswer}
-use Rattle.export_forecasts.proofs.zibewoka_least_degree.Statement.{statement}
-use Rattle.export_forecasts.proofs.zibewoka_least_degree.Tie as tie
+use Rattle.export_balance.specs.Answers.{degreeAnswer}
+use Rattle.export_balance.proofs.zibewoka_least_degree.Statement.{statement}
+use Rattle.export_balance.proofs.zibewoka_least_degree.Tie as tie
 
 least-degree-requires : tie.Need-least-degree-requires
 least-degree-requires c κs = search needs
