@@ -143,40 +143,47 @@ fn cell(unit: f64, [library, peer]: [f64; 2]) -> String {
     format!("{:.1} | {:.2}", library * unit, library / peer)
 }
 
+/// The places that are found in a call.
+fn places_below(r: &mut Random, n: u32) -> Vec<u32> {
+    (0..64).map(|_| r.below(u64::from(n)) as u32).collect()
+}
+
+/// How many moves a walk makes in a call.
+const MOVES: u32 = 10_000;
+
 /// The cells of find, a move and repeated moves. The closures own the slices, as a caller's loop does: behind a reference they would be
 /// read again for each call, on both sides.
 fn walk_cells(r: &mut Random, n: u32, columns: [&[u32]; 4]) -> [String; 3] {
     let [s, i, h, l] = columns;
-    let places: &Vec<u32> = &(0..64).map(|_| r.below(u64::from(n)) as u32).collect();
+    let places = &places_below(r, n);
     assert_found_alike(n, columns, places);
     let find = seconds(
         move || places.iter().map(|&p| zibewoka::find(n, s, i, h, l, p).expect("a place")).sum::<u32>(),
         move || places.iter().map(|&p| peer::find(n, s, i, h, l, p).expect("a place")).sum::<u32>(),
     );
 
-    let m = 10_000;
     let first = places[0];
     let interval = zibewoka::find(n, s, i, h, l, first).expect("a place");
-    assert_moved_alike(n, columns, interval, first, m);
+    assert_moved_alike(n, columns, interval, first, MOVES);
     let once = seconds(
         move || {
-            (0..m).fold((first, interval), |(place, interval), _| {
+            (0..MOVES).fold((first, interval), |(place, interval), _| {
                 let step = zibewoka::move_once(n, s, i, h, l, interval, place).expect("a move");
                 (step.place, step.interval)
             })
         },
         move || {
-            (0..m).fold((first, interval), |(place, interval), _| {
+            (0..MOVES).fold((first, interval), |(place, interval), _| {
                 let step = peer::move_once(n, s, i, h, l, interval, place).expect("a move");
                 (step.place, step.interval)
             })
         },
     );
     let repeated = seconds(
-        move || zibewoka::moves(n, s, i, h, l, interval, first, m),
-        move || peer::moves(n, s, i, h, l, interval, first, m),
+        move || zibewoka::moves(n, s, i, h, l, interval, first, MOVES),
+        move || peer::moves(n, s, i, h, l, interval, first, MOVES),
     );
-    let per_move = 1e9 / f64::from(m);
+    let per_move = 1e9 / f64::from(MOVES);
     [cell(1e9 / places.len() as f64, find), cell(per_move, once), cell(per_move, repeated)]
 }
 
@@ -211,14 +218,63 @@ fn line(r: &mut Random, shape: &str, k: usize, d: u32) -> String {
 /// The most intervals that tables may have, twice as many as a list may have runs.
 const MOST_INTERVALS: usize = 32768;
 
-/// One line of the table of the longest tables: those of a list of that many runs, whose images lie over few starts as they are.
-fn longest_line(r: &mut Random, shape: &str) -> String {
+/// Which lists are walked through in such tables.
+const LONGEST_SHAPES: [&str; 3] = ["tiny", "shuffled", "reversed"];
+
+/// n and tables of that many intervals: those of a list of so many runs, whose images lie over few starts as they are.
+fn longest_tables(r: &mut Random, shape: &str) -> (u32, [Vec<u32>; 4]) {
     let List { n, starts, images } = list(r, shape, MOST_INTERVALS);
     let holders: Vec<u32> =
         images.iter().map(|&image| starts.partition_point(|&start| start <= image) as u32 - 1).collect();
     let lengths: Vec<u32> = starts.iter().zip(starts[1..].iter().chain([&n])).map(|(start, end)| end - start).collect();
-    let [find, once, repeated] = walk_cells(r, n, [&starts, &images, &holders, &lengths]);
+    (n, [starts, images, holders, lengths])
+}
+
+/// One line of the table of the longest tables.
+fn longest_line(r: &mut Random, shape: &str) -> String {
+    let (n, tables) = longest_tables(r, shape);
+    let [find, once, repeated] = walk_cells(r, n, tables.each_ref().map(Vec::as_slice));
     format!("| {shape} | {MOST_INTERVALS} | {find} | {once} | {repeated} |")
+}
+
+/// A search by the starts alone finds the interval that find finds, and a walk of searches ends where repeated moves end.
+fn assert_searched_alike(n: u32, [s, i, h, l]: [&[u32]; 4], places: &[u32]) {
+    for &place in places {
+        let interval = peer::search(s, place);
+        assert_eq!(zibewoka::find(n, s, i, h, l, place), Ok(interval));
+        for m in [0, 1, 2, MOVES] {
+            let step = zibewoka::moves(n, s, i, h, l, interval, place, m).expect("moves");
+            assert_eq!(step.place, peer::searched_moves(s, i, place, m));
+        }
+    }
+}
+
+/// One line of the table of walks without a move table, for the tables of a list of k runs: for find and for repeated moves the
+/// library's time, that of the searches, and the ratio. Each makes as many calls as it needs, since find may be hundreds of times
+/// as slow as a search.
+fn searched_line(r: &mut Random, shape: &str, k: usize, n: u32, tables: [Vec<u32>; 4]) -> String {
+    let [s, i, h, l] = tables.each_ref().map(Vec::as_slice);
+    let places = &places_below(r, n);
+    assert_searched_alike(n, [s, i, h, l], places);
+    let first = places[0];
+    let interval = peer::search(s, first);
+    let [find, search, moves, searches] = seconds_of(
+        100,
+        [
+            &mut move || places.iter().map(|&p| zibewoka::find(n, s, i, h, l, p).expect("a place")).sum::<u32>() > 0,
+            &mut move || places.iter().map(|&p| peer::search(s, p)).sum::<u32>() > 0,
+            &mut move || zibewoka::moves(n, s, i, h, l, interval, first, MOVES).expect("moves").place > 0,
+            &mut move || peer::searched_moves(s, i, first, MOVES) > 0,
+        ],
+    );
+    let [find, search] = [find, search].map(|whole| whole * 1e9 / places.len() as f64);
+    let [moves, searches] = [moves, searches].map(|whole| whole * 1e9 / f64::from(MOVES));
+    format!(
+        "| {shape} | {k} | {} | {find:.1} | {search:.1} | {:.2} | {moves:.1} | {searches:.1} | {:.2} |",
+        s.len(),
+        find / search,
+        moves / searches
+    )
 }
 
 /// How many questions a line asks, k in a call: one call alone would teach the processor its jumps, as one list would.
@@ -375,8 +431,26 @@ fn print_longest(r: &mut Random) {
     println!();
     println!("| list | K | find ns | × | move ns | × | repeated, ns a move | × |");
     println!("|---|---|---|---|---|---|---|---|");
-    for shape in ["tiny", "shuffled", "reversed"] {
+    for shape in LONGEST_SHAPES {
         println!("{}", longest_line(r, shape));
+    }
+}
+
+fn print_searched(r: &mut Random) {
+    println!("Walks without a move table: a search by the starts alone beside find, and a walk with such a search in each move");
+    println!("beside repeated moves. Both get the same starts and images: those of tables at d 2, and of the longest tables.");
+    println!();
+    println!("| list | k | K | find ns | search ns | × | repeated, ns a move | searched, ns a move | × |");
+    println!("|---|---|---|---|---|---|---|---|---|");
+    for shape in SHAPES {
+        for k in [16, 128, 1024, 16384] {
+            let list = list(r, shape, k);
+            println!("{}", searched_line(r, shape, k, list.n, tables(&list, 2)));
+        }
+    }
+    for shape in LONGEST_SHAPES {
+        let (n, tables) = longest_tables(r, shape);
+        println!("{}", searched_line(r, shape, MOST_INTERVALS, n, tables));
     }
 }
 
@@ -636,6 +710,8 @@ fn main() {
     print_calls(r);
     println!();
     print_longest(&mut Random::new(8)); // of its own, so that the tables behind it keep their lists
+    println!();
+    print_searched(&mut Random::new(9)); // of its own too
     println!();
     print_questions(r);
     println!();

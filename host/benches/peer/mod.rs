@@ -556,6 +556,24 @@ pub fn moves(
     Ok(Step { place, interval: interval as u32, distance: place - starts[interval], count })
 }
 
+/// The interval of a place by the starts alone, as one searches without a move table. The starts must be known to rise from 0:
+/// nothing is tested.
+#[inline(never)]
+pub fn search(starts: &[u32], i: u32) -> u32 {
+    starts.partition_point(|&start| start <= i) as u32 - 1
+}
+
+/// The place that m moves reach, with a search in each of them: it needs neither holders nor lengths.
+#[inline(never)]
+pub fn searched_moves(starts: &[u32], images: &[u32], i: u32, m: u32) -> u32 {
+    let mut place = i;
+    for _ in 0..m {
+        let x = starts.partition_point(|&start| start <= place) - 1;
+        place = images[x] + (place - starts[x]);
+    }
+    place
+}
+
 /// Tests 16 and 11 of questions.
 fn in_order(n: u32, first_start: u32, questions: &[Question]) -> Outcome<(), u64> {
     if let Some(x) = questions.windows(2).position(|pair| pair[1].place < pair[0].place) {

@@ -1,11 +1,8 @@
 //! Bookmarks, starts under and files through the types, beside the peer.
 
 use crate::random::{damage_file, Random};
-use crate::{cell, library_step, list, outcome, peer, seconds, shuffled, ORDERS};
+use crate::{cell, library_step, list, outcome, peer, seconds, shuffled, MOVES, ORDERS};
 use zibewoka::{Bookmark, Header, MoveTable, Position, RunList};
-
-/// How many moves a bookmark makes in a call.
-const MOVES: u32 = 10_000;
 
 fn mark(Bookmark { place, interval, distance, moves, count }: Bookmark) -> peer::Mark {
     peer::Mark { place, interval, distance, moves, count }
