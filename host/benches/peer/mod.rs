@@ -136,7 +136,12 @@ impl Sweep<'_> {
         (p, p + (end - start), start)
     }
 
+    /// Cuts mostly come in rising order, so that the last one is looked at first.
     fn insert(&mut self, u: u32) {
+        if self.cuts.last().is_none_or(|&last| last < u) {
+            self.cuts.push(u);
+            return;
+        }
         let at = self.cuts.partition_point(|&cut| cut < u);
         self.cuts.insert(at, u);
     }
