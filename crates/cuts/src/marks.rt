@@ -31,10 +31,11 @@ pub(crate) fn skip(n: u32, starts: &[u32], cuts: &[u32], mark: Mark, count: usiz
     let mut at = mark;
     let mut i = 0;
     while i < count {
-        if to <= merging::entry_at(n, starts, cuts, at) {
+        let step = merging::step(n, starts, cuts, at);
+        if to <= step.entry {
             return at;
         }
-        at = merging::next_mark(n, starts, cuts, at);
+        at = step.mark;
         i += 1;
     }
     at

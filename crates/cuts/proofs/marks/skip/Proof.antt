@@ -18,35 +18,38 @@ Inv-loop n starts cuts count to at₀ i₀ at i = (i ≤ count) × At n starts c
 abbrev μ-loop : tie.MeasureT-loop
 μ-loop n starts cuts count to at₀ i₀ at i = count - i
 
+-- the places: the call that a turn belongs to; the turn, from after its step
+abbrev start : tie.At-loop Inv-loop μ-loop → tie.Start Inv-loop μ-loop
+start c = c .before .before .before
+
+abbrev turn : tie.After-step Inv-loop μ-loop → tie.At-loop Inv-loop μ-loop
+turn c = c .before .before
+
 loop-holds : tie.Need-loop-holds Inv-loop μ-loop
 loop-holds c = (omega arith, c .before .before .pre .1, omega arith, c .before .before .pre .2)
 
-entry-at-requires : tie.Need-entry-at-requires Inv-loop μ-loop
-entry-at-requires c κs = (c .before .before .before .before .pre .0, c .before .loop .inv .1)
+step-requires : tie.Need-step-requires Inv-loop μ-loop
+step-requires c κs = (start (c .before) .pre .0, c .before .loop .inv .1)
 
 returns : tie.Need-returns Inv-loop μ-loop
 returns c =
-    let l = c .before .before .before .loop in
-    let h = at-stop _ _ _ (c .before .before .before .before .before .before .pre .0) _ _ (l .inv .1)
-    (c .before .before .before .before .before .before .args .to)
-    (omega (arith, c .if1 .taken, c .before .entry-at .ensures)) in
+    let k = c .before .before in
+    let l = turn k .loop in
+    let a = start (turn k) in
+    let h = at-stop _ _ _ (a .pre .0) _ _ (l .inv .1) (a .args .to)
+    (omega (arith, c .if1 .taken, k .step .ensures .entry-is)) in
     record { at = l .inv .1; below = l .inv .3; far = omega (arith, l .inv); stopped = λ z. omega (arith, l .inv) }
 
 -- the next entry is one more that is below `to`
-more : (c : tie.Else1 Inv-loop μ-loop) → let a = c .before .before .before .before .before .before .args in
-    let m = merged (a .starts .now) (a .cuts .now) in let at = c .before .before .before .loop .at in
+more : (c : tie.Else1 Inv-loop μ-loop) → let l = turn (c .before .before) in let a = start l .args in
+    let m = merged (a .starts .now) (a .cuts .now) in let at = l .loop .at in
     (at .starts + at .cuts < length m) × (at .starts + at .cuts < countBelow (a .to) m)
-more c = at-go _ _ _ (c .before .before .before .before .before .before .pre .0) _ _
-    (c .before .before .before .loop .inv .1) (c .before .before .before .before .before .before .args .to)
-    (c .before .before .before .before .before .before .pre .3)
-    (omega (arith, c .if1 .left, c .before .entry-at .ensures))
-
-next-mark-requires : tie.Need-next-mark-requires Inv-loop μ-loop
-next-mark-requires c κs = (
-  c .before .before .before .before .before .before .pre .0,
-  c .before .before .before .loop .inv .1,
-  more c .0,
-)
+more c =
+    let k = c .before .before in
+    let l = turn k in
+    let a = start l in
+    at-go _ _ _ (a .pre .0) _ _ (l .loop .inv .1) (a .args .to) (a .pre .3)
+    (omega (arith, c .if1 .left, k .step .ensures .entry-is))
 
 add-i : tie.Need-add-i Inv-loop μ-loop
 add-i c = omega arith
@@ -56,14 +59,13 @@ loop-less c = omega arith
 
 loop-again : tie.Need-loop-again Inv-loop μ-loop
 loop-again c =
-    let l = c .before .before .before .before .loop in
-    let e = c .next-mark .ensures in
-    let s = at-sum _ _ _ (c .before .before .before .before .before .before .before .pre .0) _ _ e in (
-      omega arith,
-      at-own _ _ _ (c .before .before .before .before .before .before .before .pre .0) _ _ e,
-      omega (arith, l .inv .2),
-      omega (arith, more (c .before) .1),
-    )
+    let e = c .before in
+    let k = e .before .before in
+    let l = turn k in
+    let a = start l in
+    let b = k .step .ensures .behind (more e .0) in
+    let s = at-sum _ _ _ (a .pre .0) _ _ b in
+    (omega arith, at-own _ _ _ (a .pre .0) _ _ b, omega (arith, l .loop .inv .2), omega (arith, more e .1))
 
 returns-2 : tie.Need-returns-2 Inv-loop μ-loop
 returns-2 c = let l = c .before .loop in
@@ -81,9 +83,8 @@ skip-spec =
     Inv-loop
     μ-loop
     loop-holds
-    entry-at-requires
+    step-requires
     returns
-    next-mark-requires
     add-i
     loop-less
     loop-again
