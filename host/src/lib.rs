@@ -38,7 +38,7 @@
 //! | [`RunList::from_file`], [`check_file`] | 264 KiB | that of a check, and some ns a run for reading |
 //! | [`listing`], [`list_file`] | 200 KiB | that of balancing, and some 100 ns an interval for its line |
 //! | [`RunList::new`], [`inverse`](RunList::inverse), [`successor`](RunList::successor); [`check`], [`inverse_list`], [`next_list`] | 180 KiB | it grows with the runs, about 3 to 10 ns each; it sorts by digits, and in one pass where the images rise or fall |
-//! | [`RunList::forecast`], [`least_degree`](RunList::least_degree), [`balance`](RunList::balance), and the same on slices | 136 KiB | it grows with the intervals and a little faster, about 20 to 50 ns each; [`RunList::balance`] makes a forecast first, and takes both |
+//! | [`RunList::forecast`], [`least_degree`](RunList::least_degree), [`balance`](RunList::balance), and the same on slices | 180 KiB | it grows with the intervals and a little faster, about 5 to 20 ns each; [`RunList::balance`] makes a forecast first, and takes both |
 //! | [`MoveTable::step`], [`Bookmark::advance`], [`weight`](MoveTable::weight), [`starts_under`](MoveTable::starts_under) | 1 KiB | 5 to 20 ns at any size: at most 2·d starts are read |
 //! | [`MoveTable::steps`], [`walk`](MoveTable::walk) | 1 KiB | 2 to 14 ns a move, and 5 to 17 |
 //! | [`MoveTable::find`], [`preimage`](MoveTable::preimage) | 1 KiB | they look at all intervals, at about 0.2 ns each, preimage up to 0.9 |
