@@ -1,5 +1,6 @@
 // The cuts that balance a list.
 use super::fronts;
+use super::fronts::pass_light;
 use super::marks;
 use super::pieces::after_cut;
 use super::pieces::here;
@@ -40,16 +41,7 @@ pub(crate) fn sweep(
             cuts += 1;
             at = after_cut(n, starts, images, order, ranked, &working[..cuts], front, u);
         } else {
-            let on = fronts::pass_light(
-                n,
-                starts,
-                images,
-                order,
-                ranked,
-                &working[..cuts],
-                d,
-                front,
-            );
+            let on = pass_light(n, starts, images, order, ranked, &working[..cuts], d, front);
             at = fronts::at_front(on);
         }
     }
