@@ -28,7 +28,8 @@ fn lists(k: u32) -> [RunList<'static>; 3] {
         .map(|(n, images)| RunList::new(n, starts.clone(), images).expect("a legal list"))
 }
 
-/// The calls that take least come first, each on all lists: a later thread may get the stack of an earlier one, if that is larger.
+/// The calls that take least come first, each on all lists: a later thread may get the stack of an earlier one, if that is larger. So
+/// it shows where a number is too low for all calls that share it, and not where one of them alone is given less.
 #[test]
 fn calls_on_lists() {
     let lists: Vec<RunList> = [32, 256, 1024, 16384].into_iter().flat_map(lists).collect();
