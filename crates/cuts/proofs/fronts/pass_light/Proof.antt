@@ -1,7 +1,6 @@
 -- `pass_light` meets its contract: each turn passes one light piece (proofs/Light).
 use borrow.Author.Needs.{needs}
-use Prim.Native.Nat.{ℕ, _+_, _-_, _≤_, _<_}
-use mathlib.Core.Path.{_≡_}
+use Prim.Native.Nat.{_-_}
 use native.Mathlib.Omega.{arith}
 use Rattle.runs.specs.Runs.{Runs, runs}
 use Rattle.cuts.specs.Parts.{PassesLight}
