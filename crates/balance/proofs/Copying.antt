@@ -13,17 +13,17 @@ pub record Copying (l s₀ : List ℕ) (x at : ℕ) (s : List ℕ) (i : ℕ) : T
   pub room : at + (length l - x) ≤ length s₀
   pub is : s ≡ paste s₀ at (drop x l) i
 
-pub copying-none : (l s₀ : List ℕ) (x at : ℕ) → x ≤ length l → at + (length l - x) ≤ length s₀ → Copying l s₀ x at s₀ 0
-copying-none l s₀ x at h k = record { within = omega arith; room = k; is = paste-zero s₀ at (drop x l) }
+pub copying_none : (l s₀ : List ℕ) (x at : ℕ) → x ≤ length l → at + (length l - x) ≤ length s₀ → Copying l s₀ x at s₀ 0
+copying_none l s₀ x at h k = record { within = omega arith; room = k; is = paste-zero s₀ at (drop x l) }
 
 module _ (l s₀ : List ℕ) (x at : ℕ) (s : List ℕ) (i : ℕ) (c : Copying l s₀ x at s i) where
-  pub copying-length : length s ≡ length s₀
-  copying-length =
+  pub copying_length : length s ≡ length s₀
+  copying_length =
       ap length c.is ∙ length-paste s₀ at (drop x l) i (omega (arith, c.within, c.room))
       (omega (arith, c.within, length-drop x l))
 
-  pub copying-next : x + i < length l → Copying l s₀ x at (set s (at + i) (get_or l (x + i) 0)) (i + 1)
-  copying-next h = record {
+  pub copying_next : x + i < length l → Copying l s₀ x at (set s (at + i) (get_or l (x + i) 0)) (i + 1)
+  copying_next h = record {
     within = omega arith;
     room = c.room;
     is =

@@ -4,17 +4,17 @@ ghost use Rattle.std.proofs.Math.Seq.{paste};
 ghost use Rattle.order.specs.Lists.{leading};
 ghost use Rattle.runs.specs.Legal.{Legal};
 ghost use Rattle.runs.specs.Parts.{Lasts};
-ghost use Rattle.runs.specs.Runs.{runs, run_at, mapOf};
-ghost use Rattle.tables.specs.Tables.{tables, lengthsOf, tables_of, allColumns};
+ghost use Rattle.runs.specs.Runs.{runs, run_at, map_of};
+ghost use Rattle.tables.specs.Tables.{tables, lengths_of, tables_of, all_columns};
 ghost use Rattle.merging.specs.Merged.{Starts};
-ghost use Rattle.cuts.specs.Cuts.{withCuts};
+ghost use Rattle.cuts.specs.Cuts.{with_cuts};
 ghost use Rattle.balance.specs.Parts.{Has, ListWritten, TablesWritten};
 ghost use Rattle.outcomes.specs.Outcome.{Long, over};
 
 // The image of `p`, which run `x` has.
 fn image_of(n: u32, starts: &[u32], images: &[u32], x: usize, p: u32) -> u32
     requires { Legal n (runs starts.now images.now) × Has n starts.now x p }
-    ensures { result ≡ mapOf n (runs starts.now images.now) p }
+    ensures { result ≡ map_of n (runs starts.now images.now) p }
 {
     images[x] + (p - starts[x])
 }
@@ -94,7 +94,7 @@ fn write_list(
 // turn does the same and the compiler can make several at a time.
 fn write_lengths(n: u32, starts: &[u32], to: &mut [u32])
     requires { (0 < length starts.now) × Lasts n starts.now × (length starts.now ≤ length to.old) }
-    ensures { to.new ≡ over (lengthsOf n starts.now) to.old }
+    ensures { to.new ≡ over (lengths_of n starts.now) to.old }
 {
     let last = starts.len() - 1;
     let mut x = 0;
@@ -118,7 +118,7 @@ fn write_holders_and_lengths(
         × (length starts.now ≤ length to_lengths.old) }
     ensures { (to_holders.new ≡ over
         (map (run_at n (runs starts.now images.now)) images.now) to_holders.old)
-        × (to_lengths.new ≡ over (lengthsOf n starts.now) to_lengths.old) }
+        × (to_lengths.new ≡ over (lengths_of n starts.now) to_lengths.old) }
 {
     let room = &mut to_lengths[..starts.len()];
     holders::write_holders(n, starts, images, to_holders, room);
@@ -138,9 +138,9 @@ pub(crate) fn write_tables(
 )
     requires { Legal n (runs starts.now images.now) × Starts n starts.now cuts.now
         × Long (length starts.now + length cuts.now)
-        (allColumns (tables to_starts.old to_images.old to_holders.old to_lengths.old)) }
+        (all_columns (tables to_starts.old to_images.old to_holders.old to_lengths.old)) }
     ensures { TablesWritten
-        (tables_of n (withCuts n (runs starts.now images.now) cuts.now))
+        (tables_of n (with_cuts n (runs starts.now images.now) cuts.now))
         (tables to_starts.old to_images.old to_holders.old to_lengths.old)
         (tables to_starts.new to_images.new to_holders.new to_lengths.new) }
 {

@@ -7,12 +7,12 @@
 mod fill;
 
 ghost use Rattle.std.specs.Prelude.{◌≡◌, ◌+◌, length};
-ghost use Rattle.outcomes.specs.Outcome.{someBelow};
+ghost use Rattle.outcomes.specs.Outcome.{some_below};
 ghost use Rattle.runs.specs.Runs.{runs};
 ghost use Rattle.tables.specs.Tables.{tables, tables_of};
-ghost use Rattle.cuts.specs.Cuts.{withCuts};
+ghost use Rattle.cuts.specs.Cuts.{with_cuts};
 ghost use Rattle.balance.specs.Lent.{lent, Balances};
-ghost use Rattle.balance.specs.Parts.{allSizes, Fillable, Fills};
+ghost use Rattle.balance.specs.Parts.{all_sizes, Fillable, Fills};
 
 use plans::Planned;
 
@@ -34,7 +34,7 @@ struct Sizes {
 
 // Whether one of them is below `size`.
 fn is_short(size: usize, sizes: Sizes) -> bool
-    ensures { result ≡ someBelow size (allSizes sizes) }
+    ensures { result ≡ some_below size (all_sizes sizes) }
 {
     if sizes.starts < size {
         return true;
@@ -61,7 +61,7 @@ fn fill_tables(
 ) -> Balanced
     requires { Fillable n (runs starts.now images.now) cuts.now }
     ensures { Fills (length starts.now + length cuts.now)
-        (tables_of n (withCuts n (runs starts.now images.now) cuts.now))
+        (tables_of n (with_cuts n (runs starts.now images.now) cuts.now))
         (tables to_starts.old to_images.old to_holders.old to_lengths.old)
         (tables to_starts.new to_images.new to_holders.new to_lengths.new) result }
 {

@@ -6,13 +6,13 @@ use mathlib.Core.Logic.{◌⊎◌, inl, inr}
 use native.Mathlib.Omega.{arith}
 use lib.Dec.{leb, ltb}
 use borrow.Author.Tests.{lt-ltb, le-ltb, le-leb, lt-leb, leb-false}
-use Rattle.order.proofs.Laws.{lt-or-le, or-false}
+use Rattle.order.proofs.Laws.{lt_or_le, or_false}
 use Rattle.outcomes.specs.Outcome.{Outcome, done, refused, judge, and_then}
-use Rattle.outcomes.proofs.Judging.{done_refused, judge-append, judge-done}
+use Rattle.outcomes.proofs.Judging.{done_refused, judge_append, judge_done}
 use Rattle.tables.specs.Tables.{Tables}
-use Rattle.walks.specs.Move.{movedSays, step_of, move_of, moveTests, ReadsTo}
-use Rattle.walks.proofs.Moves.{move-reads}
-use Rattle.bookmarks.specs.Bookmark.{overflows, bookmarkOf, markAfter, Advances, marking, markingOf}
+use Rattle.walks.specs.Move.{moved_says, step_of, move_of, move_tests, ReadsTo}
+use Rattle.walks.proofs.Moves.{move_reads}
+use Rattle.bookmarks.specs.Bookmark.{overflows, bookmark_of, mark_after, Advances, marking, marking_of}
 use Rattle.bookmarks.specs.Parts.{mark_of}
 use Rattle.walks.specs.declared.Step.{Step}
 use Rattle.bookmarks.specs.declared.Bookmark.{Bookmark}
@@ -20,16 +20,16 @@ use Rattle.walks.specs.declared.Moved.{Moved}
 
 -- 13
 module _ (b : Bookmark) (s : Step) where
-  pub overflows-moves : b.moves ≡ 4294967295 → true ≡ overflows b s
+  pub overflows_moves : b.moves ≡ 4294967295 → true ≡ overflows b s
   unfolding overflows
-  overflows-moves e = simp (le-leb 4294967296 (b.moves + 1) (omega arith))
+  overflows_moves e = simp (le-leb 4294967296 (b.moves + 1) (omega arith))
 
   -- the code asks whether the rest of 64 bits is too little, so that no sum wraps
-  pub overflows-count : b.moves < 4294967295 → s.count < 18446744073709551616
+  pub overflows_count : b.moves < 4294967295 → s.count < 18446744073709551616
       → ltb (18446744073709551615 - s.count) b.count ≡ overflows b s
   unfolding overflows
-  overflows-count l m =
-      simp (lt-leb 4294967296 (b.moves + 1) (omega arith)) (go (lt-or-le (18446744073709551615 - s.count) b.count))
+  overflows_count l m =
+      simp (lt-leb 4294967296 (b.moves + 1) (omega arith)) (go (lt_or_le (18446744073709551615 - s.count) b.count))
     where
       go : (18446744073709551615 - s.count < b.count) ⊎ (b.count ≤ 18446744073709551615 - s.count)
           → ltb (18446744073709551615 - s.count) b.count ≡ leb 18446744073709551616 (b.count + s.count)
@@ -44,84 +44,84 @@ module _ (b : Bookmark) (s : Step) where
     pub room : t ≡ false → (b.moves + 1 < 4294967296) × (b.count + s.count < 18446744073709551616)
     unfolding overflows
     room f =
-        let a = or-false (leb 4294967296 (b.moves + 1)) _ (sym e ∙ f) in
+        let a = or_false (leb 4294967296 (b.moves + 1)) _ (sym e ∙ f) in
         (leb-false 4294967296 (b.moves + 1) a.0, leb-false 18446744073709551616 (b.count + s.count) a.1)
 
-    pub mark-overflow : t ≡ true → refused 13 0 ≡ mark_of b s
+    pub mark_overflow : t ≡ true → refused 13 0 ≡ mark_of b s
     unfolding mark_of judge
-    mark-overflow f = simp (sym e ∙ f)
+    mark_overflow f = simp (sym e ∙ f)
 
     pub mark_on : t ≡ false → done s ≡ mark_of b s
     unfolding mark_of judge
     mark_on f = simp (sym e ∙ f)
 
 -- the bookmark that comes back
-pub after-refused : (b : Bookmark) (o : Outcome Step) (k p : ℕ) → refused k p ≡ o → b ≡ markAfter b o
-unfolding markAfter
-after-refused b o k p e = rw (← e)
+pub after_refused : (b : Bookmark) (o : Outcome Step) (k p : ℕ) → refused k p ≡ o → b ≡ mark_after b o
+unfolding mark_after
+after_refused b o k p e = rw (← e)
 
 -- what is promised of a bookmark's move says so
-pub bookmark-kept : (n : ℕ) (t : Tables) (b : Bookmark) (m : Moved) (left : Bookmark) → Advances n t b m left
-    → (k p : ℕ) → movedSays m ≡ refused k p → left ≡ b
-bookmark-kept n t b m left a k p e = a.mark ∙ sym (after-refused b (bookmarkOf n t b) k p (sym e ∙ a.says))
+pub bookmark_kept : (n : ℕ) (t : Tables) (b : Bookmark) (m : Moved) (left : Bookmark) → Advances n t b m left
+    → (k p : ℕ) → moved_says m ≡ refused k p → left ≡ b
+bookmark_kept n t b m left a k p e = a.mark ∙ sym (after_refused b (bookmark_of n t b) k p (sym e ∙ a.says))
 
 -- and is one equation
-pub advances-marking : (n : ℕ) (t : Tables) (b : Bookmark) (m : Moved) (left : Bookmark) → Advances n t b m left
-    → marking (movedSays m) left ≡ markingOf n t b
-unfolding markingOf
-advances-marking n t b m left a = λ i. marking (a.says i) (a.mark i)
+pub advances_marking : (n : ℕ) (t : Tables) (b : Bookmark) (m : Moved) (left : Bookmark) → Advances n t b m left
+    → marking (moved_says m) left ≡ marking_of n t b
+unfolding marking_of
+advances_marking n t b m left a = λ i. marking (a.says i) (a.mark i)
 
-pub after-done : (b : Bookmark) (o : Outcome Step) (s : Step) → done s ≡ o
+pub after_done : (b : Bookmark) (o : Outcome Step) (s : Step) → done s ≡ o
     → record { place = s.place; interval = s.interval; distance = s.distance; moves = b.moves + 1; count = b.count + s.count }
-    ≡ markAfter b o
-unfolding markAfter
-after-done b o s e = rw (← e)
+    ≡ mark_after b o
+unfolding mark_after
+after_done b o s e = rw (← e)
 
 -- a bookmark's move is a move, and what is left of it
 module _ (n : ℕ) (t : Tables) (b : Bookmark) where
-  bookmark-is : bookmarkOf n t b
+  bookmark_is : bookmark_of n t b
       ≡ and_then (move_of n t b.interval b.place) (λ _. mark_of b (step_of t.links b.interval b.place))
-  unfolding bookmarkOf move_of mark_of
-  bookmark-is = judge-append (moveTests n t b.interval b.place) _ _ _
+  unfolding bookmark_of move_of mark_of
+  bookmark_is = judge_append (move_tests n t b.interval b.place) _ _ _
 
-  pub bookmark-refused : (k p : ℕ) → refused k p ≡ move_of n t b.interval b.place → refused k p ≡ bookmarkOf n t b
+  pub bookmark_refused : (k p : ℕ) → refused k p ≡ move_of n t b.interval b.place → refused k p ≡ bookmark_of n t b
   unfolding and_then
-  bookmark-refused k p e = rw (bookmark-is, ← e)
+  bookmark_refused k p e = rw (bookmark_is, ← e)
 
-  pub bookmark-on : (s : Step) → done s ≡ move_of n t b.interval b.place → mark_of b s ≡ bookmarkOf n t b
+  pub bookmark_on : (s : Step) → done s ≡ move_of n t b.interval b.place → mark_of b s ≡ bookmark_of n t b
   unfolding move_of and_then
-  bookmark-on s e =
-      let z = judge-done (moveTests n t b.interval b.place) (step_of t.links b.interval b.place) s (sym e) in
-      rw (bookmark-is, ← e) (ap (mark_of b) (sym z))
+  bookmark_on s e =
+      let z = judge_done (move_tests n t b.interval b.place) (step_of t.links b.interval b.place) s (sym e) in
+      rw (bookmark_is, ← e) (ap (mark_of b) (sym z))
 
   -- what it answers is the move's own step
-  pub bookmark-moved : (s : Step) → bookmarkOf n t b ≡ done s → move_of n t b.interval b.place ≡ done s
+  pub bookmark_moved : (s : Step) → bookmark_of n t b ≡ done s → move_of n t b.interval b.place ≡ done s
   unfolding move_of mark_of and_then
-  bookmark-moved s e = go (move_of n t b.interval b.place) refl (sym bookmark-is ∙ e)
+  bookmark_moved s e = go (move_of n t b.interval b.place) refl (sym bookmark_is ∙ e)
     where
       go : (o : Outcome Step) → move_of n t b.interval b.place ≡ o
           → and_then o (λ _. mark_of b (step_of t.links b.interval b.place)) ≡ done s
           → move_of n t b.interval b.place ≡ done s
       go (done a) f g =
-          let z = judge-done (moveTests n t b.interval b.place) (step_of t.links b.interval b.place) a f in
-          f ∙ ap done (sym z ∙ judge-done _ (step_of t.links b.interval b.place) s g)
+          let z = judge_done (move_tests n t b.interval b.place) (step_of t.links b.interval b.place) a f in
+          f ∙ ap done (sym z ∙ judge_done _ (step_of t.links b.interval b.place) s g)
       go (refused k p) f g = absurd (done_refused s k p (sym g))
 
   -- so it counts by the indexes, and the bookmark adds the count to its own
-  pub marked-reads : (m : Moved) (left : Bookmark) → Advances n t b m left → (s : Step) → movedSays m ≡ done s
+  pub marked_reads : (m : Moved) (left : Bookmark) → Advances n t b m left → (s : Step) → moved_says m ≡ done s
       → ReadsTo t.links b.interval s.interval s.count × (left.count ≡ b.count + s.count)
-  marked-reads m left a s e =
-      let f : bookmarkOf n t b ≡ done s = sym a.says ∙ e in (
-        move-reads n t b.interval b.place s (bookmark-moved s f),
-        ap (λ (w : Bookmark). w.count) (a.mark ∙ sym (after-done b (bookmarkOf n t b) s (sym f))),
+  marked_reads m left a s e =
+      let f : bookmark_of n t b ≡ done s = sym a.says ∙ e in (
+        move_reads n t b.interval b.place s (bookmark_moved s f),
+        ap (λ (w : Bookmark). w.count) (a.mark ∙ sym (after_done b (bookmark_of n t b) s (sym f))),
       )
 
   -- where the move is made, the counters decide
-  pub bookmark-overflow : (s : Step) → move_of n t b.interval b.place ≡ done s → 4294967295 ≤ b.moves
-      → bookmarkOf n t b ≡ refused 13 0
+  pub bookmark_overflow : (s : Step) → move_of n t b.interval b.place ≡ done s → 4294967295 ≤ b.moves
+      → bookmark_of n t b ≡ refused 13 0
   unfolding mark_of judge overflows
-  bookmark-overflow s e h = sym (bookmark-on s (sym e)) ∙ simp (le-leb (2 ^ 32) (b.moves + 1) (omega arith))
+  bookmark_overflow s e h = sym (bookmark_on s (sym e)) ∙ simp (le-leb (2 ^ 32) (b.moves + 1) (omega arith))
 
-  pub bookmark-goes : (s : Step) → move_of n t b.interval b.place ≡ done s → b.moves + 1 < 2 ^ 32
-      → b.count + s.count < 2 ^ 64 → bookmarkOf n t b ≡ done s
-  bookmark-goes s e l m = sym (bookmark-on s (sym e)) ∙ sym (mark_on b s _ refl (no_overflow b s l m))
+  pub bookmark_goes : (s : Step) → move_of n t b.interval b.place ≡ done s → b.moves + 1 < 2 ^ 32
+      → b.count + s.count < 2 ^ 64 → bookmark_of n t b ≡ done s
+  bookmark_goes s e l m = sym (bookmark_on s (sym e)) ∙ sym (mark_on b s _ refl (no_overflow b s l m))

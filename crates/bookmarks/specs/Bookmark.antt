@@ -3,7 +3,7 @@
 use Rattle.std.specs.Prelude.{ℕ, ◌+◌, ◌^◌, ◌≡◌, Bool, ◌||◌, List, [], ◌∷◌, ◌++◌, leb}
 use Rattle.outcomes.specs.Outcome.{Outcome, done, refused, Test, test, judge}
 use Rattle.tables.specs.Tables.{Tables}
-use Rattle.walks.specs.Move.{movedSays, step_of, moveTests}
+use Rattle.walks.specs.Move.{moved_says, step_of, move_tests}
 use Rattle.walks.specs.declared.Step.{Step}
 use Rattle.bookmarks.specs.declared.Bookmark.{Bookmark}
 use Rattle.walks.specs.declared.Moved.{Moved}
@@ -23,23 +23,23 @@ unfoldable pub overflows : Bookmark → Step → Bool
 overflows b s = leb (2 ^ 32) (b.moves + 1) || leb (2 ^ 64) (b.count + s.count)
 
 -- the tests of one move, then 13; the answer is that move's
-abbrev pub bookmarkTests : ℕ → Tables → Bookmark → List Test
-bookmarkTests n t b =
-    moveTests n t b.interval b.place ++ (test 13 (overflows b (step_of t.links b.interval b.place)) 0 ∷ [])
+abbrev pub bookmark_tests : ℕ → Tables → Bookmark → List Test
+bookmark_tests n t b =
+    move_tests n t b.interval b.place ++ (test 13 (overflows b (step_of t.links b.interval b.place)) 0 ∷ [])
 
-unfoldable pub bookmarkOf : ℕ → Tables → Bookmark → Outcome Step
-bookmarkOf n t b = judge (bookmarkTests n t b) (step_of t.links b.interval b.place)
+unfoldable pub bookmark_of : ℕ → Tables → Bookmark → Outcome Step
+bookmark_of n t b = judge (bookmark_tests n t b) (step_of t.links b.interval b.place)
 
 -- the bookmark after an answer: further by the step, or as it was
-unfoldable pub markAfter : Bookmark → Outcome Step → Bookmark
-markAfter b (done s) =
+unfoldable pub mark_after : Bookmark → Outcome Step → Bookmark
+mark_after b (done s) =
     record { place = s.place; interval = s.interval; distance = s.distance; moves = b.moves + 1; count = b.count + s.count }
-markAfter b (refused k p) = b
+mark_after b (refused k p) = b
 
 -- what a bookmark's move promises: the answer, and the bookmark that it leaves of b
 pub record Advances (n : ℕ) (t : Tables) (b : Bookmark) (m : Moved) (left : Bookmark) : Type 0 where
-  pub says : movedSays m ≡ bookmarkOf n t b
-  pub mark : left ≡ markAfter b (bookmarkOf n t b)
+  pub says : moved_says m ≡ bookmark_of n t b
+  pub mark : left ≡ mark_after b (bookmark_of n t b)
 
 -- an answer to a bookmark's move, and the bookmark after it
 pub record Marking : Type 0 where
@@ -49,8 +49,8 @@ pub record Marking : Type 0 where
 abbrev pub marking : Outcome Step → Bookmark → Marking
 marking a b = record { answer = a; bookmark = b }
 
-abbrev pub markedSays : Marked → Marking
-markedSays m = marking (movedSays m.moved) m.bookmark
+abbrev pub marked_says : Marked → Marking
+marked_says m = marking (moved_says m.moved) m.bookmark
 
-unfoldable pub markingOf : ℕ → Tables → Bookmark → Marking
-markingOf n t b = marking (bookmarkOf n t b) (markAfter b (bookmarkOf n t b))
+unfoldable pub marking_of : ℕ → Tables → Bookmark → Marking
+marking_of n t b = marking (bookmark_of n t b) (mark_after b (bookmark_of n t b))

@@ -8,9 +8,9 @@ use native.Mathlib.Decide.{ℕ_discrete}
 use native.Mathlib.Omega.{arith}
 use lib.ListN.{length, get_or, set, replicate, length-set, length-replicate, get_or-replicate, get_or-append}
 use lib.Seq.{get_or-set_same, get_or-set_other}
-use Rattle.order.proofs.Laws.{lt-or-le}
-use Rattle.cuts.specs.Certain.{certainCuts}
-use Rattle.cuts.proofs.Certain.{certain-none}
+use Rattle.order.proofs.Laws.{lt_or_le}
+use Rattle.cuts.specs.Certain.{certain_cuts}
+use Rattle.cuts.proofs.Certain.{certain_none}
 use Rattle.bounds.specs.Parts.{PerDegree, Addable, Added}
 
 -- the totals before i are f's, the others are as they were
@@ -20,8 +20,8 @@ pub record Stored (f : ℕ → ℕ) (entry totals : List ℕ) (i : ℕ) : Type 0
   pub rest : (j : ℕ) → i ≤ j → get_or totals j 0 ≡ get_or entry j 0
 
 module _ (f : ℕ → ℕ) (entry : List ℕ) where
-  pub stored-none : Stored f entry entry 0
-  stored-none = record { size = refl; done = λ j h. absurd (not-suc-le-zero h); rest = λ j h. refl }
+  pub stored_none : Stored f entry entry 0
+  stored_none = record { size = refl; done = λ j h. absurd (not-suc-le-zero h); rest = λ j h. refl }
 
   module _ (totals : List ℕ) (i : ℕ) (s : Stored f entry totals i) where
     pub stored_next : i < length totals → (v : ℕ) → v ≡ f i → Stored f entry (set totals i v) (i + 1)
@@ -36,37 +36,37 @@ module _ (f : ℕ → ℕ) (entry : List ℕ) where
         at j l (no q) = get_or-set_other totals i j v 0 q ∙ s.done j (omega arith)
 
 -- totals that are cleared
-pub cleared-all : (rest totals : List ℕ) → totals ≡ replicate 63 0 ++ rest → PerDegree (λ d. 0) totals
-cleared-all rest totals e i l = ap (λ (t : List ℕ). get_or t i 0) e
+pub cleared_all : (rest totals : List ℕ) → totals ≡ replicate 63 0 ++ rest → PerDegree (λ d. 0) totals
+cleared_all rest totals e i l = ap (λ (t : List ℕ). get_or t i 0) e
     ∙ get_or-append (replicate 63 0) rest 0 i (omega (arith, length-replicate {A = ℕ} 63 0)) ∙ get_or-replicate 63 i 0 0 l
 
 -- the certain cuts of a run of weight w are added at the degrees below d
 pub record Adding (w : ℕ) (entry totals : List ℕ) (d : ℕ) : Type 0 where
   pub low : 2 ≤ d
   pub high : d ≤ 65
-  pub stored : Stored (λ j. get_or entry j 0 + certainCuts (j + 2) w) entry totals (d - 2)
+  pub stored : Stored (λ j. get_or entry j 0 + certain_cuts (j + 2) w) entry totals (d - 2)
 
-pub adding-none : (w : ℕ) (entry : List ℕ) → Adding w entry entry 2
-adding-none w entry = record { low = omega arith; high = omega arith; stored = stored-none _ entry }
+pub adding_none : (w : ℕ) (entry : List ℕ) → Adding w entry entry 2
+adding_none w entry = record { low = omega arith; high = omega arith; stored = stored_none _ entry }
 
 module _ (w : ℕ) (entry totals : List ℕ) (d : ℕ) (a : Adding w entry totals d) where
   -- a total that is next is as it was, and the sum fits
-  pub adding-fits : Addable entry w → d ≤ 64 → get_or totals (d - 2) 0 + w / d < 4294967296
-  adding-fits f h = omega (
+  pub adding_fits : Addable entry w → d ≤ 64 → get_or totals (d - 2) 0 + w / d < 4294967296
+  adding_fits f h = omega (
     arith,
     a.stored.rest (d - 2) (omega arith),
     f.fits (d - 2) (omega (arith, a.low)),
     div-le_self w d,
   )
 
-  pub adding-next : d ≤ 64 → d - 2 < length totals
+  pub adding_next : d ≤ 64 → d - 2 < length totals
       → Adding w entry (set totals (d - 2) (get_or totals (d - 2) 0 + (w / d - 1))) (d + 1)
-  adding-next h b =
+  adding_next h b =
       let l = a.low in
       let e : d - 2 + 2 ≡ d = omega arith in
       let f : d - 2 + 1 ≡ d + 1 - 2 = omega arith in
-      let v : get_or totals (d - 2) 0 + (w / d - 1) ≡ get_or entry (d - 2) 0 + certainCuts (d - 2 + 2) w =
-      omega (arith, a.stored.rest (d - 2) (omega arith), ap (λ (t : ℕ). certainCuts t w) e) in
+      let v : get_or totals (d - 2) 0 + (w / d - 1) ≡ get_or entry (d - 2) 0 + certain_cuts (d - 2 + 2) w =
+      omega (arith, a.stored.rest (d - 2) (omega arith), ap (λ (t : ℕ). certain_cuts t w) e) in
       record {
         low = omega arith;
         high = omega arith;
@@ -74,13 +74,13 @@ module _ (w : ℕ) (entry totals : List ℕ) (d : ℕ) (a : Adding w entry total
       }
 
   -- at the other degrees there are none
-  pub adding-all : (d ≤ 64 → w < 2 * d) → Added w entry totals
-  adding-all none j l = go (lt-or-le j (d - 2))
+  pub adding_all : (d ≤ 64 → w < 2 * d) → Added w entry totals
+  adding_all none j l = go (lt_or_le j (d - 2))
     where
-      go : (j < d - 2) ⊎ (d - 2 ≤ j) → get_or totals j 0 ≡ get_or entry j 0 + certainCuts (j + 2) w
+      go : (j < d - 2) ⊎ (d - 2 ≤ j) → get_or totals j 0 ≡ get_or entry j 0 + certain_cuts (j + 2) w
       go (inl b) = a.stored.done j b
       go (inr b) = omega (
         arith,
         a.stored.rest j b,
-        certain-none (j + 2) (omega arith) w (omega (arith, none (omega arith))),
+        certain_none (j + 2) (omega arith) w (omega (arith, none (omega arith))),
       )

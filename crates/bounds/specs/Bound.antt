@@ -1,7 +1,7 @@
 -- Degrees that are ruled out, since at each of them the balanced list has more intervals than a table has entries; and one at which
 -- it is not cut.
 use Rattle.std.specs.Prelude.{ℕ, ◌≤◌, ◌<◌, ◌≡◌, List, length}
-use Rattle.runs.specs.Check.{maxRuns}
+use Rattle.runs.specs.Check.{max_runs}
 use Rattle.runs.specs.Legal.{Legal}
 use Rattle.runs.specs.Parts.{Ordered}
 use Rattle.runs.specs.Runs.{Runs, count_of}
@@ -13,8 +13,8 @@ use Rattle.bounds.specs.declared.First.{First}
 pub record Boundable (n : ℕ) (r : Runs) (order room : List ℕ) (low : ℕ) : Type 0 where
   pub legal : Legal n r
   pub ordered : Ordered r order
-  pub few : count_of r ≤ maxRuns
-  pub in-room : 63 ≤ length room
+  pub few : count_of r ≤ max_runs
+  pub in_room : 63 ≤ length room
   pub from : 2 ≤ low
   pub high : low ≤ 64
 

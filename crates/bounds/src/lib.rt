@@ -9,7 +9,7 @@ ghost use Rattle.order.specs.Order.{order_of};
 ghost use Rattle.runs.specs.Parts.{Ordered};
 ghost use Rattle.runs.specs.Runs.{runs};
 ghost use Rattle.bounds.specs.Bound.{Boundable, Opens};
-ghost use Rattle.bounds.specs.Parts.{PerDegree, certainOf, imageFrom, Addable, Added, Summable, FirstWithin};
+ghost use Rattle.bounds.specs.Parts.{PerDegree, certain_of, image_from, Addable, Added, Summable, FirstWithin};
 
 // A degree before which all are ruled out, and one from there on at which the list is known not to be cut; 65 for either, if there
 // is none.
@@ -38,7 +38,7 @@ fn add_cuts(totals: &mut [u32], w: u32)
 // Where the image at `j` in the order by image begins, or n after the last.
 fn image_from(n: u32, starts: &[u32], images: &[u32], order: &[u32], j: usize) -> u32
     requires { Ordered (runs starts.now images.now) order.now }
-    ensures { result ≡ imageFrom n (runs starts.now images.now) j }
+    ensures { result ≡ image_from n (runs starts.now images.now) j }
 {
     if j < starts.len() {
         images[order[j] as usize]
@@ -51,7 +51,7 @@ fn image_from(n: u32, starts: &[u32], images: &[u32], order: &[u32], j: usize) -
 // begins, and the starts under it follow those under the one before. They are mostly few, as `near_end` has it.
 fn add_all_cuts(n: u32, starts: &[u32], images: &[u32], order: &[u32], totals: &mut [u32])
     requires { Summable n (runs starts.now images.now) order.now totals.old }
-    ensures { PerDegree (certainOf n (runs starts.now images.now)
+    ensures { PerDegree (certain_of n (runs starts.now images.now)
         (order_of images.now)) totals.new }
 {
     let mut passed = 0;

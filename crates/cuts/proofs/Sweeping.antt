@@ -3,13 +3,13 @@ use Prim.Native.Nat.{ℕ, zero, suc, ◌+◌, ◌-◌, ◌*◌, ◌≤◌, ◌<�
 use mathlib.Core.Path.{◌≡◌, refl, sym, ap, ◌∙◌}
 use native.Mathlib.Omega.{arith}
 use Rattle.runs.specs.Legal.{Legal}
-use Rattle.runs.specs.Runs.{Runs, count_of, image_of, imageEnd}
+use Rattle.runs.specs.Runs.{Runs, count_of, image_of, image_end}
 use Rattle.runs.specs.Weight.{weight}
-use Rattle.cuts.specs.Balance.{cutPlace, cut_at, cutting, balanced, boundOf}
-use Rattle.cuts.proofs.Cut.{cut-count}
-use Rattle.cuts.proofs.Weights.{ample, ample-bound}
-use Rattle.cuts.proofs.Balancing.{cutting-cuts, cutting-next, cutting-done, fuel-left, heavy-legal, balanced-count}
-use Rattle.cuts.proofs.Swept.{SweptTo, swept-start, swept-end, swept-lowest, swept-cut, swept-cut-on, swept-back, swept-on, back, added, stepsLeft, steps-cut, steps_back, steps_on}
+use Rattle.cuts.specs.Balance.{cut_place, cut_at, cutting, balanced, bound_of}
+use Rattle.cuts.proofs.Cut.{cut_count}
+use Rattle.cuts.proofs.Weights.{ample, ample_bound}
+use Rattle.cuts.proofs.Balancing.{cutting_cuts, cutting_next, cutting_done, fuel_left, heavy_legal, balanced_count}
+use Rattle.cuts.proofs.Swept.{SweptTo, swept_start, swept_end, swept_lowest, swept_cut, swept_cut_on, swept_back, swept_on, back, added, steps_left, steps_cut, steps_back, steps_on}
 
 pub record Sweeping (d n : ℕ) (list₀ r : Runs) (P Q : ℕ) : Type 0 where
   pub swept : SweptTo d n r P Q
@@ -19,13 +19,13 @@ pub record Sweeping (d n : ℕ) (list₀ r : Runs) (P Q : ℕ) : Type 0 where
   pub goal : cutting cuts d n r ≡ balanced d n list₀
 
 -- the steps that are left
-abbrev pub sweepLeft : Runs → Runs → ℕ → ℕ → ℕ
-sweepLeft list₀ r P Q = stepsLeft (2 * count_of list₀ - count_of r) r P Q
+abbrev pub sweep_left : Runs → Runs → ℕ → ℕ → ℕ
+sweep_left list₀ r P Q = steps_left (2 * count_of list₀ - count_of r) r P Q
 
-pub sweeping-start : (d n : ℕ) (r : Runs) → Legal n r → Sweeping d n r r 0 0
+pub sweeping_start : (d n : ℕ) (r : Runs) → Legal n r → Sweeping d n r r 0 0
 unfolding balanced
-sweeping-start d n r c = record {
-  swept = swept-start d n r c;
+sweeping_start d n r c = record {
+  swept = swept_start d n r c;
   cuts = count_of r;
   counted = omega arith;
   enough = omega arith;
@@ -34,24 +34,24 @@ sweeping-start d n r c = record {
 
 module _ (d n : ℕ) (many : 2 ≤ d) (list₀ : Runs) (c₀ : Legal n list₀) (r : Runs) (P Q : ℕ)
     (c : Sweeping d n list₀ r P Q) where
-  pub sweeping-end : n ≤ P → r ≡ balanced d n list₀
-  sweeping-end h = sym (cutting-done c.cuts d n r (swept-end d n r P Q c.swept h)) ∙ c.goal
+  pub sweeping_end : n ≤ P → r ≡ balanced d n list₀
+  sweeping_end h = sym (cutting_done c.cuts d n r (swept_end d n r P Q c.swept h)) ∙ c.goal
 
   -- what is counted so far stays within the bound
-  pub sweeping-fits : count_of r ≤ boundOf d (count_of list₀)
-  sweeping-fits = omega (
+  pub sweeping_fits : count_of r ≤ bound_of d (count_of list₀)
+  sweeping_fits = omega (
     arith,
-    balanced-count d n many list₀ c₀,
-    (cutting-cuts d n many c.cuts r c.swept.legal).counted,
+    balanced_count d n many list₀ c₀,
+    (cutting_cuts d n many c.cuts r c.swept.legal).counted,
     ap count_of c.goal,
   )
 
   module _ (x : ℕ) (hx : x < count_of r) (at : image_of r x ≡ P) where
-    pub sweeping-back : weight n r x < 2 * d → P < Q
-        → Sweeping d n list₀ r Q Q × sweepLeft list₀ r Q Q < sweepLeft list₀ r P Q
-    sweeping-back w l = (
+    pub sweeping_back : weight n r x < 2 * d → P < Q
+        → Sweeping d n list₀ r Q Q × sweep_left list₀ r Q Q < sweep_left list₀ r P Q
+    sweeping_back w l = (
       record {
-        swept = swept-back d n r P Q c.swept x hx at w l;
+        swept = swept_back d n r P Q c.swept x hx at w l;
         cuts = c.cuts;
         counted = c.counted;
         enough = c.enough;
@@ -60,11 +60,11 @@ module _ (d n : ℕ) (many : 2 ≤ d) (list₀ : Runs) (c₀ : Legal n list₀) 
       steps_back (2 * count_of list₀ - count_of r) r P Q l,
     )
 
-    pub sweeping-on : weight n r x < 2 * d → Q ≤ P → Sweeping d n list₀ r (imageEnd n r x) (imageEnd n r x)
-        × sweepLeft list₀ r (imageEnd n r x) (imageEnd n r x) < sweepLeft list₀ r P Q
-    sweeping-on w l = (
+    pub sweeping_on : weight n r x < 2 * d → Q ≤ P → Sweeping d n list₀ r (image_end n r x) (image_end n r x)
+        × sweep_left list₀ r (image_end n r x) (image_end n r x) < sweep_left list₀ r P Q
+    sweeping_on w l = (
       record {
-        swept = swept-on d n r P Q c.swept x hx at w (omega (arith, c.swept.ordered));
+        swept = swept_on d n r P Q c.swept x hx at w (omega (arith, c.swept.ordered));
         cuts = c.cuts;
         counted = c.counted;
         enough = c.enough;
@@ -74,23 +74,23 @@ module _ (d n : ℕ) (many : 2 ≤ d) (list₀ : Runs) (c₀ : Legal n list₀) 
     )
 
     -- a cut, after which the sweep has come to T
-    cut-to : 2 * d ≤ weight n r x → (T : ℕ) → Q ≤ T
+    cut_to : 2 * d ≤ weight n r x → (T : ℕ) → Q ≤ T
         → SweptTo d n (cut_at d n r x) (back n (cut_at d n r x) (added d n r x) T) T
         → Sweeping d n list₀ (cut_at d n r x) (back n (cut_at d n r x) (added d n r x) T) T
-        × sweepLeft list₀ (cut_at d n r x) (back n (cut_at d n r x) (added d n r x) T) T < sweepLeft list₀ r P Q
-    cut-to w T m swept = go c.cuts c.counted c.enough c.goal
+        × sweep_left list₀ (cut_at d n r x) (back n (cut_at d n r x) (added d n r x) T) T < sweep_left list₀ r P Q
+    cut_to w T m swept = go c.cuts c.counted c.enough c.goal
       where
         k : count_of (cut_at d n r x) ≡ suc (count_of r)
-        k = cut-count n r c.swept.legal.paired x (cutPlace d n r x) hx
+        k = cut_count n r c.swept.legal.paired x (cut_place d n r x) hx
 
         go : (g : ℕ) → g + count_of r ≡ 2 * count_of list₀ → count_of r ≤ d * ample d n r + g
             → cutting g d n r ≡ balanced d n list₀
             → Sweeping d n list₀ (cut_at d n r x) (back n (cut_at d n r x) (added d n r x) T) T
-            × sweepLeft list₀ (cut_at d n r x) (back n (cut_at d n r x) (added d n r x) T) T < sweepLeft list₀ r P Q
+            × sweep_left list₀ (cut_at d n r x) (back n (cut_at d n r x) (added d n r x) T) T < sweep_left list₀ r P Q
         go zero a e f = absurd (omega (
           arith,
-          fuel-left d n many 0 r x c.swept.legal hx w e,
-          ample-bound d n (cut_at d n r x) (heavy-legal d n many r c.swept.legal x hx w),
+          fuel_left d n many 0 r x c.swept.legal hx w e,
+          ample_bound d n (cut_at d n r x) (heavy_legal d n many r c.swept.legal x hx w),
         ))
         go (suc g) a e f =
             let p : 2 * count_of list₀ - count_of r ≡ suc g = omega arith in
@@ -99,23 +99,23 @@ module _ (d n : ℕ) (many : 2 ≤ d) (list₀ : Runs) (c₀ : Legal n list₀) 
                 swept = swept;
                 cuts = g;
                 counted = omega (arith, k);
-                enough = omega (arith, fuel-left d n many (suc g) r x c.swept.legal hx w e);
-                goal = sym (cutting-next g d n r x c.swept.legal (swept-lowest d n r P Q c.swept x hx at w))
+                enough = omega (arith, fuel_left d n many (suc g) r x c.swept.legal hx w e);
+                goal = sym (cutting_next g d n r x c.swept.legal (swept_lowest d n r P Q c.swept x hx at w))
                     ∙ f;
               },
-              rw (p, q) (steps-cut g r P Q x (cutPlace d n r x) (back n (cut_at d n r x) (added d n r x) T) T
+              rw (p, q) (steps_cut g r P Q x (cut_place d n r x) (back n (cut_at d n r x) (added d n r x) T) T
                   c.swept.legal.paired hx m),
             )
 
-    pub sweeping-cut : 2 * d ≤ weight n r x
+    pub sweeping_cut : 2 * d ≤ weight n r x
         → Sweeping d n list₀ (cut_at d n r x) (back n (cut_at d n r x) (added d n r x) Q) Q
-        × sweepLeft list₀ (cut_at d n r x) (back n (cut_at d n r x) (added d n r x) Q) Q < sweepLeft list₀ r P Q
-    sweeping-cut w = cut-to w Q (omega arith) (swept-cut d n r P Q c.swept x hx at many w)
+        × sweep_left list₀ (cut_at d n r x) (back n (cut_at d n r x) (added d n r x) Q) Q < sweep_left list₀ r P Q
+    sweeping_cut w = cut_to w Q (omega arith) (swept_cut d n r P Q c.swept x hx at many w)
 
     -- at Q, on to the second part
-    pub sweeping-cut-on : 2 * d ≤ weight n r x → Q ≤ P → let s = cutPlace d n r x in
+    pub sweeping_cut_on : 2 * d ≤ weight n r x → Q ≤ P → let s = cut_place d n r x in
         Sweeping d n list₀ (cut_at d n r x) (back n (cut_at d n r x) (added d n r x) s) s
-        × sweepLeft list₀ (cut_at d n r x) (back n (cut_at d n r x) (added d n r x) s) s < sweepLeft list₀ r P Q
-    sweeping-cut-on w l =
-        let o = swept-cut-on d n r P Q c.swept x hx at many w (omega (arith, c.swept.ordered)) in
-        cut-to w (cutPlace d n r x) (omega (arith, o.0)) o.1
+        × sweep_left list₀ (cut_at d n r x) (back n (cut_at d n r x) (added d n r x) s) s < sweep_left list₀ r P Q
+    sweeping_cut_on w l =
+        let o = swept_cut_on d n r P Q c.swept x hx at many w (omega (arith, c.swept.ordered)) in
+        cut_to w (cut_place d n r x) (omega (arith, o.0)) o.1

@@ -1,9 +1,9 @@
 -- The pieces that cuts make of a list's runs: what the private searches for them ask and promise.
 use Rattle.std.specs.Prelude.{ℕ, ◌+◌, ◌-◌, ◌*◌, ◌≤◌, ◌<◌, ◌≡◌, true, false, List, get_or, ltb}
-use Rattle.order.specs.Lists.{All, bit, countBelow}
-use Rattle.runs.specs.Runs.{Runs, count_of, start_of, image_of, imageEnd, mapOf}
+use Rattle.order.specs.Lists.{All, bit, count_below}
+use Rattle.runs.specs.Runs.{Runs, count_of, start_of, image_of, image_end, map_of}
 use Rattle.runs.specs.Weight.{weight}
-use Rattle.cuts.specs.Cuts.{withCuts}
+use Rattle.cuts.specs.Cuts.{with_cuts}
 use Rattle.cuts.specs.declared.Piece.{Piece}
 use Rattle.cuts.specs.declared.Spot.{Spot}
 use Rattle.cuts.specs.declared.Here.{Here}
@@ -19,7 +19,7 @@ pub record Begins (q : Runs) (p : ℕ) : Type 0 where
 
 -- no image goes on past place p
 abbrev pub Edge : ℕ → Runs → ℕ → Type 0
-Edge n q p = (x : ℕ) → x < count_of q → image_of q x < p → imageEnd n q x ≤ p
+Edge n q p = (x : ℕ) → x < count_of q → image_of q x < p → image_end n q x ≤ p
 
 -- the numbers of the interval of q that has its image at p
 pub record PieceAt (n : ℕ) (q : Runs) (p : ℕ) (piece : Piece) : Type 0 where
@@ -27,12 +27,12 @@ pub record PieceAt (n : ℕ) (q : Runs) (p : ℕ) (piece : Piece) : Type 0 where
   pub known : index < count_of q
   pub at : image_of q index ≡ p
   pub start_is : start_of q index ≡ piece.start
-  pub to_is : imageEnd n q index ≡ piece.to
+  pub to_is : image_end n q index ≡ piece.to
 
 -- r is the higher of a start and the last of the first `count` cuts
 pub record Higher (start : ℕ) (cuts : List ℕ) (count r : ℕ) : Type 0 where
   pub start_is : (0 < count → get_or cuts (count - 1) 0 ≤ start) → r ≡ start
-  pub cut-is : 0 < count → start < get_or cuts (count - 1) 0 → r ≡ get_or cuts (count - 1) 0
+  pub cut_is : 0 < count → start < get_or cuts (count - 1) 0 → r ≡ get_or cuts (count - 1) 0
 
 -- p is where the image begins in which u lies
 pub record Covers (n : ℕ) (q : Runs) (u p : ℕ) : Type 0 where
@@ -40,12 +40,12 @@ pub record Covers (n : ℕ) (q : Runs) (u p : ℕ) : Type 0 where
   pub known : index < count_of q
   pub at : image_of q index ≡ p
   pub from : p ≤ u
-  pub to : u < imageEnd n q index
+  pub to : u < image_end n q index
 
 -- where the image begins in which u lies, and its piece
 pub record Around (n : ℕ) (q : Runs) (u : ℕ) (spot : Spot) : Type 0 where
   pub covers : Covers n q u spot.p
-  pub piece-at : PieceAt n q spot.p spot.piece
+  pub piece_at : PieceAt n q spot.p spot.piece
 
 -- after a cut that added u: at the front Q or, if u is before it, where the image begins in which u lies
 pub record BackAt (n : ℕ) (q : Runs) (Q u : ℕ) (spot : Spot) : Type 0 where
@@ -60,18 +60,18 @@ pub record BehindAt (n : ℕ) (q : Runs) (at : Stand) : Type 0 where
 
 -- the piece at p, and the mark before it
 pub record HereAt (n : ℕ) (r : Runs) (cuts : List ℕ) (p : ℕ) (here : Here) : Type 0 where
-  pub piece-at : PieceAt n (withCuts n r cuts) p here.piece
-  pub starts-before : here.mark.starts ≡ countBelow p r.starts
-  pub cuts-before : here.mark.cuts ≡ countBelow p cuts
+  pub piece_at : PieceAt n (with_cuts n r cuts) p here.piece
+  pub starts_before : here.mark.starts ≡ count_below p r.starts
+  pub cuts_before : here.mark.cuts ≡ count_below p cuts
 
 -- the front: its rank is that of the run whose image has q, or past the last where q is n; no cut lies ahead of it
 pub record FrontAt (n : ℕ) (r : Runs) (ranked cuts : List ℕ) (front : Front) : Type 0 where
   pub most : front.rank ≤ count_of r
   pub from : get_or ranked front.rank n ≤ front.q
   pub to : front.q < n → front.q < get_or ranked (front.rank + 1) n
-  pub passed : All (λ v. mapOf n r v ≤ front.q) cuts
-  pub starts-before : front.mark.starts ≡ countBelow front.q r.starts
-  pub cuts-before : front.mark.cuts ≡ countBelow front.q cuts
+  pub passed : All (λ v. map_of n r v ≤ front.q) cuts
+  pub starts_before : front.mark.starts ≡ count_below front.q r.starts
+  pub cuts_before : front.mark.cuts ≡ count_below front.q cuts
 
 -- the front after a look at the piece at p
 pub record Passes (front : Front) (p : ℕ) (looked : Looked) (r : Front) : Type 0 where
@@ -86,21 +86,21 @@ pub record PassesLight (d n : ℕ) (r : Runs) (ranked cuts : List ℕ) (front m 
   pub at : FrontAt n r ranked cuts m
   pub on : front.q ≤ m.q
   pub within : m.q ≤ n
-  pub edge : Edge n (withCuts n r cuts) m.q
-  pub light : (x : ℕ) → x < count_of (withCuts n r cuts) → front.q ≤ image_of (withCuts n r cuts) x
-      → image_of (withCuts n r cuts) x < m.q → weight n (withCuts n r cuts) x < 2 * d
+  pub edge : Edge n (with_cuts n r cuts) m.q
+  pub light : (x : ℕ) → x < count_of (with_cuts n r cuts) → front.q ≤ image_of (with_cuts n r cuts) x
+      → image_of (with_cuts n r cuts) x < m.q → weight n (with_cuts n r cuts) x < 2 * d
 
 -- the front with a cut at u counted
 pub record Counts (front : Front) (u : ℕ) (r : Front) : Type 0 where
-  pub q-kept : r.q ≡ front.q
-  pub rank-kept : r.rank ≡ front.rank
-  pub starts-kept : r.mark.starts ≡ front.mark.starts
+  pub q_kept : r.q ≡ front.q
+  pub rank_kept : r.rank ≡ front.rank
+  pub starts_kept : r.mark.starts ≡ front.mark.starts
   pub counted : r.mark.cuts ≡ front.mark.cuts + bit (ltb u front.q)
 
 -- the sweep at this front
 pub record AtFront (front : Front) (at : Stand) : Type 0 where
-  pub p-is : at.p ≡ front.q
-  pub front-is : at.front ≡ front
+  pub p_is : at.p ≡ front.q
+  pub front_is : at.front ≡ front
 
 -- after a cut that added u, which the front counts
 pub record AfterCut (n : ℕ) (q : Runs) (front : Front) (u : ℕ) (at : Stand) : Type 0 where

@@ -2,7 +2,7 @@
 ghost use Rattle.std.specs.Prelude.{◌≡◌, ◌≤◌, ◌<◌};
 ghost use Rattle.runs.specs.Runs.{runs};
 ghost use Rattle.merging.specs.Merged.{Starts};
-ghost use Rattle.cuts.specs.Cuts.{withCuts};
+ghost use Rattle.cuts.specs.Cuts.{with_cuts};
 ghost use Rattle.cuts.specs.Ranks.{Ranked};
 ghost use Rattle.cuts.specs.Parts.{Edge, FrontAt, AtFront, Passes, PassesLight, Counts};
 
@@ -73,7 +73,7 @@ pub(crate) fn pass_light(
 ) -> Front
     requires { Ranked n (runs starts.now images.now) order.now ranked.now × Starts n starts.now cuts.now
         × FrontAt n (runs starts.now images.now) ranked.now cuts.now front
-        × Edge n (withCuts n (runs starts.now images.now) cuts.now) front.q
+        × Edge n (with_cuts n (runs starts.now images.now) cuts.now) front.q
         × (front.q ≤ n) × (0 < d) × (d ≤ 64) }
     ensures { PassesLight d n (runs starts.now images.now)
         ranked.now cuts.now front result }

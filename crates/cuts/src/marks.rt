@@ -1,6 +1,6 @@
 // Marks that the sweep sets anew, or moves on by many entries.
 ghost use Rattle.std.specs.Prelude.{◌≡◌, ◌+◌, ◌≤◌, get_or};
-ghost use Rattle.order.specs.Lists.{Sorted, countBelow};
+ghost use Rattle.order.specs.Lists.{Sorted, count_below};
 ghost use Rattle.merging.specs.Merged.{merged, Starts};
 ghost use Rattle.merging.specs.Marks.{At};
 ghost use Rattle.cuts.specs.Marks.{Skips, Lookable, Reaches, Looks};
@@ -12,7 +12,7 @@ use order::entry_or;
 // The mark before the first entry at or above `t`.
 pub(crate) fn mark_at(starts: &[u32], cuts: &[u32], t: u32) -> Mark
     requires { Sorted starts.now × Sorted cuts.now }
-    ensures { (result.starts ≡ countBelow t starts.now) × (result.cuts ≡ countBelow t cuts.now) }
+    ensures { (result.starts ≡ count_below t starts.now) × (result.cuts ≡ count_below t cuts.now) }
 {
     let before = searching::count_below(starts, t);
     Mark {
@@ -24,7 +24,7 @@ pub(crate) fn mark_at(starts: &[u32], cuts: &[u32], t: u32) -> Mark
 // The mark `count` entries on, or sooner, before the first entry that is not below `to`.
 pub(crate) fn skip(n: u32, starts: &[u32], cuts: &[u32], mark: Mark, count: usize, to: u32) -> Mark
     requires { Starts n starts.now cuts.now × At n starts.now cuts.now mark (mark.starts + mark.cuts)
-        × (mark.starts + mark.cuts ≤ countBelow to (merged starts.now cuts.now)) × (to ≤ n) }
+        × (mark.starts + mark.cuts ≤ count_below to (merged starts.now cuts.now)) × (to ≤ n) }
     ensures { Skips n starts.now cuts.now mark count to result }
 {
     let mut at = mark;
@@ -63,7 +63,7 @@ fn look_at_both(n: u32, starts: &[u32], cuts: &[u32], mark: Mark, d: usize, to: 
 
 // How many starts are below `to`, from index `from` on and at most `most` of them.
 fn starts_below(n: u32, starts: &[u32], from: usize, most: usize, to: u32) -> usize
-    requires { Sorted starts.now × (from ≤ countBelow to starts.now) × (to ≤ n) }
+    requires { Sorted starts.now × (from ≤ count_below to starts.now) × (to ≤ n) }
     ensures { Reaches starts.now from most to result }
 {
     let mut passed = 0;

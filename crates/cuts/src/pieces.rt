@@ -1,9 +1,9 @@
 // The pieces that cuts make of a list's runs: at the front of the sweep known, behind it found by binary search.
 ghost use Rattle.std.specs.Prelude.{◌≡◌, ◌+◌, ◌-◌, ◌≤◌, ◌<◌, length, get_or};
-ghost use Rattle.order.specs.Lists.{countBelow};
+ghost use Rattle.order.specs.Lists.{count_below};
 ghost use Rattle.runs.specs.Runs.{runs};
 ghost use Rattle.merging.specs.Merged.{Starts};
-ghost use Rattle.cuts.specs.Cuts.{withCuts};
+ghost use Rattle.cuts.specs.Cuts.{with_cuts};
 ghost use Rattle.cuts.specs.Ranks.{Ranked, Ranking, SentTo};
 ghost use Rattle.cuts.specs.Parts.{Begins, PieceAt, HereAt, FrontAt, Higher, Around, BehindAt, AfterCut};
 
@@ -14,7 +14,7 @@ use order::entry_or;
 // The last run in `order` with an image not above `q`; `ranked` has the images in that order.
 fn run_at_rank(order: &[u32], ranked: &[u32], q: u32) -> usize
     requires { Ranking order.now ranked.now q }
-    ensures { result ≡ get_or order.now (countBelow (q + 1) ranked.now - 1) 0 }
+    ensures { result ≡ get_or order.now (count_below (q + 1) ranked.now - 1) 0 }
 {
     order[searching::count_below(ranked, q + 1) - 1] as usize
 }
@@ -63,7 +63,7 @@ fn piece_around(
     requires { Ranked n (runs starts.now images.now) order.now ranked.now
         × Starts n starts.now cuts.now × (u < n) }
     ensures { Around n
-        (withCuts n (runs starts.now images.now) cuts.now) u result }
+        (with_cuts n (runs starts.now images.now) cuts.now) u result }
 {
     let origin = origin_of(n, starts, images, order, ranked, u);
     let x = origin.run;
@@ -94,9 +94,9 @@ fn front_piece(
 ) -> Piece
     requires { Ranked n (runs starts.now images.now) order.now ranked.now × Starts n starts.now cuts.now
         × FrontAt n (runs starts.now images.now) ranked.now cuts.now front
-        × Begins (withCuts n (runs starts.now images.now) cuts.now) front.q }
+        × Begins (with_cuts n (runs starts.now images.now) cuts.now) front.q }
     ensures { PieceAt n
-        (withCuts n (runs starts.now images.now) cuts.now) front.q result }
+        (with_cuts n (runs starts.now images.now) cuts.now) front.q result }
 {
     let rank = front.rank;
     let x = order[rank] as usize;
@@ -118,7 +118,7 @@ pub(crate) fn here(
 ) -> Here
     requires { Ranked n (runs starts.now images.now) order.now ranked.now × Starts n starts.now cuts.now
         × FrontAt n (runs starts.now images.now) ranked.now cuts.now at.front
-        × BehindAt n (withCuts n (runs starts.now images.now) cuts.now) at }
+        × BehindAt n (with_cuts n (runs starts.now images.now) cuts.now) at }
     ensures { HereAt n (runs starts.now images.now) cuts.now at.p result }
 {
     let front = at.front;
@@ -147,7 +147,7 @@ pub(crate) fn after_cut(
     requires { Ranked n (runs starts.now images.now) order.now ranked.now × Starts n starts.now cuts.now
         × (u < n) × (front.mark.cuts < 9223372036854775808) }
     ensures { AfterCut n
-        (withCuts n (runs starts.now images.now) cuts.now) front u result }
+        (with_cuts n (runs starts.now images.now) cuts.now) front u result }
 {
     let counted = fronts::count_cut(front, u);
     if counted.q <= u {

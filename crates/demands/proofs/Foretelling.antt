@@ -7,140 +7,140 @@ use mathlib.Core.List.{[], map}
 use native.Mathlib.Omega.{arith}
 use lib.ListN.{length}
 use borrow.Author.Tests.{leb-true, le-leb, lt-leb}
-use Rattle.order.proofs.Laws.{lt-or-le}
-use Rattle.outcomes.specs.Outcome.{Outcome, done, refused, Long, anyShort, mapDone}
-use Rattle.outcomes.proofs.Judging.{map-refused, map-done, below_none}
-use Rattle.outcomes.proofs.Searches.{from_le, from-true, from-least, from-none}
+use Rattle.order.proofs.Laws.{lt_or_le}
+use Rattle.outcomes.specs.Outcome.{Outcome, done, refused, Long, any_short, map_done}
+use Rattle.outcomes.proofs.Judging.{map_refused, map_done_lem, below_none}
+use Rattle.outcomes.proofs.Searches.{from_le, from_true, from_least, from_none}
 use Rattle.runs.specs.Runs.{Runs, count_of}
-use Rattle.runs.specs.Check.{checkOf}
-use Rattle.tables.specs.Tables.{tables_of, allColumns}
-use Rattle.cuts.proofs.Balancing.{balanced-cuts}
+use Rattle.runs.specs.Check.{check_of}
+use Rattle.tables.specs.Tables.{tables_of, all_columns}
+use Rattle.cuts.proofs.Balancing.{balanced_cuts}
 use Rattle.cuts.specs.Balance.{balanced, size_at}
-use Rattle.plans.specs.Fitting.{fits, leastFrom}
-use Rattle.plans.specs.Working.{workingSize, plannedOf}
-use Rattle.plans.specs.Plan.{soughtOf}
-use Rattle.plans.proofs.Outcomes.{planned-passed, planned-list, planned-sizes, planned-done, planned-number, sought-refused, sought-passed, sought-done, sought-none, fitting-refused}
-use Rattle.balance.specs.Lent.{Lent, balancedSays, intervalCount, Balances}
-use Rattle.balance.specs.Parts.{fillOf}
+use Rattle.plans.specs.Fitting.{fits, least_from}
+use Rattle.plans.specs.Working.{working_size, planned_of}
+use Rattle.plans.specs.Plan.{sought_of}
+use Rattle.plans.proofs.Outcomes.{planned_passed, planned_list, planned_sizes, planned_done, planned_number, sought_refused, sought_passed, sought_done, sought_none, fitting_refused}
+use Rattle.balance.specs.Lent.{Lent, balanced_says, interval_count, Balances}
+use Rattle.balance.specs.Parts.{fill_of}
 use Rattle.balance.specs.declared.Balanced.{Balanced}
-use Rattle.balance.proofs.Outcomes.{balance-passed, fill-short, fill_done}
-use Rattle.forecasts.specs.Sizing.{forecastAt, forecastOf}
-use Rattle.forecasts.specs.Seeking.{leastAt, leastDegreeOf}
+use Rattle.balance.proofs.Outcomes.{balance_passed, fill_short, fill_done}
+use Rattle.forecasts.specs.Sizing.{forecast_at, forecast_of}
+use Rattle.forecasts.specs.Seeking.{least_at, least_degree_of}
 use Rattle.forecasts.specs.declared.BalancedSize.{BalancedSize}
 use Rattle.forecasts.specs.declared.LeastDegree.{LeastDegree}
-use Rattle.forecasts.proofs.Outcomes.{forecast-planned, degree-sought}
+use Rattle.forecasts.proofs.Outcomes.{forecast_planned, degree_sought}
 use Rattle.demands.specs.Demands.{Foretold}
 
 -- a forecast that is given
-module _ (n : ℕ) (r : Runs) (d room : ℕ) (f : BalancedSize) (e : forecastOf n r d room ≡ done f) where
-  told : (plannedOf n r d room ≡ done tt) × (forecastAt n r d ≡ f)
-  told = map-done (λ _. forecastAt n r d) (plannedOf n r d room) f (sym (forecast-planned n r d [] room) ∙ e)
+module _ (n : ℕ) (r : Runs) (d room : ℕ) (f : BalancedSize) (e : forecast_of n r d room ≡ done f) where
+  told : (planned_of n r d room ≡ done tt) × (forecast_at n r d ≡ f)
+  told = map_done_lem (λ _. forecast_at n r d) (planned_of n r d room) f (sym (forecast_planned n r d [] room) ∙ e)
 
   -- the same list passes the tests with any working table that is long enough
-  planned : (size : ℕ) → workingSize d (count_of r) ≤ size → plannedOf n r d size ≡ done tt
-  planned size h = let t = planned-sizes n r d room told.0 in
-      planned-done n r d size (planned-passed n r d room told.0).0 t.0 t.1 h
+  planned : (size : ℕ) → working_size d (count_of r) ≤ size → planned_of n r d size ≡ done tt
+  planned size h = let t = planned_sizes n r d room told.0 in
+      planned_done n r d size (planned_passed n r d room told.0).0 t.0 t.1 h
 
   told_cuts : f.intervals ≡ count_of r + f.cuts
   told_cuts =
-      let m = balanced-cuts d n (planned-sizes n r d room told.0).0 r (planned-list n r d room told.0).0 in
+      let m = balanced_cuts d n (planned_sizes n r d room told.0).0 r (planned_list n r d room told.0).0 in
       rw (← told.1) (omega (arith, m.counted))
 
   module _ (entry exit : Lent) (answer : Balanced) (b : Balances n r d entry exit answer)
-      (h : workingSize d (count_of r) ≤ length entry.working) where
+      (h : working_size d (count_of r) ≤ length entry.working) where
     -- whether tables are short for K is whether they are for what was forecast
-    short-is : anyShort (size_at n r d) (allColumns entry.tables) ≡ anyShort f.intervals (allColumns entry.tables)
-    short-is = ap (λ (g : BalancedSize). anyShort g.intervals (allColumns entry.tables)) told.1
+    short_is : any_short (size_at n r d) (all_columns entry.tables) ≡ any_short f.intervals (all_columns entry.tables)
+    short_is = ap (λ (g : BalancedSize). any_short g.intervals (all_columns entry.tables)) told.1
 
-    says : balancedSays answer ≡ mapDone intervalCount (fillOf (size_at n r d) (tables_of n (balanced d n r)) entry.tables)
-    says = b.says ∙ ap (mapDone intervalCount) (balance-passed n r d entry (planned (length entry.working) h))
+    says : balanced_says answer ≡ map_done interval_count (fill_of (size_at n r d) (tables_of n (balanced d n r)) entry.tables)
+    says = b.says ∙ ap (map_done interval_count) (balance_passed n r d entry (planned (length entry.working) h))
 
-    told-balancing : (Long f.intervals (allColumns entry.tables) → balancedSays answer ≡ done f.intervals)
-        × (anyShort f.intervals (allColumns entry.tables) ≡ true → balancedSays answer ≡ refused 8 f.intervals)
-    unfolding mapDone
-    told-balancing = (
+    told_balancing : (Long f.intervals (all_columns entry.tables) → balanced_says answer ≡ done f.intervals)
+        × (any_short f.intervals (all_columns entry.tables) ≡ true → balanced_says answer ≡ refused 8 f.intervals)
+    unfolding map_done
+    told_balancing = (
       λ l. says
           ∙ rw (fill_done _ (tables_of n (balanced d n r)) entry.tables
-          (short-is ∙ below_none f.intervals (map length (allColumns entry.tables)) l))
+          (short_is ∙ below_none f.intervals (map length (all_columns entry.tables)) l))
           (ap (λ (g : BalancedSize). done g.intervals) told.1),
-      λ z. says ∙ rw (fill-short _ (tables_of n (balanced d n r)) entry.tables (short-is ∙ z))
+      λ z. says ∙ rw (fill_short _ (tables_of n (balanced d n r)) entry.tables (short_is ∙ z))
           (ap (λ (g : BalancedSize). refused 8 g.intervals) told.1),
     )
 
 -- a degree below the least one leaves too many intervals
-below-least : (n : ℕ) (r : Runs) (entries x : ℕ) → 2 ≤ x → x < leastFrom n r entries 2 → entries < size_at n r x
-below-least n r entries x l u = go (lt-or-le entries (size_at n r x))
+below_least : (n : ℕ) (r : Runs) (entries x : ℕ) → 2 ≤ x → x < least_from n r entries 2 → entries < size_at n r x
+below_least n r entries x l u = go (lt_or_le entries (size_at n r x))
   where
     go : (entries < size_at n r x) ⊎ (size_at n r x ≤ entries) → entries < size_at n r x
     go (inl k) = k
     go (inr k) = let i = from_le (fits n r entries) 63 2 in
-        absurd (omega (arith, from-least (fits n r entries) 63 2 x l (omega arith) (le-leb (size_at n r x) entries k)))
+        absurd (omega (arith, from_least (fits n r entries) 63 2 x l (omega arith) (le-leb (size_at n r x) entries k)))
 
 -- a degree that is given
-module _ (n : ℕ) (r : Runs) (entries room : ℕ) (a : LeastDegree) (e : leastDegreeOf n r entries room ≡ done a) where
-  least-is : (2 ≤ a.degree) × (a.degree ≤ 64) × (a.intervals ≡ size_at n r a.degree) × (a.intervals ≤ entries)
+module _ (n : ℕ) (r : Runs) (entries room : ℕ) (a : LeastDegree) (e : least_degree_of n r entries room ≡ done a) where
+  least_is : (2 ≤ a.degree) × (a.degree ≤ 64) × (a.intervals ≡ size_at n r a.degree) × (a.intervals ≤ entries)
       × ((x : ℕ) → 2 ≤ x → x < a.degree → entries < size_at n r x)
-  least-is =
-      let m = map-done (λ _. leastAt n r entries) (soughtOf n r entries 2 room) a (sym (degree-sought n r entries [] room) ∙ e) in
-      let h = (sought-passed n r entries 2 room m.0).1 in
+  least_is =
+      let m = map_done_lem (λ _. least_at n r entries) (sought_of n r entries 2 room) a (sym (degree_sought n r entries [] room) ∙ e) in
+      let h = (sought_passed n r entries 2 room m.0).1 in
       let i = from_le (fits n r entries) 63 2 in
       rw (← m.1) (
         i.0,
         h,
         refl,
-        leb-true (size_at n r (leastFrom n r entries 2)) entries (from-true (fits n r entries) 63 2 (omega arith)),
-        below-least n r entries,
+        leb-true (size_at n r (least_from n r entries 2)) entries (from_true (fits n r entries) 63 2 (omega arith)),
+        below_least n r entries,
       )
 
 -- one is given wherever one fits
-degree-given : (n : ℕ) (r : Runs) (entries room e : ℕ) → checkOf n r ≡ done tt → workingSize 2 (count_of r) ≤ room
-    → 2 ≤ e → e ≤ 64 → size_at n r e ≤ entries → leastDegreeOf n r entries room ≡ done (leastAt n r entries)
-unfolding mapDone
-degree-given n r entries room e a h low high k =
-    let l = from-least (fits n r entries) 63 2 e low (omega arith) (le-leb (size_at n r e) entries k) in
-    degree-sought n r entries [] room
-    ∙ rw (sought-done n r entries 2 room (planned-done n r 2 room a (omega arith) (omega arith) h) (omega arith))
+degree_given : (n : ℕ) (r : Runs) (entries room e : ℕ) → check_of n r ≡ done tt → working_size 2 (count_of r) ≤ room
+    → 2 ≤ e → e ≤ 64 → size_at n r e ≤ entries → least_degree_of n r entries room ≡ done (least_at n r entries)
+unfolding map_done
+degree_given n r entries room e a h low high k =
+    let l = from_least (fits n r entries) 63 2 e low (omega arith) (le-leb (size_at n r e) entries k) in
+    degree_sought n r entries [] room
+    ∙ rw (sought_done n r entries 2 room (planned_done n r 2 room a (omega arith) (omega arith) h) (omega arith))
 
 -- 19: no degree fits
 module _ (n : ℕ) (r : Runs) (entries room p : ℕ) where
-  none-fits : leastDegreeOf n r entries room ≡ refused 19 p
-      → (checkOf n r ≡ done tt) × (workingSize 2 (count_of r) ≤ room) × (p ≡ entries)
+  none_fits : least_degree_of n r entries room ≡ refused 19 p
+      → (check_of n r ≡ done tt) × (working_size 2 (count_of r) ≤ room) × (p ≡ entries)
       × ((x : ℕ) → 2 ≤ x → x ≤ 64 → entries < size_at n r x)
-  none-fits e = go (plannedOf n r 2 room) refl
+  none_fits e = go (planned_of n r 2 room) refl
     where
-      q : soughtOf n r entries 2 room ≡ refused 19 p
-      q = map-refused _ _ 19 p (sym (degree-sought n r entries [] room) ∙ e)
+      q : sought_of n r entries 2 room ≡ refused 19 p
+      q = map_refused _ _ 19 p (sym (degree_sought n r entries [] room) ∙ e)
 
-      go : (o : Outcome (Unit {0})) → plannedOf n r 2 room ≡ o
-          → (checkOf n r ≡ done tt) × (workingSize 2 (count_of r) ≤ room) × (p ≡ entries)
+      go : (o : Outcome (Unit {0})) → planned_of n r 2 room ≡ o
+          → (check_of n r ≡ done tt) × (working_size 2 (count_of r) ≤ room) × (p ≡ entries)
           × ((x : ℕ) → 2 ≤ x → x ≤ 64 → entries < size_at n r x)
       go (refused k p') f =
-          absurd (omega (arith, planned-number n r 2 room 19 p (f ∙ sym (sought-refused n r entries 2 room k p' f) ∙ q)))
+          absurd (omega (arith, planned_number n r 2 room 19 p (f ∙ sym (sought_refused n r entries 2 room k p' f) ∙ q)))
       go (done _) f =
-          let s = fitting-refused n r entries 2 room 19 p f q in
-          let i = planned-passed n r 2 room f in (
+          let s = fitting_refused n r entries 2 room 19 p f q in
+          let i = planned_passed n r 2 room f in (
             i.0,
-            (planned-sizes n r 2 room f).2,
+            (planned_sizes n r 2 room f).2,
             s.1,
-            λ x l u. below-least n r entries x l (omega (arith, s.2)),
+            λ x l u. below_least n r entries x l (omega (arith, s.2)),
           )
 
-  none-given : (checkOf n r ≡ done tt) × (workingSize 2 (count_of r) ≤ room) × (p ≡ entries)
-      × ((x : ℕ) → 2 ≤ x → x ≤ 64 → entries < size_at n r x) → leastDegreeOf n r entries room ≡ refused 19 p
-  unfolding mapDone
-  none-given h =
-      let l : leastFrom n r entries 2 ≡ 65 = from-none (fits n r entries) 63 2
+  none_given : (check_of n r ≡ done tt) × (working_size 2 (count_of r) ≤ room) × (p ≡ entries)
+      × ((x : ℕ) → 2 ≤ x → x ≤ 64 → entries < size_at n r x) → least_degree_of n r entries room ≡ refused 19 p
+  unfolding map_done
+  none_given h =
+      let l : least_from n r entries 2 ≡ 65 = from_none (fits n r entries) 63 2
       (λ z a b. lt-leb (size_at n r z) entries (h.3 z a (omega arith))) in
-      degree-sought n r entries [] room
-      ∙ rw (sought-none n r entries 2 room (planned-done n r 2 room h.0 (omega arith) (omega arith) h.1) (omega arith), h.2)
+      degree_sought n r entries [] room
+      ∙ rw (sought_none n r entries 2 room (planned_done n r 2 room h.0 (omega arith) (omega arith) h.1) (omega arith), h.2)
 
 pub foretold : Foretold
-unfolding mapDone
+unfolding map_done
 foretold = record {
-  forecast = λ n r d room a low high h. forecast-planned n r d [] room ∙ rw (planned-done n r d room a low high h);
+  forecast = λ n r d room a low high h. forecast_planned n r d [] room ∙ rw (planned_done n r d room a low high h);
   cuts = told_cuts;
-  balancing = told-balancing;
-  least = least-is;
-  answered = degree-given;
-  none = λ n r entries room p. (none-fits n r entries room p, none-given n r entries room p);
+  balancing = told_balancing;
+  least = least_is;
+  answered = degree_given;
+  none = λ n r entries room p. (none_fits n r entries room p, none_given n r entries room p);
 }

@@ -18,27 +18,27 @@ abbrev pub total : List ℕ → ℕ
 total l = sum_of (λ v. v) l
 
 -- the moves that a call asks for, and the moves of the whole list
-abbrev pub movesIn : Call → ℕ
-movesIn (find i) = 0
-movesIn move = 1
-movesIn (moves m) = m
+abbrev pub moves_in : Call → ℕ
+moves_in (find i) = 0
+moves_in move = 1
+moves_in (moves m) = m
 
-abbrev pub allMoves : List Call → ℕ
-allMoves cs = total (map movesIn cs)
+abbrev pub all_moves : List Call → ℕ
+all_moves cs = total (map moves_in cs)
 
 -- the starts that an answer and a reply count, and all counts together
-abbrev pub countOfMove : Outcome Step → ℕ
-countOfMove (done s) = s.count
-countOfMove (refused k p) = 0
+abbrev pub count_of_move : Outcome Step → ℕ
+count_of_move (done s) = s.count
+count_of_move (refused k p) = 0
 
-abbrev pub countIn : Reply → ℕ
-countIn (found o) = 0
-countIn (moved o) = countOfMove o
+abbrev pub count_in : Reply → ℕ
+count_in (found o) = 0
+count_in (moved o) = count_of_move o
 
-abbrev pub allCounts : List Reply → ℕ
-allCounts replies = total (map countIn replies)
+abbrev pub all_counts : List Reply → ℕ
+all_counts replies = total (map count_in replies)
 
 -- A bookmark's move counts at most b starts, and the bookmark after it at most b for each move that it has made.
 pub record Bounded (b : ℕ) (m : Marking) : Type 0 where
-  pub move : countOfMove m.answer ≤ b
+  pub move : count_of_move m.answer ≤ b
   pub sum : m.bookmark.count ≤ m.bookmark.moves * b

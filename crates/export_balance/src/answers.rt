@@ -1,13 +1,13 @@
 // The answer struct for what balancing answers.
 ghost use Rattle.std.specs.Prelude.{◌≡◌};
-ghost use Rattle.balance.specs.Lent.{balancedSays};
-ghost use Rattle.export_balance.specs.Answers.{balanceAnswer};
+ghost use Rattle.balance.specs.Lent.{balanced_says};
+ghost use Rattle.export_balance.specs.Answers.{balance_answer};
 
 use super::BalanceAnswer;
 use balance::Balanced;
 
 pub(crate) fn of_balance(balanced: Balanced) -> BalanceAnswer
-    ensures { result ≡ balanceAnswer (balancedSays balanced) }
+    ensures { result ≡ balance_answer (balanced_says balanced) }
 {
     match balanced {
         Balanced::Intervals(size) => BalanceAnswer {

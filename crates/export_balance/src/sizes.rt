@@ -1,14 +1,14 @@
 // The answer struct for what the forecast and the search for a degree answer.
 ghost use Rattle.std.specs.Prelude.{◌≡◌};
-ghost use Rattle.forecasts.specs.Sizing.{forecastedSays};
-ghost use Rattle.forecasts.specs.Seeking.{soughtSays};
-ghost use Rattle.export_balance.specs.Answers.{forecastAnswer, degreeAnswer};
+ghost use Rattle.forecasts.specs.Sizing.{forecasted_says};
+ghost use Rattle.forecasts.specs.Seeking.{sought_says};
+ghost use Rattle.export_balance.specs.Answers.{forecast_answer, degree_answer};
 
 use super::{DegreeAnswer, ForecastAnswer};
 use forecasts::{Forecasted, Sought};
 
 pub(crate) fn of_size(forecasted: Forecasted) -> ForecastAnswer
-    ensures { result ≡ forecastAnswer (forecastedSays forecasted) }
+    ensures { result ≡ forecast_answer (forecasted_says forecasted) }
 {
     match forecasted {
         Forecasted::Size(size) => ForecastAnswer {
@@ -27,7 +27,7 @@ pub(crate) fn of_size(forecasted: Forecasted) -> ForecastAnswer
 }
 
 pub(crate) fn of_degree(sought: Sought) -> DegreeAnswer
-    ensures { result ≡ degreeAnswer (soughtSays sought) }
+    ensures { result ≡ degree_answer (sought_says sought) }
 {
     match sought {
         Sought::Degree(least) => DegreeAnswer {

@@ -4,6 +4,6 @@ use Rattle.outcomes.specs.Outcome.{Outcome, done, refused}
 use Rattle.files.specs.declared.Header.{Header}
 use Rattle.export_files.specs.declared.FileAnswer.{FileAnswer}
 
-abbrev pub fileAnswer : Outcome Header → FileAnswer
-fileAnswer (done h) = record { number = 0; place = 0; n = h.n; k = h.k; d = h.d }
-fileAnswer (refused k p) = record { number = k; place = p; n = 0; k = 0; d = 0 }
+abbrev pub file_answer : Outcome Header → FileAnswer
+file_answer (done h) = record { number = 0; place = 0; n = h.n; k = h.k; d = h.d }
+file_answer (refused k p) = record { number = k; place = p; n = 0; k = 0; d = 0 }

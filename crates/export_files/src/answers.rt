@@ -1,13 +1,13 @@
 // The answer struct for the library's answer.
 ghost use Rattle.std.specs.Prelude.{◌≡◌};
-ghost use Rattle.files.specs.File.{fileSays};
-ghost use Rattle.export_files.specs.Answers.{fileAnswer};
+ghost use Rattle.files.specs.File.{file_says};
+ghost use Rattle.export_files.specs.Answers.{file_answer};
 
 use super::FileAnswer;
 use files::FileChecked;
 
 pub(crate) fn of_file(checked: FileChecked) -> FileAnswer
-    ensures { result ≡ fileAnswer (fileSays checked) }
+    ensures { result ≡ file_answer (file_says checked) }
 {
     match checked {
         FileChecked::Read(header) => FileAnswer {

@@ -5,10 +5,10 @@
 mod answers;
 
 ghost use Rattle.std.specs.Prelude.{◌≡◌};
-ghost use Rattle.runs.specs.Check.{maxRuns};
-ghost use Rattle.files.specs.File.{fileOf};
+ghost use Rattle.runs.specs.Check.{max_runs};
+ghost use Rattle.files.specs.File.{file_of};
 ghost use Rattle.listings.specs.Listing.{FileListed};
-ghost use Rattle.export_files.specs.Answers.{fileAnswer};
+ghost use Rattle.export_files.specs.Answers.{file_answer};
 
 // The answer of the check: what the file's header says. Its place is 0 where it is done.
 #[repr(C)]
@@ -24,7 +24,7 @@ pub struct FileAnswer {
 // Whether a file is one of a legal list of at most 16,384 runs with a degree from 2 to 64.
 #[unsafe(no_mangle)]
 pub extern "C" fn zibewoka_check_file(file: &[u8]) -> FileAnswer
-    ensures { result ≡ fileAnswer (fileOf maxRuns file.now) }
+    ensures { result ≡ file_answer (file_of max_runs file.now) }
 {
     answers::of_file(file_checks::check_file(file))
 }

@@ -4,6 +4,6 @@ use Rattle.outcomes.specs.Outcome.{Outcome, done, refused}
 use Rattle.export_lists.specs.declared.ListAnswer.{ListAnswer}
 
 -- check and the inverse list have no values
-abbrev pub listAnswer : {A : Type 0} → Outcome A → ListAnswer
-listAnswer (done a) = record { number = 0; place = 0 }
-listAnswer (refused k p) = record { number = k; place = p }
+abbrev pub list_answer : {A : Type 0} → Outcome A → ListAnswer
+list_answer (done a) = record { number = 0; place = 0 }
+list_answer (refused k p) = record { number = k; place = p }

@@ -1,13 +1,13 @@
 // The answer struct for each of the library's answers.
 ghost use Rattle.std.specs.Prelude.{◌≡◌};
-ghost use Rattle.outcomes.specs.Refusal.{checkedSays};
-ghost use Rattle.export_lists.specs.Answers.{listAnswer};
+ghost use Rattle.outcomes.specs.Refusal.{checked_says};
+ghost use Rattle.export_lists.specs.Answers.{list_answer};
 
 use super::ListAnswer;
 use outcomes::Checked;
 
 pub(crate) fn of_list(checked: Checked) -> ListAnswer
-    ensures { result ≡ listAnswer (checkedSays checked) }
+    ensures { result ≡ list_answer (checked_says checked) }
 {
     match checked {
         Checked::Accepted => ListAnswer {

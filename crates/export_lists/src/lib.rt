@@ -4,8 +4,8 @@ mod answers;
 
 ghost use Rattle.std.specs.Prelude.{◌≡◌};
 ghost use Rattle.runs.specs.Runs.{runs};
-ghost use Rattle.runs.specs.Check.{checkOf};
-ghost use Rattle.export_lists.specs.Answers.{listAnswer};
+ghost use Rattle.runs.specs.Check.{check_of};
+ghost use Rattle.export_lists.specs.Answers.{list_answer};
 ghost use Rattle.export_lists.specs.Lent.{InverseListAnswered};
 
 // The answer of check and inverse list.
@@ -19,7 +19,7 @@ pub struct ListAnswer {
 // Whether a list is legal and has at most 16,384 runs.
 #[unsafe(no_mangle)]
 pub extern "C" fn zibewoka_check(n: u32, starts: &[u32], images: &[u32]) -> ListAnswer
-    ensures { result ≡ listAnswer (checkOf n (runs starts.now images.now)) }
+    ensures { result ≡ list_answer (check_of n (runs starts.now images.now)) }
 {
     answers::of_list(lists::check(n, starts, images))
 }

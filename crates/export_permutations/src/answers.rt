@@ -1,13 +1,13 @@
 // The answer struct for the library's answer.
 ghost use Rattle.std.specs.Prelude.{◌≡◌};
-ghost use Rattle.permutations.specs.Next.{nextSays};
-ghost use Rattle.export_permutations.specs.Answers.{nextAnswer};
+ghost use Rattle.permutations.specs.Next.{next_says};
+ghost use Rattle.export_permutations.specs.Answers.{next_answer};
 
 use super::NextAnswer;
 use permutations::Next;
 
 pub(crate) fn of_next(next: Next) -> NextAnswer
-    ensures { result ≡ nextAnswer (nextSays next) }
+    ensures { result ≡ next_answer (next_says next) }
 {
     match next {
         Next::RunCount(count) => NextAnswer {

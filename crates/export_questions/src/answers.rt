@@ -1,13 +1,13 @@
 // The answer struct for the library's answer.
 ghost use Rattle.std.specs.Prelude.{◌≡◌};
-ghost use Rattle.questions.specs.Questions.{answeredSays};
-ghost use Rattle.export_questions.specs.Answers.{questionsAnswer};
+ghost use Rattle.questions.specs.Questions.{answered_says};
+ghost use Rattle.export_questions.specs.Answers.{questions_answer};
 
 use super::QuestionsAnswer;
 use questions::Answered;
 
 pub(crate) fn of_questions(answered: Answered) -> QuestionsAnswer
-    ensures { result ≡ questionsAnswer (answeredSays answered) }
+    ensures { result ≡ questions_answer (answered_says answered) }
 {
     match answered {
         Answered::Passed(count) => QuestionsAnswer {

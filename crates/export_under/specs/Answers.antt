@@ -4,6 +4,6 @@ use Rattle.outcomes.specs.Outcome.{Outcome, done, refused}
 use Rattle.weights.specs.declared.Stretch.{Stretch}
 use Rattle.export_under.specs.declared.UnderAnswer.{UnderAnswer}
 
-abbrev pub underAnswer : Outcome Stretch → UnderAnswer
-underAnswer (done s) = record { number = 0; place = 0; first = s.first; count = s.count }
-underAnswer (refused k p) = record { number = k; place = p; first = 0; count = 0 }
+abbrev pub under_answer : Outcome Stretch → UnderAnswer
+under_answer (done s) = record { number = 0; place = 0; first = s.first; count = s.count }
+under_answer (refused k p) = record { number = k; place = p; first = 0; count = 0 }

@@ -1,13 +1,13 @@
 // The answer struct for the library's answer.
 ghost use Rattle.std.specs.Prelude.{◌≡◌};
-ghost use Rattle.weights.specs.Under.{stretchedSays};
-ghost use Rattle.export_under.specs.Answers.{underAnswer};
+ghost use Rattle.weights.specs.Under.{stretched_says};
+ghost use Rattle.export_under.specs.Answers.{under_answer};
 
 use super::UnderAnswer;
 use weights::Stretched;
 
 pub(crate) fn of_under(stretched: Stretched) -> UnderAnswer
-    ensures { result ≡ underAnswer (stretchedSays stretched) }
+    ensures { result ≡ under_answer (stretched_says stretched) }
 {
     match stretched {
         Stretched::At(stretch) => UnderAnswer {

@@ -8,8 +8,8 @@ mod answers;
 
 ghost use Rattle.std.specs.Prelude.{◌≡◌};
 ghost use Rattle.tables.specs.Tables.{tables};
-ghost use Rattle.weights.specs.Under.{underOf};
-ghost use Rattle.export_under.specs.Answers.{underAnswer};
+ghost use Rattle.weights.specs.Under.{under_of};
+ghost use Rattle.export_under.specs.Answers.{under_answer};
 
 // The answer: the starts are so many entries of the table of starts, from the first on. Its place is 0 where it is done.
 #[repr(C)]
@@ -31,7 +31,7 @@ pub extern "C" fn zibewoka_starts_under(
     lengths: &[u32],
     interval: u32,
 ) -> UnderAnswer
-    ensures { result ≡ underAnswer (underOf n (tables starts.now images.now holders.now lengths.now) interval) }
+    ensures { result ≡ under_answer (under_of n (tables starts.now images.now holders.now lengths.now) interval) }
 {
     answers::of_under(weights::under(n, starts, images, holders, lengths, interval))
 }

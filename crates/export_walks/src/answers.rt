@@ -1,9 +1,9 @@
 // The answer struct for each of the library's answers.
 ghost use Rattle.std.specs.Prelude.{◌≡◌};
-ghost use Rattle.walks.specs.Move.{foundSays, movedSays};
-ghost use Rattle.preimages.specs.Inverse.{invertedSays};
-ghost use Rattle.weights.specs.Under.{weighedSays};
-ghost use Rattle.export_walks.specs.Answers.{findAnswer, movesAnswer, inverseAnswer, weightAnswer};
+ghost use Rattle.walks.specs.Move.{found_says, moved_says};
+ghost use Rattle.preimages.specs.Inverse.{inverted_says};
+ghost use Rattle.weights.specs.Under.{weighed_says};
+ghost use Rattle.export_walks.specs.Answers.{find_answer, moves_answer, inverse_answer, weight_answer};
 
 use super::{IntervalAnswer, MovesAnswer, WeightAnswer};
 use preimages::Inverted;
@@ -12,7 +12,7 @@ use weights::Weighed;
 
 // What was found about `place`.
 pub(crate) fn of_find(found: Found, place: u32) -> IntervalAnswer
-    ensures { result ≡ findAnswer place (foundSays found) }
+    ensures { result ≡ find_answer place (found_says found) }
 {
     match found {
         Found::At(interval) => IntervalAnswer {
@@ -29,7 +29,7 @@ pub(crate) fn of_find(found: Found, place: u32) -> IntervalAnswer
 }
 
 pub(crate) fn of_moves(moved: Moved) -> MovesAnswer
-    ensures { result ≡ movesAnswer (movedSays moved) }
+    ensures { result ≡ moves_answer (moved_says moved) }
 {
     match moved {
         Moved::To(step) => MovesAnswer {
@@ -50,7 +50,7 @@ pub(crate) fn of_moves(moved: Moved) -> MovesAnswer
 }
 
 pub(crate) fn of_inverse(inverted: Inverted) -> IntervalAnswer
-    ensures { result ≡ inverseAnswer (invertedSays inverted) }
+    ensures { result ≡ inverse_answer (inverted_says inverted) }
 {
     match inverted {
         Inverted::From(source) => IntervalAnswer {
@@ -67,7 +67,7 @@ pub(crate) fn of_inverse(inverted: Inverted) -> IntervalAnswer
 }
 
 pub(crate) fn of_weight(weighed: Weighed) -> WeightAnswer
-    ensures { result ≡ weightAnswer (weighedSays weighed) }
+    ensures { result ≡ weight_answer (weighed_says weighed) }
 {
     match weighed {
         Weighed::Weight(weight) => WeightAnswer {

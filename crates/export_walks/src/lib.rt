@@ -4,10 +4,10 @@ mod answers;
 
 ghost use Rattle.std.specs.Prelude.{◌≡◌};
 ghost use Rattle.tables.specs.Tables.{tables};
-ghost use Rattle.walks.specs.Move.{findOf, move_of, moves_of};
-ghost use Rattle.preimages.specs.Inverse.{inverseOf};
-ghost use Rattle.weights.specs.Under.{weightOf};
-ghost use Rattle.export_walks.specs.Answers.{findAnswer, moveAnswer, movesAnswer, inverseAnswer, weightAnswer};
+ghost use Rattle.walks.specs.Move.{find_of, move_of, moves_of};
+ghost use Rattle.preimages.specs.Inverse.{inverse_of};
+ghost use Rattle.weights.specs.Under.{weight_of};
+ghost use Rattle.export_walks.specs.Answers.{find_answer, move_answer, moves_answer, inverse_answer, weight_answer};
 
 // The answer of find and inverse. Find's place is the one asked about, inverse's the one that it was reached from.
 #[repr(C)]
@@ -59,7 +59,7 @@ pub extern "C" fn zibewoka_find(
     lengths: &[u32],
     place: u32,
 ) -> IntervalAnswer
-    ensures { result ≡ findAnswer place (findOf n (tables starts.now images.now holders.now lengths.now) place) }
+    ensures { result ≡ find_answer place (find_of n (tables starts.now images.now holders.now lengths.now) place) }
 {
     let found = walks::find(n, starts, images, holders, lengths, place);
     answers::of_find(found, place)
@@ -76,7 +76,7 @@ pub extern "C" fn zibewoka_move(
     interval: u32,
     place: u32,
 ) -> MoveAnswer
-    ensures { result ≡ moveAnswer (move_of n (tables starts.now images.now holders.now lengths.now) interval place) }
+    ensures { result ≡ move_answer (move_of n (tables starts.now images.now holders.now lengths.now) interval place) }
 {
     let wide = answers::of_moves(walks::move_query(
         n, starts, images, holders, lengths, interval, place,
@@ -102,7 +102,7 @@ pub extern "C" fn zibewoka_moves(
     place: u32,
     m: u32,
 ) -> MovesAnswer
-    ensures { result ≡ movesAnswer (moves_of n (tables starts.now images.now holders.now lengths.now) m interval place) }
+    ensures { result ≡ moves_answer (moves_of n (tables starts.now images.now holders.now lengths.now) m interval place) }
 {
     answers::of_moves(walks::repeated_moves(
         n, starts, images, holders, lengths, interval, place, m,
@@ -119,7 +119,7 @@ pub extern "C" fn zibewoka_inverse(
     lengths: &[u32],
     place: u32,
 ) -> IntervalAnswer
-    ensures { result ≡ inverseAnswer (inverseOf n (tables starts.now images.now holders.now lengths.now) place) }
+    ensures { result ≡ inverse_answer (inverse_of n (tables starts.now images.now holders.now lengths.now) place) }
 {
     answers::of_inverse(preimages::inverse(n, starts, images, holders, lengths, place))
 }
@@ -134,7 +134,7 @@ pub extern "C" fn zibewoka_weight(
     lengths: &[u32],
     interval: u32,
 ) -> WeightAnswer
-    ensures { result ≡ weightAnswer (weightOf n (tables starts.now images.now holders.now lengths.now) interval) }
+    ensures { result ≡ weight_answer (weight_of n (tables starts.now images.now holders.now lengths.now) interval) }
 {
     answers::of_weight(weights::weight(n, starts, images, holders, lengths, interval))
 }

@@ -49,9 +49,9 @@ pub tells : Tells Eight (Is Eight) vals
 tells = Array-Tells T.the_row (LL.vals T.the_type T'.the_laws) (LL.tells T.the_type T'.the_laws) 8
 
 -- an array that is a field holds the tuples of its records
-pub as-field : (ys : List Question) → Is Eight ys (val ys ∷ [])
+pub as_field : (ys : List Question) → Is Eight ys (val ys ∷ [])
     → Is (array_field T.the_field 8).row (map (T.the_field).into ys) (val ys ∷ [])
-as-field ys = is_same (T.the_field).row Question (T.the_field).into (T.the_field).into_one 8 ys (val ys ∷ [])
+as_field ys = is_same (T.the_field).row Question (T.the_field).into (T.the_field).into_one 8 ys (val ys ∷ [])
 
 -- a slice of the first k records has room
 pub room : (k : ℕ) (h : List Question) → length h ≡ 8 → Room T.the_row (length (take k h))

@@ -3,18 +3,18 @@
 // The definitions that its contract cites, and which files are right, stand with the file (crate files).
 ghost use Rattle.std.specs.Prelude.{◌≡◌, [], ◌∷◌, ◌≤◌, length};
 ghost use Rattle.outcomes.specs.Outcome.{Long};
-ghost use Rattle.outcomes.specs.Refusal.{checkedSays};
+ghost use Rattle.outcomes.specs.Refusal.{checked_says};
 ghost use Rattle.runs.specs.Runs.{Runs};
-ghost use Rattle.runs.specs.Check.{maxRuns, checkOf};
-ghost use Rattle.files.specs.File.{fileOf, fileSays};
-ghost use Rattle.files.specs.Parts.{Laid, ListRoom, degreeOf, listed_of, body_of};
+ghost use Rattle.runs.specs.Check.{max_runs, check_of};
+ghost use Rattle.files.specs.File.{file_of, file_says};
+ghost use Rattle.files.specs.Parts.{Laid, ListRoom, degree_of, listed_of, body_of};
 
 use files::{FileChecked, Header};
 use outcomes::{Checked, Refusal};
 
 // Test 7 of a header.
 fn check_degree(h: Header) -> FileChecked
-    ensures { fileSays result ≡ degreeOf h }
+    ensures { file_says result ≡ degree_of h }
 {
     if outcomes::is_degree(h.d) {
         return FileChecked::Read(h);
@@ -24,7 +24,7 @@ fn check_degree(h: Header) -> FileChecked
 
 // What the check of the list says, and then test 7.
 fn then_degree(h: Header, checked: Checked) -> FileChecked
-    ensures { (q : Runs) → checkedSays checked ≡ checkOf h.n q → fileSays result ≡ listed_of h q }
+    ensures { (q : Runs) → checked_says checked ≡ check_of h.n q → file_says result ≡ listed_of h q }
 {
     match checked {
         Checked::Refused(r) => FileChecked::Refused(r),
@@ -34,8 +34,8 @@ fn then_degree(h: Header, checked: Checked) -> FileChecked
 
 // Tests 3 to 7 of a file whose header is right, with room for its list.
 fn check_list(file: &[u8], h: Header, starts: &mut [u32], images: &mut [u32]) -> FileChecked
-    requires { Laid maxRuns file.now h × ListRoom file.now h.k starts.old images.old }
-    ensures { fileSays result ≡ body_of file.now }
+    requires { Laid max_runs file.now h × ListRoom file.now h.k starts.old images.old }
+    ensures { file_says result ≡ body_of file.now }
 {
     files::read_list(file, h.k as usize, starts, images);
     then_degree(h, lists::check(h.n, starts, images))
@@ -43,8 +43,8 @@ fn check_list(file: &[u8], h: Header, starts: &mut [u32], images: &mut [u32]) ->
 
 // The same with room for as many runs or more.
 fn check_in(file: &[u8], h: Header, starts: &mut [u32], images: &mut [u32]) -> FileChecked
-    requires { Laid maxRuns file.now h × Long h.k (starts.old ∷ images.old ∷ []) }
-    ensures { fileSays result ≡ body_of file.now }
+    requires { Laid max_runs file.now h × Long h.k (starts.old ∷ images.old ∷ []) }
+    ensures { file_says result ≡ body_of file.now }
 {
     let k = h.k as usize;
     check_list(file, h, &mut starts[..k], &mut images[..k])
@@ -59,9 +59,9 @@ fn check_list_by(
     order: &mut [u32],
     spare: &mut [u32],
 ) -> FileChecked
-    requires { Laid maxRuns file.now h × ListRoom file.now h.k starts.old images.old
+    requires { Laid max_runs file.now h × ListRoom file.now h.k starts.old images.old
         × (h.k ≤ length order.old) × (h.k ≤ length spare.old) }
-    ensures { fileSays result ≡ body_of file.now }
+    ensures { file_says result ≡ body_of file.now }
 {
     files::read_list(file, h.k as usize, starts, images);
     let checked = runs::check_order(h.n, starts, images, runs::MOST_RUNS, order, spare);
@@ -72,8 +72,8 @@ fn check_list_by(
 // tables. It also touches each page of its frame. So a short list is checked here, and not by `lists::check`, which the compiler puts
 // into `check_list` with tables for any list.
 fn check_few(file: &[u8], h: Header) -> FileChecked
-    requires { Laid maxRuns file.now h × (h.k ≤ 64) }
-    ensures { fileSays result ≡ body_of file.now }
+    requires { Laid max_runs file.now h × (h.k ≤ 64) }
+    ensures { file_says result ≡ body_of file.now }
 {
     let k = h.k as usize;
     let mut starts: [u32; runs::FEW_RUNS] = [0; runs::FEW_RUNS];
@@ -91,8 +91,8 @@ fn check_few(file: &[u8], h: Header) -> FileChecked
 }
 
 fn check_some(file: &[u8], h: Header) -> FileChecked
-    requires { Laid maxRuns file.now h × (h.k ≤ 1024) }
-    ensures { fileSays result ≡ body_of file.now }
+    requires { Laid max_runs file.now h × (h.k ≤ 1024) }
+    ensures { file_says result ≡ body_of file.now }
 {
     let mut starts: [u32; runs::SOME_RUNS] = [0; runs::SOME_RUNS];
     let mut images: [u32; runs::SOME_RUNS] = [0; runs::SOME_RUNS];
@@ -100,8 +100,8 @@ fn check_some(file: &[u8], h: Header) -> FileChecked
 }
 
 fn check_any(file: &[u8], h: Header) -> FileChecked
-    requires { Laid maxRuns file.now h }
-    ensures { fileSays result ≡ body_of file.now }
+    requires { Laid max_runs file.now h }
+    ensures { file_says result ≡ body_of file.now }
 {
     let k = h.k as usize;
     let mut starts: [u32; runs::MAX_RUNS] = [0; runs::MAX_RUNS];
@@ -110,8 +110,8 @@ fn check_any(file: &[u8], h: Header) -> FileChecked
 }
 
 fn check_body(file: &[u8], h: Header) -> FileChecked
-    requires { Laid maxRuns file.now h }
-    ensures { fileSays result ≡ body_of file.now }
+    requires { Laid max_runs file.now h }
+    ensures { file_says result ≡ body_of file.now }
 {
     let k = h.k as usize;
     if k <= runs::FEW_RUNS {
@@ -125,7 +125,7 @@ fn check_body(file: &[u8], h: Header) -> FileChecked
 
 // Whether the file is one of a legal list of at most 16,384 runs with a degree from 2 to 64, and what its header says.
 pub fn check_file(file: &[u8]) -> FileChecked
-    ensures { fileSays result ≡ fileOf maxRuns file.now }
+    ensures { file_says result ≡ file_of max_runs file.now }
 {
     match files::read_header(file, runs::MAX_RUNS) {
         FileChecked::Refused(r) => FileChecked::Refused(r),

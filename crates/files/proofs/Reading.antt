@@ -5,9 +5,9 @@ use mathlib.Core.List.{List, [], ◌∷◌, append-nil}
 use native.Mathlib.Omega.{arith}
 use lib.ListN.{length, get_or, drop, length-drop, drop_of_length-le}
 use lib.Seq.{length-take-le, get_or-take, get_or-drop}
-use Rattle.order.proofs.Filling.{Filling, filling-all}
+use Rattle.order.proofs.Filling.{Filling, filling_all}
 use Rattle.runs.specs.Runs.{count_of}
-use Rattle.files.specs.Words.{words_of, word_of, wordsFrom, runsAt}
+use Rattle.files.specs.Words.{words_of, word_of, words_from, runs_at}
 
 -- four bytes more are one word more
 pub word_at : (bytes : List ℕ) (i : ℕ) → 4 * i + 4 ≤ length bytes
@@ -32,19 +32,19 @@ words_count (a ∷ b ∷ c ∷ e ∷ bytes) (suc i) h = omega (arith, words_coun
 
 -- the k words from the first-th on, of a file that has them
 module _ (bytes : List ℕ) (first k : ℕ) (room : 4 * (first + k) ≤ length bytes) where
-  pub from-length : length (wordsFrom bytes first k) ≡ k
-  from-length =
+  pub from_length : length (words_from bytes first k) ≡ k
+  from_length =
       length-take-le k (drop first (words_of bytes))
       (omega (arith, length-drop first (words_of bytes), words_count bytes (first + k) room))
 
-  pub from_at : (i : ℕ) → i < k → get_or (wordsFrom bytes first k) i 0 ≡ word_of bytes (first + i)
-  from_at i h = get_or-take k (drop first (words_of bytes)) i 0 h ∙ get_or-drop first (words_of bytes) i 0
+  pub from_at_lem : (i : ℕ) → i < k → get_or (words_from bytes first k) i 0 ≡ word_of bytes (first + i)
+  from_at_lem i h = get_or-take k (drop first (words_of bytes)) i 0 h ∙ get_or-drop first (words_of bytes) i 0
 
 -- a file with room for k starts and k images has them
-pub runs-count : (bytes : List ℕ) (k : ℕ) → 20 + 8 * k ≤ length bytes → (count_of (runsAt k bytes) ≡ k) × (length (runsAt k bytes).images ≡ k)
-runs-count bytes k h = (from-length bytes 5 k (omega arith), from-length bytes (5 + k) k (omega arith))
+pub runs_count : (bytes : List ℕ) (k : ℕ) → 20 + 8 * k ≤ length bytes → (count_of (runs_at k bytes) ≡ k) × (length (runs_at k bytes).images ≡ k)
+runs_count bytes k h = (from_length bytes 5 k (omega arith), from_length bytes (5 + k) k (omega arith))
 
 -- a slice that was filled to its end
-pub filling-whole : (m s₀ s : List ℕ) (i : ℕ) → Filling m s₀ s i → length m ≤ i → length m ≡ length s₀ → s ≡ m
-filling-whole m s₀ s i f h e =
-    filling-all m s₀ s i f h ∙ rw (drop_of_length-le s₀ {i = length m} (omega arith)) (append-nil m)
+pub filling_whole : (m s₀ s : List ℕ) (i : ℕ) → Filling m s₀ s i → length m ≤ i → length m ≡ length s₀ → s ≡ m
+filling_whole m s₀ s i f h e =
+    filling_all m s₀ s i f h ∙ rw (drop_of_length-le s₀ {i = length m} (omega arith)) (append-nil m)

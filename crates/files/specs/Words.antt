@@ -15,15 +15,15 @@ abbrev pub word_of : List ℕ → ℕ → ℕ
 word_of bytes i = get_or (words_of bytes) i 0
 
 -- the first words are n, k, d and the byte offsets of the starts and of the images,
-abbrev pub headerOf : List ℕ → Header
-headerOf bytes = record { n = word_of bytes 0; k = word_of bytes 1; d = word_of bytes 2 }
+abbrev pub header_of : List ℕ → Header
+header_of bytes = record { n = word_of bytes 0; k = word_of bytes 1; d = word_of bytes 2 }
 
 -- and then there are "k starts and k images"
-abbrev pub wordsFrom : List ℕ → ℕ → ℕ → List ℕ
-wordsFrom bytes first k = take k (drop first (words_of bytes))
+abbrev pub words_from : List ℕ → ℕ → ℕ → List ℕ
+words_from bytes first k = take k (drop first (words_of bytes))
 
-abbrev pub runsAt : ℕ → List ℕ → Runs
-runsAt k bytes = runs (wordsFrom bytes 5 k) (wordsFrom bytes (5 + k) k)
+abbrev pub runs_at : ℕ → List ℕ → Runs
+runs_at k bytes = runs (words_from bytes 5 k) (words_from bytes (5 + k) k)
 
-abbrev pub runsOf : List ℕ → Runs
-runsOf bytes = runsAt (word_of bytes 1) bytes
+abbrev pub runs_of : List ℕ → Runs
+runs_of bytes = runs_at (word_of bytes 1) bytes

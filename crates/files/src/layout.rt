@@ -1,9 +1,9 @@
 // The header of a file: its numbers, and where the starts and the images stand.
 ghost use Rattle.std.specs.Prelude.{◌≡◌, ◌≤◌, length};
-ghost use Rattle.outcomes.specs.Refusal.{checkedSays};
-ghost use Rattle.runs.specs.Check.{maxRuns};
-ghost use Rattle.files.specs.File.{fileSays};
-ghost use Rattle.files.specs.Parts.{layout_of, numbersOf, headingOf};
+ghost use Rattle.outcomes.specs.Refusal.{checked_says};
+ghost use Rattle.runs.specs.Check.{max_runs};
+ghost use Rattle.files.specs.File.{file_says};
+ghost use Rattle.files.specs.Parts.{layout_of, numbers_of, heading_of};
 
 use super::words::word;
 use super::{FileChecked, Header};
@@ -11,8 +11,8 @@ use outcomes::{Checked, Refusal};
 
 // Whether the file has its k starts and k images where they belong, and nothing more.
 fn is_laid(file: &[u8], k: u32) -> Checked
-    requires { (20 ≤ length file.now) × (k ≤ maxRuns) }
-    ensures { checkedSays result ≡ layout_of k file.now }
+    requires { (20 ≤ length file.now) × (k ≤ max_runs) }
+    ensures { checked_says result ≡ layout_of k file.now }
 {
     let starts = word(file, 3);
     let images = word(file, 4);
@@ -33,8 +33,8 @@ fn is_laid(file: &[u8], k: u32) -> Checked
 
 // Whether the numbers that the header says are those of a file of at most `most` runs.
 fn check_numbers(file: &[u8], n: u32, k: u32, most: usize) -> Checked
-    requires { (20 ≤ length file.now) × (most ≤ maxRuns) }
-    ensures { checkedSays result ≡ numbersOf most n k file.now }
+    requires { (20 ≤ length file.now) × (most ≤ max_runs) }
+    ensures { checked_says result ≡ numbers_of most n k file.now }
 {
     if n == 0 {
         return Checked::Refused(Refusal::ListShape);
@@ -50,8 +50,8 @@ fn check_numbers(file: &[u8], n: u32, k: u32, most: usize) -> Checked
 
 // The header of a file of at most `most` runs.
 pub fn read_header(file: &[u8], most: usize) -> FileChecked
-    requires { most ≤ maxRuns }
-    ensures { fileSays result ≡ headingOf most file.now }
+    requires { most ≤ max_runs }
+    ensures { file_says result ≡ heading_of most file.now }
 {
     if file.len() < 20 {
         return FileChecked::Refused(Refusal::FileHeader(0));

@@ -7,7 +7,7 @@ mod words;
 
 ghost use Rattle.std.specs.Prelude.{◌≡◌};
 ghost use Rattle.runs.specs.Runs.{runs};
-ghost use Rattle.files.specs.Words.{runsAt};
+ghost use Rattle.files.specs.Words.{runs_at};
 ghost use Rattle.files.specs.Parts.{ListRoom};
 
 pub use layout::read_header;
@@ -30,7 +30,7 @@ pub enum FileChecked {
 // Reads the list of a file whose header is right into two tables of k entries.
 pub fn read_list(file: &[u8], k: usize, starts: &mut [u32], images: &mut [u32])
     requires { ListRoom file.now k starts.old images.old }
-    ensures { runs starts.new images.new ≡ runsAt k file.now }
+    ensures { runs starts.new images.new ≡ runs_at k file.now }
 {
     read_words(file, 5, starts);
     read_words(file, 5 + k, images);

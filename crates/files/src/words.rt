@@ -1,6 +1,6 @@
 // Words of 32 bits in a file, least byte first.
 ghost use Rattle.std.specs.Prelude.{◌≡◌, ◌+◌, ◌*◌, ◌≤◌, ◌<◌, length};
-ghost use Rattle.files.specs.Words.{word_of, wordsFrom};
+ghost use Rattle.files.specs.Words.{word_of, words_from};
 
 // A byte at a wider type: the bound is for the sum that it stands in.
 fn wide(b: u8) -> u32
@@ -25,7 +25,7 @@ pub(crate) fn word(bytes: &[u8], i: usize) -> u32
 // Fills `to` with the words from the first-th on.
 pub(crate) fn read_words(bytes: &[u8], first: usize, to: &mut [u32])
     requires { 4 * (first + length to.old) ≤ length bytes.now }
-    ensures { to.new ≡ wordsFrom bytes.now first (length to.old) }
+    ensures { to.new ≡ words_from bytes.now first (length to.old) }
 {
     let mut i = 0;
     while i < to.len() {

@@ -5,24 +5,24 @@ use mathlib.Core.List.{List}
 use lib.ListN.{length}
 use Rattle.outcomes.specs.Outcome.{done}
 use Rattle.runs.specs.Runs.{Runs, count_of}
-use Rattle.runs.specs.Check.{maxRuns, checkOf}
-use Rattle.runs.specs.Written.{writtenSays, WritesList, ifRoom}
+use Rattle.runs.specs.Check.{max_runs, check_of}
+use Rattle.runs.specs.Written.{written_says, WritesList, if_room}
 use Rattle.runs.specs.declared.Written.TheVariants.{RunCount}
-use Rattle.runs.proofs.Accepted.{accepted-legal}
-use Rattle.runs.specs.contracts.Written.{writes-done}
+use Rattle.runs.proofs.Accepted.{accepted_legal}
+use Rattle.runs.specs.contracts.Written.{writes_done}
 use Rattle.runs.proofs.WritesList.{room_for}
 use Rattle.folds.specs.Fold.{folded}
 use Rattle.folds.specs.Parts.{Foldable, FoldWritten}
 
 -- an accepted list may be folded, and 32 bits hold its run count
-pub accepted-foldable : (n : ℕ) (r : Runs) → done tt ≡ checkOf n r → Foldable r × (count_of r ≤ maxRuns)
-accepted-foldable n r e =
-    let c = accepted-legal n r (sym e) in
+pub accepted_foldable : (n : ℕ) (r : Runs) → done tt ≡ check_of n r → Foldable r × (count_of r ≤ max_runs)
+accepted_foldable n r e =
+    let c = accepted_legal n r (sym e) in
     (record { paired = c.0.paired; rising = c.0.rising }, c.1)
 
 -- both tables have room, and the fold stands in them
-pub fold-written : (r : Runs) (a b : List ℕ) → count_of r ≤ length a → count_of r ≤ length b → (a' b' : List ℕ) (k : ℕ)
-    → FoldWritten r a b a' b' k → WritesList writtenSays count_of (ifRoom (count_of r) (folded r) a b) a b a' b' (RunCount k)
-fold-written r a b h l a' b' k w =
-    writes-done writtenSays _ _ a b (RunCount k) (folded r) a' b' (room_for (count_of r) (folded r) a b h l)
-    w.starts-at-exit w.images-at-exit (ap done w.counted)
+pub fold_written : (r : Runs) (a b : List ℕ) → count_of r ≤ length a → count_of r ≤ length b → (a' b' : List ℕ) (k : ℕ)
+    → FoldWritten r a b a' b' k → WritesList written_says count_of (if_room (count_of r) (folded r) a b) a b a' b' (RunCount k)
+fold_written r a b h l a' b' k w =
+    writes_done written_says _ _ a b (RunCount k) (folded r) a' b' (room_for (count_of r) (folded r) a b h l)
+    w.starts_at_exit w.images_at_exit (ap done w.counted)

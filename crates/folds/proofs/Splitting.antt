@@ -8,31 +8,31 @@ use mathlib.Core.Logic.{◌⊎◌, inl, inr, ◌≢◌}
 use native.Mathlib.Decide.{ℕ_discrete}
 use native.Mathlib.Omega.{arith}
 use borrow.Author.Tests.{ne_eqb}
-use Rattle.order.proofs.Laws.{lt-or-le, pairwise-at}
+use Rattle.order.proofs.Laws.{lt_or_le, pairwise_at}
 use Rattle.outcomes.specs.Outcome.{done}
-use Rattle.runs.specs.Runs.{Runs, count_of, start_of, image_of, end_of, carry, mapOf}
+use Rattle.runs.specs.Runs.{Runs, count_of, start_of, image_of, end_of, carry, map_of}
 use Rattle.runs.specs.Legal.{Legal, SplitPermutation}
-use Rattle.runs.specs.Check.{maxRuns, checkOf}
-use Rattle.runs.proofs.Legality.{Parted, parted, homes, home-one, map_at}
+use Rattle.runs.specs.Check.{max_runs, check_of}
+use Rattle.runs.proofs.Legality.{Parted, parted, homes, home_one, map_at}
 use Rattle.runs.proofs.Bijection.{map_below, map_injective}
-use Rattle.runs.proofs.Accepted.{accepted-legal, legal-accepted}
+use Rattle.runs.proofs.Accepted.{accepted_legal, legal_accepted}
 use Rattle.folds.specs.Fold.{breaks}
-use Rattle.folds.proofs.Tracing.{Traces, legal-traces, break-start, traced-map, traced-legal}
+use Rattle.folds.proofs.Tracing.{Traces, legal_traces, break_start, traced_map, traced_legal}
 
-breaks-there : (f : ℕ → ℕ) (p : ℕ) → f (suc p) ≢ suc (f p) → breaks f (suc p) ≡ true
+breaks_there : (f : ℕ → ℕ) (p : ℕ) → f (suc p) ≢ suc (f p) → breaks f (suc p) ≡ true
 unfolding breaks
-breaks-there f p e =
+breaks_there f p e =
     let z : suc p - 1 ≡ p = omega arith in
     simp (ne_eqb (suc p) 0 (omega arith), z, ne_eqb (f (suc p)) (suc (f p)) e)
 
-pub legal-split : (n : ℕ) (r : Runs) → Legal n r → SplitPermutation n (mapOf n r) r
-legal-split n r c = record {
+pub legal_split : (n : ℕ) (r : Runs) → Legal n r → SplitPermutation n (map_of n r) r
+legal_split n r c = record {
   inside = map_below n r c;
-  one-to-one = map_injective n r c;
+  one_to_one = map_injective n r c;
   rising = c.rising;
   below = c.below;
   first = (0, c.some, c.first);
-  breaks = λ p h e. break-start n (mapOf n r) r (legal-traces n r c) (suc p) h (breaks-there (mapOf n r) p e);
+  breaks = λ p h e. break_start n (map_of n r) r (legal_traces n r c) (suc p) h (breaks_there (map_of n r) p e);
   paired = c.paired;
   values = λ x h. omega (arith, map_at n r (homes n r c) x (start_of r x) h (omega arith) ((homes n r c).lasting x h));
 }
@@ -60,15 +60,15 @@ module _ (n : ℕ) (π : ℕ → ℕ) (r : Runs) (c : SplitPermutation n π r) w
       go (yes e) = e
       go (no e) =
           let y = c.breaks p (omega (arith, parts.ending x h)) e in
-          let same = home-one n r parts x y.0 (suc p) h y.1 (omega arith) m (omega (arith, y.2)) (omega (arith, y.2, parts.lasting y.0 y.1)) in
+          let same = home_one n r parts x y.0 (suc p) h y.1 (omega arith) m (omega (arith, y.2)) (omega (arith, y.2, parts.lasting y.0 y.1)) in
           absurd (omega (arith, ap (start_of r) same, y.2))
 
-  traced-from : (x d p : ℕ) → x < count_of r → p ≡ start_of r x + d → p < end_of n r x → π p ≡ carry r x p
-  traced-from x zero p h e m = let s : p ≡ start_of r x = omega arith in omega (arith, ap π s, c.values x h)
-  traced-from x (suc d) p h e m =
+  traced_from : (x d p : ℕ) → x < count_of r → p ≡ start_of r x + d → p < end_of n r x → π p ≡ carry r x p
+  traced_from x zero p h e m = let s : p ≡ start_of r x = omega arith in omega (arith, ap π s, c.values x h)
+  traced_from x (suc d) p h e m =
       let q = start_of r x + d in
       let s : p ≡ suc q = omega arith in
-      omega (arith, ap π s, follows x q h (omega arith) (omega arith), traced-from x d q h (omega arith) (omega arith))
+      omega (arith, ap π s, follows x q h (omega arith) (omega arith), traced_from x d q h (omega arith) (omega arith))
 
   traces : Traces n π r
   traces = record {
@@ -77,19 +77,19 @@ module _ (n : ℕ) (π : ℕ → ℕ) (r : Runs) (c : SplitPermutation n π r) w
     first = from_zero;
     below = c.below;
     rising = c.rising;
-    traced = λ x p h l m. traced-from x (p - start_of r x) p h (omega arith) m;
+    traced = λ x p h l m. traced_from x (p - start_of r x) p h (omega arith) m;
   }
 
-  pub split-legal : Legal n r
-  split-legal = traced-legal n π r traces c.inside c.one-to-one
+  pub split_legal : Legal n r
+  split_legal = traced_legal n π r traces c.inside c.one_to_one
 
   -- the permutation that is split is the list's function
-  pub split-map : (p : ℕ) → p < n → mapOf n r p ≡ π p
-  split-map = traced-map n π r traces
+  pub split_map : (p : ℕ) → p < n → map_of n r p ≡ π p
+  split_map = traced_map n π r traces
 
 -- check accepts exactly the lists of at most 16,384 runs that split a permutation
-pub accepted-split : (n : ℕ) (r : Runs) → checkOf n r ≡ done tt → (count_of r ≤ maxRuns) × SplitPermutation n (mapOf n r) r
-accepted-split n r e = let a = accepted-legal n r e in (a.1, legal-split n r a.0)
+pub accepted_split : (n : ℕ) (r : Runs) → check_of n r ≡ done tt → (count_of r ≤ max_runs) × SplitPermutation n (map_of n r) r
+accepted_split n r e = let a = accepted_legal n r e in (a.1, legal_split n r a.0)
 
-pub split-accepted : (n : ℕ) (π : ℕ → ℕ) (r : Runs) → count_of r ≤ maxRuns → SplitPermutation n π r → checkOf n r ≡ done tt
-split-accepted n π r f c = legal-accepted n r (split-legal n π r c) f
+pub split_accepted : (n : ℕ) (π : ℕ → ℕ) (r : Runs) → count_of r ≤ max_runs → SplitPermutation n π r → check_of n r ≡ done tt
+split_accepted n π r f c = legal_accepted n r (split_legal n π r c) f

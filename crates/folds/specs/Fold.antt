@@ -26,5 +26,5 @@ abbrev pub breakpoints : ℕ → (ℕ → ℕ) → List ℕ
 breakpoints n f = keep (breaks f) (up_to n)
 
 -- the list of the function's maximal runs, a start at each breakpoint: no legal list with its values on the places below n has fewer
-unfoldable pub maximalRuns : ℕ → (ℕ → ℕ) → Runs
-maximalRuns n f = runs (breakpoints n f) (map f (breakpoints n f))
+unfoldable pub maximal_runs : ℕ → (ℕ → ℕ) → Runs
+maximal_runs n f = runs (breakpoints n f) (map f (breakpoints n f))

@@ -12,5 +12,5 @@ pub record Foldable (r : Runs) : Type 0 where
 -- the folded list stands in two tables, and has k runs
 pub record FoldWritten (r : Runs) (starts images starts' images' : List ℕ) (k : ℕ) : Type 0 where
   pub counted : k ≡ count_of (folded r)
-  pub starts-at-exit : starts' ≡ over (folded r).starts starts
-  pub images-at-exit : images' ≡ over (folded r).images images
+  pub starts_at_exit : starts' ≡ over (folded r).starts starts
+  pub images_at_exit : images' ≡ over (folded r).images images

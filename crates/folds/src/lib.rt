@@ -4,10 +4,10 @@
 // The definitions that the contracts cite are in specs/.
 ghost use Rattle.std.specs.Prelude.{◌≡◌, [], ◌∷◌, ◌≤◌, ◌<◌, length};
 ghost use Rattle.outcomes.specs.Outcome.{Long};
-ghost use Rattle.outcomes.specs.Refusal.{checkedSays};
+ghost use Rattle.outcomes.specs.Refusal.{checked_says};
 ghost use Rattle.runs.specs.Runs.{runs, count_of};
-ghost use Rattle.runs.specs.Check.{maxRuns, checkOf};
-ghost use Rattle.runs.specs.Written.{writtenSays, WritesList, ifRoom};
+ghost use Rattle.runs.specs.Check.{max_runs, check_of};
+ghost use Rattle.runs.specs.Written.{written_says, WritesList, if_room};
 ghost use Rattle.folds.specs.Fold.{begins, folded};
 ghost use Rattle.folds.specs.Lent.{Folds};
 ghost use Rattle.folds.specs.Parts.{Foldable, FoldWritten};
@@ -62,9 +62,9 @@ fn fold_accepted(
     to_starts: &mut [u32],
     to_images: &mut [u32],
 ) -> Written
-    requires { Foldable (runs starts.now images.now) × (length starts.now ≤ maxRuns) }
-    ensures { WritesList writtenSays count_of
-        (ifRoom (length starts.now) (folded (runs starts.now images.now))
+    requires { Foldable (runs starts.now images.now) × (length starts.now ≤ max_runs) }
+    ensures { WritesList written_says count_of
+        (if_room (length starts.now) (folded (runs starts.now images.now))
         to_starts.old to_images.old)
         to_starts.old to_images.old to_starts.new to_images.new result }
 {
@@ -84,7 +84,7 @@ fn fold_accepted(
 // Tests 1 to 6, as `lists::check` has them. Few runs are checked here: of sixteen runs the call of `lists::check` alone would take up to
 // a tenth of the time (docs/DECISIONS.md, "Few runs get small tables").
 fn check(n: u32, starts: &[u32], images: &[u32]) -> Checked
-    ensures { checkedSays result ≡ checkOf n (runs starts.now images.now) }
+    ensures { checked_says result ≡ check_of n (runs starts.now images.now) }
 {
     if starts.len() <= runs::FEW_RUNS {
         let mut order: [u32; runs::FEW_RUNS] = [0; runs::FEW_RUNS];

@@ -2,35 +2,35 @@
 -- there are entries.
 use Rattle.std.specs.Prelude.{ℕ, ◌≡◌, List, [], ◌∷◌, ◌++◌, length}
 use Rattle.outcomes.specs.Outcome.{Outcome, done, Test, judge}
-use Rattle.outcomes.specs.Refusal.{refusalSays}
-use Rattle.runs.specs.Check.{checkTests}
+use Rattle.outcomes.specs.Refusal.{refusal_says}
+use Rattle.runs.specs.Check.{check_tests}
 use Rattle.runs.specs.Runs.{Runs, count_of}
 use Rattle.cuts.specs.Balance.{size_at}
-use Rattle.plans.specs.Fitting.{leastFrom}
-use Rattle.plans.specs.Working.{workingTest, clearedBy}
-use Rattle.plans.specs.Plan.{fittingTest}
+use Rattle.plans.specs.Fitting.{least_from}
+use Rattle.plans.specs.Working.{working_test, cleared_by}
+use Rattle.plans.specs.Plan.{fitting_test}
 use Rattle.forecasts.specs.declared.LeastDegree.{LeastDegree}
 use Rattle.forecasts.specs.declared.Sought.{Sought}
 use Rattle.forecasts.specs.declared.Sought.TheVariants.{Degree, Refused}
 
-abbrev pub soughtSays : Sought → Outcome LeastDegree
-soughtSays (Degree a) = done a
-soughtSays (Refused r) = refusalSays r
+abbrev pub sought_says : Sought → Outcome LeastDegree
+sought_says (Degree a) = done a
+sought_says (Refused r) = refusal_says r
 
 -- the least degree, or 65 where none fits, and its K
-abbrev pub leastAt : ℕ → Runs → ℕ → LeastDegree
-leastAt n r entries =
-    record { degree = leastFrom n r entries 2; intervals = size_at n r (leastFrom n r entries 2) }
+abbrev pub least_at : ℕ → Runs → ℕ → LeastDegree
+least_at n r entries =
+    record { degree = least_from n r entries 2; intervals = size_at n r (least_from n r entries 2) }
 
 -- 1 to 6, then 8 for a working table of `room` entries, which is judged at degree 2, and 19
-abbrev pub degreeTests : ℕ → Runs → ℕ → ℕ → List Test
-degreeTests n r entries room =
-    checkTests n r ++ (workingTest 2 (count_of r) room ∷ fittingTest n r entries 2 ∷ [])
+abbrev pub degree_tests : ℕ → Runs → ℕ → ℕ → List Test
+degree_tests n r entries room =
+    check_tests n r ++ (working_test 2 (count_of r) room ∷ fitting_test n r entries 2 ∷ [])
 
-unfoldable pub leastDegreeOf : ℕ → Runs → ℕ → ℕ → Outcome LeastDegree
-leastDegreeOf n r entries room = judge (degreeTests n r entries room) (leastAt n r entries)
+unfoldable pub least_degree_of : ℕ → Runs → ℕ → ℕ → Outcome LeastDegree
+least_degree_of n r entries room = judge (degree_tests n r entries room) (least_at n r entries)
 
 -- what `least_degree` promises: the answer, and the working table at exit, which is that of a call at degree 2
 pub record Seeks (n : ℕ) (r : Runs) (entries : ℕ) (entry exit : List ℕ) (answer : Sought) : Type 0 where
-  pub says : soughtSays answer ≡ leastDegreeOf n r entries (length entry)
-  pub working : exit ≡ clearedBy n r 2 entry
+  pub says : sought_says answer ≡ least_degree_of n r entries (length entry)
+  pub working : exit ≡ cleared_by n r 2 entry

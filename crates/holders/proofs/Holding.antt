@@ -6,54 +6,54 @@ use mathlib.Core.List.{List}
 use native.Mathlib.Numerals.{add-one}
 use native.Mathlib.Omega.{arith}
 use lib.ListN.{get_or}
-use Rattle.order.specs.Lists.{countBelow}
-use Rattle.order.proofs.Laws.{lt-or-le, at_all, strict-sorted, strict-length, count-le-length, count-lt, count-gt}
+use Rattle.order.specs.Lists.{count_below}
+use Rattle.order.proofs.Laws.{lt_or_le, at_all, strict_sorted, strict_length, count_le_length, count_lt, count_gt}
 use Rattle.runs.specs.Legal.{Legal}
 use Rattle.runs.specs.Runs.{Runs, count_of, image_of, run_at}
-use Rattle.runs.proofs.Legality.{homes, image-below}
-use Rattle.runs.proofs.Walks.{run-below}
-use Rattle.holders.specs.Buckets.{bucketOf, Tops}
+use Rattle.runs.proofs.Legality.{homes, image_below}
+use Rattle.runs.proofs.Walks.{run_below}
+use Rattle.holders.specs.Buckets.{bucket_of, Tops}
 use Rattle.holders.specs.Parts.{NotBelow}
 
 module _ (starts : List ℕ) (p top : ℕ) (w : NotBelow starts p top) where
   -- a run that starts above the place is not the one
-  pub not-below-lower : p < get_or starts top 0 → (0 < top) × NotBelow starts p (top - 1)
-  not-below-lower h = go (lt-or-le top (countBelow (p + 1) starts))
+  pub not_below_lower : p < get_or starts top 0 → (0 < top) × NotBelow starts p (top - 1)
+  not_below_lower h = go (lt_or_le top (count_below (p + 1) starts))
     where
-      go : (top < countBelow (p + 1) starts) ⊎ (countBelow (p + 1) starts ≤ top) → (0 < top) × NotBelow starts p (top - 1)
-      go (inl l) = absurd (omega (arith, count-lt (p + 1) starts w.sorted top l))
+      go : (top < count_below (p + 1) starts) ⊎ (count_below (p + 1) starts ≤ top) → (0 < top) × NotBelow starts p (top - 1)
+      go (inl l) = absurd (omega (arith, count_lt (p + 1) starts w.sorted top l))
       go (inr l) = (
         omega (arith, w.held),
         record { sorted = w.sorted; held = w.held; above = omega (arith, w.held); known = omega (arith, w.known) },
       )
 
   -- and one that does not is
-  pub not-below-found : get_or starts top 0 ≤ p → top + 1 ≡ countBelow (p + 1) starts
-  not-below-found h = omega (arith, count-gt (p + 1) starts w.sorted top w.known (omega arith), w.above)
+  pub not_below_found : get_or starts top 0 ≤ p → top + 1 ≡ count_below (p + 1) starts
+  not_below_found h = omega (arith, count_gt (p + 1) starts w.sorted top w.known (omega arith), w.above)
 
 module _ (n : ℕ) (r : Runs) (c : Legal n r) where
   -- there are no more runs than places
-  pub runs-below : count_of r ≤ n
-  runs-below = strict-length n r.starts (homes n r c).up (at_all (λ y. y < n) r.starts c.below)
+  pub runs_below : count_of r ≤ n
+  runs_below = strict_length n r.starts (homes n r c).up (at_all (λ y. y < n) r.starts c.below)
 
   -- the holder of an image, by counting the starts up to it
-  pub holder-counted : (x : ℕ) → x < count_of r → countBelow (image_of r x + 1) r.starts ≡ suc (run_at n r (image_of r x))
-  holder-counted x h = ap (λ (t : ℕ). countBelow t r.starts) (add-one (image_of r x))
-      ∙ run-below n r (homes n r c) (image_of r x) (image-below n r c x h)
+  pub holder_counted : (x : ℕ) → x < count_of r → count_below (image_of r x + 1) r.starts ≡ suc (run_at n r (image_of r x))
+  holder_counted x h = ap (λ (t : ℕ). count_below t r.starts) (add-one (image_of r x))
+      ∙ run_below n r (homes n r c) (image_of r x) (image_below n r c x h)
 
   -- it is not above the entry of its image's bucket
   pub tops_above : (scale : ℕ) (tops : List ℕ) → Tops n scale r.starts tops → (x : ℕ) → x < count_of r
-      → NotBelow r.starts (image_of r x) (get_or tops (bucketOf scale (image_of r x)) 0)
+      → NotBelow r.starts (image_of r x) (get_or tops (bucket_of scale (image_of r x)) 0)
   tops_above scale tops w x h =
       let p = image_of r x in
-      let e = holder-counted x h in
-      let sorted = strict-sorted r.starts (homes n r c).up in
-      let y = countBelow (p + 1) r.starts - 1 in
-      let l = count-lt (p + 1) r.starts sorted y (omega arith) in
-      let most = count-le-length (p + 1) r.starts in
+      let e = holder_counted x h in
+      let sorted = strict_sorted r.starts (homes n r c).up in
+      let y = count_below (p + 1) r.starts - 1 in
+      let l = count_lt (p + 1) r.starts sorted y (omega arith) in
+      let most = count_le_length (p + 1) r.starts in
       record {
         sorted = sorted;
         held = omega arith;
-        above = omega (arith, w.reach p y (image-below n r c x h) (omega arith) (omega arith));
-        known = w.known (bucketOf scale p);
+        above = omega (arith, w.reach p y (image_below n r c x h) (omega arith) (omega arith));
+        known = w.known (bucket_of scale p);
       }

@@ -1,6 +1,6 @@
 // The buckets: which one a place lies in, and the last run of each.
 ghost use Rattle.std.specs.Prelude.{◌≡◌, ℕ, ◌*◌, ◌≤◌, ◌<◌, length};
-ghost use Rattle.holders.specs.Buckets.{bucketOf, Scaled, Tops};
+ghost use Rattle.holders.specs.Buckets.{bucket_of, Scaled, Tops};
 ghost use Rattle.holders.specs.Parts.{Roomy, Bucketed, Noted, Raised};
 
 // The scale at which the places below n lie in `size` buckets.
@@ -14,7 +14,7 @@ fn scale_of(n: u32, size: usize) -> u64
 // The bucket of place `p`.
 pub(crate) fn bucket_of(scale: u64, p: u32) -> usize
     requires { p * scale < 18446744073709551616 }
-    ensures { result ≡ bucketOf scale p }
+    ensures { result ≡ bucket_of scale p }
 {
     (p as u64 * scale / 4294967296) as usize
 }

@@ -8,7 +8,7 @@
 mod buckets;
 
 ghost use Rattle.std.specs.Prelude.{◌≡◌, map, ◌+◌, ◌≤◌, ◌<◌, length};
-ghost use Rattle.order.specs.Lists.{countBelow};
+ghost use Rattle.order.specs.Lists.{count_below};
 ghost use Rattle.outcomes.specs.Outcome.{over};
 ghost use Rattle.runs.specs.Legal.{Legal};
 ghost use Rattle.runs.specs.Runs.{runs, run_at};
@@ -27,7 +27,7 @@ fn lower(starts: &[u32], p: u32, top: usize) -> usize
 // The run that has place `p`, which is not above `top`.
 fn holder_up_to(starts: &[u32], p: u32, top: usize) -> usize
     requires { NotBelow starts.now p top × (p < 4294967295) }
-    ensures { result + 1 ≡ countBelow (p + 1) starts.now }
+    ensures { result + 1 ≡ count_below (p + 1) starts.now }
 {
     let first = lower(starts, p, top);
     let second = lower(starts, p, first);

@@ -9,12 +9,12 @@ ghost use Rattle.outcomes.specs.Outcome.{◌then◌else◌};
 ghost use Rattle.outcomes.specs.Refusal.{number_of, place_of};
 ghost use Rattle.runs.specs.Runs.{runs};
 ghost use Rattle.tables.specs.Tables.{tables};
-ghost use Rattle.text.specs.Text.{refusalText};
+ghost use Rattle.text.specs.Text.{refusal_text};
 ghost use Rattle.text.specs.Page.{Wrote};
-ghost use Rattle.files.specs.Words.{runsOf};
+ghost use Rattle.files.specs.Words.{runs_of};
 ghost use Rattle.files.specs.Parts.{Laid, ListRoom, listed_of, body_of};
-ghost use Rattle.listings.specs.Listing.{maxListed, listText, listingOf, FileListed};
-ghost use Rattle.listings.specs.Parts.{maxText, Answered, answerText};
+ghost use Rattle.listings.specs.Listing.{max_listed, list_text, listing_of, FileListed};
+ghost use Rattle.listings.specs.Parts.{max_text, Answered, answer_text};
 
 use balance::Balanced;
 use files::{FileChecked, Header};
@@ -35,8 +35,8 @@ pub const DECIDING_BYTES: usize = 8213;
 
 // Writes the line of a refusal at the page's start.
 fn refusal_line(page: &mut [u8], r: Refusal) -> usize
-    requires { maxText ≤ length page.old }
-    ensures { Wrote page.old 0 (refusalText (number_of r) (place_of r)) page.new result }
+    requires { max_text ≤ length page.old }
+    ensures { Wrote page.old 0 (refusal_text (number_of r) (place_of r)) page.new result }
 {
     text::refusal(page, r.number(), r.place())
 }
@@ -52,8 +52,8 @@ fn answer_text(
     lengths: &[u32],
 ) -> usize
     requires { Answered h.n answer (tables starts.now images.now holders.now lengths.now)
-        × (maxText ≤ length page.old) }
-    ensures { Wrote page.old 0 (answerText h answer (runs starts.now images.now)) page.new result }
+        × (max_text ≤ length page.old) }
+    ensures { Wrote page.old 0 (answer_text h answer (runs starts.now images.now)) page.new result }
 {
     match answer {
         Balanced::Refused(r) => refusal_line(page, r),
@@ -63,8 +63,8 @@ fn answer_text(
 
 // Balances a list, and writes its listing or the refusal: tests 1 to 7, for 8 cannot apply to so few runs.
 fn list_runs(page: &mut [u8], h: Header, starts: &[u32], images: &[u32]) -> usize
-    requires { (length starts.now ≤ maxListed) × (maxText ≤ length page.old) }
-    ensures { Wrote page.old 0 (listText (runs starts.now images.now) (listed_of h (runs starts.now images.now))) page.new result }
+    requires { (length starts.now ≤ max_listed) × (max_text ≤ length page.old) }
+    ensures { Wrote page.old 0 (list_text (runs starts.now images.now) (listed_of h (runs starts.now images.now))) page.new result }
 {
     let mut to_starts: [u32; MAX_TABLED] = [0; MAX_TABLED];
     let mut to_images: [u32; MAX_TABLED] = [0; MAX_TABLED];
@@ -101,8 +101,8 @@ fn list_read(
     starts: &mut [u32],
     images: &mut [u32],
 ) -> usize
-    requires { Laid maxListed file.now h × ListRoom file.now h.k starts.old images.old × (maxText ≤ length page.old) }
-    ensures { Wrote page.old 0 (listText (runsOf file.now) (body_of file.now)) page.new result }
+    requires { Laid max_listed file.now h × ListRoom file.now h.k starts.old images.old × (max_text ≤ length page.old) }
+    ensures { Wrote page.old 0 (list_text (runs_of file.now) (body_of file.now)) page.new result }
 {
     files::read_list(file, h.k as usize, starts, images);
     list_runs(page, h, starts, images)
@@ -110,8 +110,8 @@ fn list_read(
 
 // The same, with room of its own.
 fn list_body(page: &mut [u8], file: &[u8], h: Header) -> usize
-    requires { Laid maxListed file.now h × (maxText ≤ length page.old) }
-    ensures { Wrote page.old 0 (listText (runsOf file.now) (body_of file.now)) page.new result }
+    requires { Laid max_listed file.now h × (max_text ≤ length page.old) }
+    ensures { Wrote page.old 0 (list_text (runs_of file.now) (body_of file.now)) page.new result }
 {
     let k = h.k as usize;
     let mut starts: [u32; MAX_LISTED] = [0; MAX_LISTED];
@@ -121,8 +121,8 @@ fn list_body(page: &mut [u8], file: &[u8], h: Header) -> usize
 
 // Writes the listing of a file at the page's start.
 fn listing(page: &mut [u8], file: &[u8]) -> usize
-    requires { maxText ≤ length page.old }
-    ensures { Wrote page.old 0 (listingOf file.now) page.new result }
+    requires { max_text ≤ length page.old }
+    ensures { Wrote page.old 0 (listing_of file.now) page.new result }
 {
     match files::read_header(file, MAX_LISTED) {
         FileChecked::Refused(r) => refusal_line(page, r),
@@ -142,7 +142,7 @@ fn fitting(count: usize, room: usize) -> usize
 
 // Writes the listing by way of a page, so that a text that is too short is left alone.
 fn list_by(page: &mut [u8], file: &[u8], text: &mut [u8]) -> usize
-    requires { maxText ≤ length page.old }
+    requires { max_text ≤ length page.old }
     ensures { FileListed file.now text.old text.new result }
 {
     let end = listing(page, file);

@@ -6,8 +6,8 @@ ghost use Rattle.tables.specs.Tables.{tables};
 ghost use Rattle.runs.specs.Weight.{weight};
 ghost use Rattle.text.specs.Text.{texts};
 ghost use Rattle.text.specs.Page.{Fits, Wrote};
-ghost use Rattle.listings.specs.Listing.{row_of, tableText};
-ghost use Rattle.listings.specs.Parts.{maxRow, maxText, Listed, Tabled};
+ghost use Rattle.listings.specs.Listing.{row_of, table_text};
+ghost use Rattle.listings.specs.Parts.{max_row, max_text, Listed, Tabled};
 
 use super::lines;
 use files::Header;
@@ -73,7 +73,7 @@ fn rows(
     lengths: &[u32],
 ) -> usize
     requires { Listed n (tables starts.now images.now holders.now lengths.now)
-        × (at + maxRow * length starts.now ≤ length page.old) }
+        × (at + max_row * length starts.now ≤ length page.old) }
     ensures { Wrote page.old at (texts (row_of n (runs starts.now images.now)) (up_to (length starts.now))) page.new result }
 {
     let mut next = at;
@@ -95,8 +95,8 @@ pub(crate) fn table(
     holders: &[u32],
     lengths: &[u32],
 ) -> usize
-    requires { Tabled h.n size (tables starts.now images.now holders.now lengths.now) × (maxText ≤ length page.old) }
-    ensures { Wrote page.old 0 (tableText h (runs (take size starts.now) (take size images.now))) page.new result }
+    requires { Tabled h.n size (tables starts.now images.now holders.now lengths.now) × (max_text ≤ length page.old) }
+    ensures { Wrote page.old 0 (table_text h (runs (take size starts.now) (take size images.now))) page.new result }
 {
     let k = size as usize;
     let next = lines::head(page, 0, h.n, h.k, h.d, size);

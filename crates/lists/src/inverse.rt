@@ -1,10 +1,10 @@
 // The inverse list of a checked list: its runs in rising order of image, start and image swapped.
 ghost use Rattle.std.specs.Prelude.{◌≤◌, length};
 ghost use Rattle.runs.specs.Runs.{runs};
-ghost use Rattle.runs.specs.Check.{maxRuns};
+ghost use Rattle.runs.specs.Check.{max_runs};
 ghost use Rattle.runs.specs.Parts.{Ordered};
 ghost use Rattle.runs.specs.Written.{WritesList};
-ghost use Rattle.outcomes.specs.Refusal.{checkedSays};
+ghost use Rattle.outcomes.specs.Refusal.{checked_says};
 ghost use Rattle.lists.specs.Parts.{written_of};
 
 use outcomes::{Checked, Refusal};
@@ -17,8 +17,8 @@ pub(crate) fn write(
     to_starts: &mut [u32],
     to_images: &mut [u32],
 ) -> Checked
-    requires { Ordered (runs starts.now images.now) order.now × (length starts.now ≤ maxRuns) }
-    ensures { WritesList checkedSays (λ q. tt)
+    requires { Ordered (runs starts.now images.now) order.now × (length starts.now ≤ max_runs) }
+    ensures { WritesList checked_says (λ q. tt)
         (written_of (runs starts.now images.now) to_starts.old to_images.old)
         to_starts.old to_images.old to_starts.new to_images.new result }
 {

@@ -4,9 +4,9 @@
 mod inverse;
 
 ghost use Rattle.std.specs.Prelude.{◌≡◌};
-ghost use Rattle.outcomes.specs.Refusal.{checkedSays};
-ghost use Rattle.runs.specs.Runs.{runs, shiftFrom};
-ghost use Rattle.runs.specs.Check.{checkOf};
+ghost use Rattle.outcomes.specs.Refusal.{checked_says};
+ghost use Rattle.runs.specs.Runs.{runs, shift_from};
+ghost use Rattle.runs.specs.Check.{check_of};
 ghost use Rattle.runs.specs.Parts.{HoldsRuns};
 ghost use Rattle.lists.specs.Inverse.{InverseListed};
 ghost use Rattle.lists.specs.Parts.{CheckedOrInverted};
@@ -89,7 +89,7 @@ fn with_room(
 
 // Whether the list is legal and has at most 16,384 runs. Tests 1 to 6; O(k log k) for every input.
 pub fn check(n: u32, starts: &[u32], images: &[u32]) -> Checked
-    ensures { checkedSays result ≡ checkOf n (runs starts.now images.now) }
+    ensures { checked_says result ≡ check_of n (runs starts.now images.now) }
 {
     if starts.len() <= runs::FEW_RUNS {
         let mut order: [u32; runs::FEW_RUNS] = [0; runs::FEW_RUNS];
@@ -120,7 +120,7 @@ pub fn inverse_list(
 
 // The shift of a run, its image minus its start.
 pub fn shift(start: u32, image: u32) -> i64
-    ensures { result ≡ shiftFrom start image }
+    ensures { result ≡ shift_from start image }
 {
     image as i64 - start as i64
 }

@@ -13,20 +13,20 @@ pub record Filling (m s₀ s : List ℕ) (i : ℕ) : Type 0 where
   pub room : length m ≤ length s₀
   pub is : s ≡ take i m ++ drop i s₀
 
-pub filling-none : (m s₀ : List ℕ) → length m ≤ length s₀ → Filling m s₀ s₀ 0
-filling-none m s₀ h = record { within = omega arith; room = h; is = refl }
+pub filling_none : (m s₀ : List ℕ) → length m ≤ length s₀ → Filling m s₀ s₀ 0
+filling_none m s₀ h = record { within = omega arith; room = h; is = refl }
 
 module _ (m s₀ s : List ℕ) (i : ℕ) (f : Filling m s₀ s i) where
   front : length (take i m) ≡ i
   front = length-take-le i m f.within
 
-  pub filling-length : length s ≡ length s₀
-  filling-length =
+  pub filling_length : length s ≡ length s₀
+  filling_length =
       ap length f.is ∙ length-append (take i m) (drop i s₀)
       ∙ omega (arith, front, length-drop i s₀, f.within, f.room)
 
-  pub filling-next : i < length m → (v : ℕ) → v ≡ get_or m i 0 → Filling m s₀ (set s i v) (i + 1)
-  filling-next h v e = record {
+  pub filling_next : i < length m → (v : ℕ) → v ≡ get_or m i 0 → Filling m s₀ (set s i v) (i + 1)
+  filling_next h v e = record {
     within = omega arith;
     room = f.room;
     is =
@@ -38,11 +38,11 @@ module _ (m s₀ s : List ℕ) (i : ℕ) (f : Filling m s₀ s i) where
         ∙ ap (λ (k : ℕ). take k m ++ drop k s₀) (sym (add-one i));
   }
 
-  pub filling-all : length m ≤ i → s ≡ m ++ drop (length m) s₀
-  filling-all h =
+  pub filling_all : length m ≤ i → s ≡ m ++ drop (length m) s₀
+  filling_all h =
       let e : i ≡ length m = omega (arith, f.within) in
       f.is ∙ (λ k. take_all i m h k ++ drop (e k) s₀)
 
   -- in an array that may be longer, all of m stands in front
-  pub filling-front : (n : ℕ) → length m ≡ n → n ≤ i → take n s ≡ m
-  filling-front n e h = ap (take n) (filling-all (omega arith)) ∙ take_at m (drop (length m) s₀) n e
+  pub filling_front : (n : ℕ) → length m ≡ n → n ≤ i → take n s ≡ m
+  filling_front n e h = ap (take n) (filling_all (omega arith)) ∙ take_at m (drop (length m) s₀) n e

@@ -4,11 +4,11 @@ use mathlib.Core.Path.{◌≡◌}
 use mathlib.Core.Bool.{false}
 use lib.Dec.{ltb}
 use borrow.Author.Tests.{le-ltb, ltb-false}
-use Rattle.order.proofs.Laws.{or-false}
-use Rattle.outcomes.specs.Degree.{noDegree}
+use Rattle.order.proofs.Laws.{or_false}
+use Rattle.outcomes.specs.Degree.{no_degree}
 
-pub degree-in : (d : ℕ) → noDegree d ≡ false → (2 ≤ d) × (d ≤ 64)
-degree-in d e = let i = or-false (ltb d 2) (ltb 64 d) e in (ltb-false d 2 i.0, ltb-false 64 d i.1)
+pub degree_in : (d : ℕ) → no_degree d ≡ false → (2 ≤ d) × (d ≤ 64)
+degree_in d e = let i = or_false (ltb d 2) (ltb 64 d) e in (ltb-false d 2 i.0, ltb-false 64 d i.1)
 
-pub degree-passes : (d : ℕ) → 2 ≤ d → d ≤ 64 → noDegree d ≡ false
-degree-passes d low high = rw (le-ltb d 2 low, le-ltb 64 d high)
+pub degree_passes : (d : ℕ) → 2 ≤ d → d ≤ 64 → no_degree d ≡ false
+degree_passes d low high = rw (le-ltb d 2 low, le-ltb 64 d high)

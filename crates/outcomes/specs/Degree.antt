@@ -3,8 +3,8 @@ use Rattle.std.specs.Prelude.{ℕ, Bool, ◌||◌, ltb}
 use Rattle.outcomes.specs.Outcome.{Test, test}
 
 -- 7: d is below 2 or above 64
-abbrev pub noDegree : ℕ → Bool
-noDegree d = ltb d 2 || ltb 64 d
+abbrev pub no_degree : ℕ → Bool
+no_degree d = ltb d 2 || ltb 64 d
 
-abbrev pub degreeTest : ℕ → Test
-degreeTest d = test 7 (noDegree d) d
+abbrev pub degree_test : ℕ → Test
+degree_test d = test 7 (no_degree d) d

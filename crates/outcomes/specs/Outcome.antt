@@ -22,19 +22,19 @@ abbrev pub test : ℕ → Bool → ℕ → Test
 test k b p = record { number = k; applies = b; place = p }
 
 -- one of these lengths is below k
-abbrev pub someBelow : ℕ → List ℕ → Bool
-someBelow k [] = false
-someBelow k (c ∷ cs) = ltb c k || someBelow k cs
+abbrev pub some_below : ℕ → List ℕ → Bool
+some_below k [] = false
+some_below k (c ∷ cs) = ltb c k || some_below k cs
 
 -- 8: a lent table has fewer than k entries; and, where it does not apply, each has at least k
-abbrev pub anyShort : ℕ → List (List ℕ) → Bool
-anyShort k tables = someBelow k (map length tables)
+abbrev pub any_short : ℕ → List (List ℕ) → Bool
+any_short k tables = some_below k (map length tables)
 
 abbrev pub Long : ℕ → List (List ℕ) → Type 0
 Long k tables = All (λ c. k ≤ c) (map length tables)
 
-abbrev pub shortTest : ℕ → List (List ℕ) → Test
-shortTest k tables = test 8 (anyShort k tables) k
+abbrev pub short_test : ℕ → List (List ℕ) → Test
+short_test k tables = test 8 (any_short k tables) k
 
 -- the first test that applies decides, and nothing but its condition; where none applies, the result
 unfoldable pub judge : {A : Type 0} → List Test → A → Outcome A
@@ -42,9 +42,9 @@ judge [] a = done a
 judge (t ∷ ts) a = t.applies then refused t.number t.place else judge ts a
 
 -- the same call with a function of its result
-unfoldable pub mapDone : {A B : Type 0} → (A → B) → Outcome A → Outcome B
-mapDone f (done a) = done (f a)
-mapDone f (refused k p) = refused k p
+unfoldable pub map_done : {A B : Type 0} → (A → B) → Outcome A → Outcome B
+map_done f (done a) = done (f a)
+map_done f (refused k p) = refused k p
 
 -- a call on the result of another; a refusal goes through
 unfoldable pub and_then : {A B : Type 0} → Outcome A → (A → Outcome B) → Outcome B

@@ -50,10 +50,10 @@ place_of LastPermutation = 0
 place_of (NoDegreeFits e) = e
 
 -- the outcome that a refusal is
-abbrev pub refusalSays : {A : Type 0} → Refusal → Outcome A
-refusalSays r = refused (number_of r) (place_of r)
+abbrev pub refusal_says : {A : Type 0} → Refusal → Outcome A
+refusal_says r = refused (number_of r) (place_of r)
 
 -- the outcome that each answer about a list is
-abbrev pub checkedSays : Checked → Outcome (Unit {0})
-checkedSays Accepted = done tt
-checkedSays (Refused r) = refusalSays r
+abbrev pub checked_says : Checked → Outcome (Unit {0})
+checked_says Accepted = done tt
+checked_says (Refused r) = refusal_says r

@@ -3,17 +3,17 @@ use Rattle.std.specs.Prelude.{ℕ, zero, suc, Bool, true, false, List, [], ◌�
 use Rattle.outcomes.specs.Outcome.{◌then◌else◌}
 
 -- the lowest of x, x + 1, .. x + k - 1 that has the property, or x + k
-abbrev pub firstFrom : (ℕ → Bool) → ℕ → ℕ → ℕ
-firstFrom p zero x = x
-firstFrom p (suc k) x = elim (p x) [ true ↦ x | false ↦ firstFrom p k (suc x) ]
+abbrev pub first_from : (ℕ → Bool) → ℕ → ℕ → ℕ
+first_from p zero x = x
+first_from p (suc k) x = elim (p x) [ true ↦ x | false ↦ first_from p k (suc x) ]
 
 -- the lowest index below k that has the property, or k
-abbrev pub firstBelow : (ℕ → Bool) → ℕ → ℕ
-firstBelow p k = firstFrom p k 0
+abbrev pub first_below : (ℕ → Bool) → ℕ → ℕ
+first_below p k = first_from p k 0
 
 -- whether an index below k has the property
-abbrev pub anyBelow : (ℕ → Bool) → ℕ → Bool
-anyBelow p k = ltb (firstBelow p k) k
+abbrev pub any_below : (ℕ → Bool) → ℕ → Bool
+any_below p k = ltb (first_below p k) k
 
 -- the elements that have the property
 abbrev pub keep : (ℕ → Bool) → List ℕ → List ℕ
@@ -21,5 +21,5 @@ keep p [] = []
 keep p (s ∷ ss) = p s then s ∷ keep p ss else keep p ss
 
 -- the list with v put in at index x
-abbrev pub insertAt : ℕ → ℕ → List ℕ → List ℕ
-insertAt x v l = take x l ++ (v ∷ drop x l)
+abbrev pub insert_at : ℕ → ℕ → List ℕ → List ℕ
+insert_at x v l = take x l ++ (v ∷ drop x l)

@@ -4,7 +4,7 @@
 // definition beside that says in the paper's numbers what each case is.
 
 ghost use Rattle.std.specs.Prelude.{◌≡◌, not};
-ghost use Rattle.outcomes.specs.Degree.{noDegree};
+ghost use Rattle.outcomes.specs.Degree.{no_degree};
 ghost use Rattle.outcomes.specs.Refusal.{number_of, place_of};
 
 // Why a call is refused. specs/Refusal.antt gives the paper's number and place of each.
@@ -96,7 +96,7 @@ pub const MOST_DEGREE: u32 = 64;
 
 // Whether test 7 lets the degree pass, which balancing and files share: it is about a number alone.
 pub fn is_degree(d: u32) -> bool
-    ensures { result ≡ not (noDegree d) }
+    ensures { result ≡ not (no_degree d) }
 {
     if d < 2 {
         return false;

@@ -9,184 +9,184 @@ use lib.ListN.{length}
 use lib.Dec.{eqb}
 use borrow.Author.Tests.{ltb-false, eq-eqb, ne_eqb, lt-ltb, le-ltb}
 use Rattle.order.specs.Lists.{All}
-use Rattle.outcomes.specs.Outcome.{Outcome, done, refused, Test, mapDone, shortTest, judge, and_then, Long}
+use Rattle.outcomes.specs.Outcome.{Outcome, done, refused, Test, map_done, short_test, judge, and_then, Long}
 use Rattle.outcomes.specs.declared.Checked.{Checked}
 use Rattle.outcomes.specs.declared.Checked.TheVariants.{Accepted, Refused as Stopped}
-use Rattle.lists.specs.Inverse.{inverseRuns, inverseListOf}
-use Rattle.outcomes.specs.Refusal.{checkedSays, number_of, place_of, refusalSays}
+use Rattle.lists.specs.Inverse.{inverse_runs, inverse_list_of}
+use Rattle.outcomes.specs.Refusal.{checked_says, number_of, place_of, refusal_says}
 use Rattle.outcomes.specs.declared.Refusal.{Refusal}
 use Rattle.outcomes.specs.declared.Refusal.TheVariants.{ShortTable, TooManyPlaces}
-use Rattle.outcomes.proofs.Judging.{done_refused, none_below, judge-append, judge-first, judge-past, judge-met, judge-done}
+use Rattle.outcomes.proofs.Judging.{done_refused, none_below, judge_append, judge_first, judge_past, judge_met, judge_done}
 use Rattle.runs.specs.Runs.{Runs, count_of}
 use Rattle.runs.specs.Legal.{Legal}
-use Rattle.runs.specs.Check.{checkTests, checkOf, listTests, testsUpTo}
+use Rattle.runs.specs.Check.{check_tests, check_of, list_tests, tests_up_to}
 use Rattle.runs.specs.Written.{WritesList}
-use Rattle.runs.proofs.Legality.{legal-few}
-use Rattle.runs.proofs.Accepted.{accepted-legal}
-use Rattle.runs.specs.contracts.Written.{writes-refused}
-use Rattle.folds.specs.Fold.{maximalRuns}
+use Rattle.runs.proofs.Legality.{legal_few}
+use Rattle.runs.proofs.Accepted.{accepted_legal}
+use Rattle.runs.specs.contracts.Written.{writes_refused}
+use Rattle.folds.specs.Fold.{maximal_runs}
 use Rattle.permutations.specs.declared.Next.{Next}
 use Rattle.permutations.specs.declared.Next.TheVariants.{Refused}
 use Rattle.permutations.specs.Values.{values_of, value_at}
-use Rattle.permutations.specs.Next.{ascentOf, successor, falls, maxPlaces, sizeTest, lastTest, laterTests, nextRuns, next_of, nextSays, NextListed}
-use Rattle.permutations.specs.Parts.{Permutes, NoneListed, laterOf, after_of}
-use Rattle.permutations.proofs.Members.{values_length, permutes-distinct}
-use Rattle.permutations.proofs.Successors.{falls-ascent}
+use Rattle.permutations.specs.Next.{ascent_of, successor, falls, max_places, size_test, last_test, later_tests, next_runs, next_of, next_says, NextListed}
+use Rattle.permutations.specs.Parts.{Permutes, NoneListed, later_of, after_of}
+use Rattle.permutations.proofs.Members.{values_length, permutes_distinct}
+use Rattle.permutations.proofs.Successors.{falls_ascent}
 
-pub next-parts : (n : ℕ) (r : Runs) (a b : List ℕ) → next_of n r a b ≡ and_then (checkOf n r) (λ _. laterOf n r a b)
-unfolding next_of laterOf
-next-parts n r a b = judge-append (checkTests n r) (laterTests n r a b) tt (nextRuns n r)
+pub next_parts : (n : ℕ) (r : Runs) (a b : List ℕ) → next_of n r a b ≡ and_then (check_of n r) (λ _. later_of n r a b)
+unfolding next_of later_of
+next_parts n r a b = judge_append (check_tests n r) (later_tests n r a b) tt (next_runs n r)
 
 -- a list of too many places or runs
 module _ (n : ℕ) (c : Checked) where
-  pub none_so : (x : Refusal) → c ≡ Stopped x → NoneListed n (checkedSays c) (Refused x)
+  pub none_so : (x : Refusal) → c ≡ Stopped x → NoneListed n (checked_says c) (Refused x)
   unfolding and_then
   none_so x e = record { says = rw e }
 
-  pub none-large : c ≡ Accepted → NoneListed n (checkedSays c) (Refused (TooManyPlaces n))
+  pub none_large : c ≡ Accepted → NoneListed n (checked_says c) (Refused (TooManyPlaces n))
   unfolding and_then
-  none-large e = record { says = rw e }
+  none_large e = record { says = rw e }
 
 module _ (n : ℕ) (r : Runs) (a b : List ℕ) where
   -- where tests 1 to 6, 17 and 8 pass
-  pub later-is : n ≤ maxPlaces → Long n (a ∷ b ∷ []) → laterOf n r a b ≡ after_of (values_of n r)
-  unfolding laterOf after_of judge nextRuns
-  later-is few long =
-      simp (le-ltb maxPlaces n few, le-ltb (length a) n long.0, le-ltb (length b) n long.1.0)
-      (ap (λ (m : ℕ). judge (lastTest (values_of n r) ∷ []) (maximalRuns m (value_at (successor (values_of n r))))) (sym (values_length n r)))
+  pub later_is : n ≤ max_places → Long n (a ∷ b ∷ []) → later_of n r a b ≡ after_of (values_of n r)
+  unfolding later_of after_of judge next_runs
+  later_is few long =
+      simp (le-ltb max_places n few, le-ltb (length a) n long.0, le-ltb (length b) n long.1.0)
+      (ap (λ (m : ℕ). judge (last_test (values_of n r) ∷ []) (maximal_runs m (value_at (successor (values_of n r))))) (sym (values_length n r)))
 
-  pub next-later : done tt ≡ checkOf n r → next_of n r a b ≡ laterOf n r a b
+  pub next_later : done tt ≡ check_of n r → next_of n r a b ≡ later_of n r a b
   unfolding and_then
-  next-later e = next-parts n r a b ∙ ap (λ o. and_then o (λ _. laterOf n r a b)) (sym e)
+  next_later e = next_parts n r a b ∙ ap (λ o. and_then o (λ _. later_of n r a b)) (sym e)
 
   -- of the tables it counts only that they are long enough
-  pub room-alone : (c d : List ℕ) → Long n (a ∷ b ∷ []) → Long n (c ∷ d ∷ []) → next_of n r a b ≡ next_of n r c d
-  unfolding laterOf judge
-  room-alone c d h l =
-      next-parts n r a b
-      ∙ ap (λ (o : Outcome Runs). and_then (checkOf n r) (λ _. o))
+  pub room_alone : (c d : List ℕ) → Long n (a ∷ b ∷ []) → Long n (c ∷ d ∷ []) → next_of n r a b ≡ next_of n r c d
+  unfolding later_of judge
+  room_alone c d h l =
+      next_parts n r a b
+      ∙ ap (λ (o : Outcome Runs). and_then (check_of n r) (λ _. o))
       (simp (
         le-ltb (length a) n h.0,
         le-ltb (length b) n h.1.0,
         le-ltb (length c) n l.0,
         le-ltb (length d) n l.1.0,
       ))
-      ∙ sym (next-parts n r c d)
+      ∙ sym (next_parts n r c d)
 
   -- the answers
   abbrev Later : List ℕ → List ℕ → Next → Type 0
-  Later = WritesList nextSays count_of (laterOf n r a b) a b
+  Later = WritesList next_says count_of (later_of n r a b) a b
 
-  pub listed-refused : (x : Refusal) → refusalSays x ≡ checkOf n r → NextListed n r a b a b (Refused x)
+  pub listed_refused : (x : Refusal) → refusal_says x ≡ check_of n r → NextListed n r a b a b (Refused x)
   unfolding and_then
-  listed-refused x e =
-      writes-refused _ _ (next_of n r a b) a b _ (number_of x) (place_of x)
-      (next-parts n r a b ∙ ap (λ o. and_then o (λ _. laterOf n r a b)) (sym e)) refl
+  listed_refused x e =
+      writes_refused _ _ (next_of n r a b) a b _ (number_of x) (place_of x)
+      (next_parts n r a b ∙ ap (λ o. and_then o (λ _. later_of n r a b)) (sym e)) refl
 
-  pub listed-later : (a' b' : List ℕ) (x : Next) → done tt ≡ checkOf n r → Later a' b' x → NextListed n r a b a' b' x
-  listed-later a' b' x e w = subst (λ (o : Outcome Runs). WritesList nextSays count_of o a b a' b' x) (sym (next-later e)) w
+  pub listed_later : (a' b' : List ℕ) (x : Next) → done tt ≡ check_of n r → Later a' b' x → NextListed n r a b a' b' x
+  listed_later a' b' x e w = subst (λ (o : Outcome Runs). WritesList next_says count_of o a b a' b' x) (sym (next_later e)) w
 
   -- of more than 7 places, or with more runs than that
   module _ (x : Next) (o : Outcome (Unit {0})) (c : NoneListed n o x) where
-    pub listed-large : o ≡ checkOf n r → maxPlaces < n → NextListed n r a b a b x
-    unfolding laterOf judge and_then
-    listed-large f h = go o f c.says
+    pub listed_large : o ≡ check_of n r → max_places < n → NextListed n r a b a b x
+    unfolding later_of judge and_then
+    listed_large f h = go o f c.says
       where
-        go : (p : Outcome (Unit {0})) → p ≡ checkOf n r → nextSays x ≡ and_then p (λ _. refused 17 n) → NextListed n r a b a b x
-        go (done u) f e = writes-refused _ _ (next_of n r a b) a b _ 17 n (next-later f ∙ simp (lt-ltb maxPlaces n h)) e
-        go (refused k p) f e = writes-refused _ _ (next_of n r a b) a b _ k p
-            (next-parts n r a b ∙ ap (λ o. and_then o (λ _. laterOf n r a b)) (sym f)) e
+        go : (p : Outcome (Unit {0})) → p ≡ check_of n r → next_says x ≡ and_then p (λ _. refused 17 n) → NextListed n r a b a b x
+        go (done u) f e = writes_refused _ _ (next_of n r a b) a b _ 17 n (next_later f ∙ simp (lt-ltb max_places n h)) e
+        go (refused k p) f e = writes_refused _ _ (next_of n r a b) a b _ k p
+            (next_parts n r a b ∙ ap (λ o. and_then o (λ _. later_of n r a b)) (sym f)) e
 
-    pub listed-more-runs : (a' b' : List ℕ) → o ≡ mapDone (λ q. tt) (inverseListOf n r a' b') → n ≤ maxPlaces → maxPlaces < count_of r
+    pub listed_more_runs : (a' b' : List ℕ) → o ≡ map_done (λ q. tt) (inverse_list_of n r a' b') → n ≤ max_places → max_places < count_of r
         → NextListed n r a b a b x
-    unfolding and_then mapDone inverseListOf
-    listed-more-runs a' b' f few h = go (checkOf n r) refl
+    unfolding and_then map_done inverse_list_of
+    listed_more_runs a' b' f few h = go (check_of n r) refl
       where
-        go : (p : Outcome (Unit {0})) → checkOf n r ≡ p → NextListed n r a b a b x
-        go (done u) g = absurd (omega (arith, legal-few n r (accepted-legal n r g).0))
+        go : (p : Outcome (Unit {0})) → check_of n r ≡ p → NextListed n r a b a b x
+        go (done u) g = absurd (omega (arith, legal_few n r (accepted_legal n r g).0))
         go (refused k p) g =
-            let i : inverseListOf n r a' b' ≡ refused k p =
-            judge-append (checkTests n r) (shortTest (count_of r) (a' ∷ b' ∷ []) ∷ []) tt (inverseRuns r)
-            ∙ ap (λ o. and_then o (λ _. judge (shortTest (count_of r) (a' ∷ b' ∷ []) ∷ []) (inverseRuns r))) g in
-            writes-refused _ _ (next_of n r a b) a b _ k p (next-parts n r a b ∙ ap (λ o. and_then o (λ _. laterOf n r a b)) g)
-            (c.says ∙ ap (λ o. and_then o (λ _. refused 17 n)) (f ∙ ap (mapDone (λ q. tt)) i))
+            let i : inverse_list_of n r a' b' ≡ refused k p =
+            judge_append (check_tests n r) (short_test (count_of r) (a' ∷ b' ∷ []) ∷ []) tt (inverse_runs r)
+            ∙ ap (λ o. and_then o (λ _. judge (short_test (count_of r) (a' ∷ b' ∷ []) ∷ []) (inverse_runs r))) g in
+            writes_refused _ _ (next_of n r a b) a b _ k p (next_parts n r a b ∙ ap (λ o. and_then o (λ _. later_of n r a b)) g)
+            (c.says ∙ ap (λ o. and_then o (λ _. refused 17 n)) (f ∙ ap (map_done (λ q. tt)) i))
 
-  pub starts-short : n ≤ maxPlaces → length a < n → Later a b (Refused (ShortTable n))
-  unfolding laterOf judge
-  starts-short few h = writes-refused _ _ (laterOf n r a b) a b _ 8 n (simp (le-ltb maxPlaces n few, lt-ltb (length a) n h)) refl
+  pub starts_short : n ≤ max_places → length a < n → Later a b (Refused (ShortTable n))
+  unfolding later_of judge
+  starts_short few h = writes_refused _ _ (later_of n r a b) a b _ 8 n (simp (le-ltb max_places n few, lt-ltb (length a) n h)) refl
 
-  pub images-short : n ≤ maxPlaces → n ≤ length a → length b < n → Later a b (Refused (ShortTable n))
-  unfolding laterOf judge
-  images-short few l h =
-      writes-refused _ _ (laterOf n r a b) a b _ 8 n (simp (le-ltb maxPlaces n few, le-ltb (length a) n l, lt-ltb (length b) n h)) refl
+  pub images_short : n ≤ max_places → n ≤ length a → length b < n → Later a b (Refused (ShortTable n))
+  unfolding later_of judge
+  images_short few l h =
+      writes_refused _ _ (later_of n r a b) a b _ 8 n (simp (le-ltb max_places n few, le-ltb (length a) n l, lt-ltb (length b) n h)) refl
 
-  pub later-written : (l a' b' : List ℕ) (x : Next) → n ≤ maxPlaces → n ≤ length a → n ≤ length b → l ≡ values_of n r
-      → WritesList nextSays count_of (after_of l) a b a' b' x → Later a' b' x
-  later-written l a' b' x few h k e w =
-      subst (λ (o : Outcome Runs). WritesList nextSays count_of o a b a' b' x) (ap after_of e ∙ sym (later-is few (h, (k, tt)))) w
+  pub later_written : (l a' b' : List ℕ) (x : Next) → n ≤ max_places → n ≤ length a → n ≤ length b → l ≡ values_of n r
+      → WritesList next_says count_of (after_of l) a b a' b' x → Later a' b' x
+  later_written l a' b' x few h k e w =
+      subst (λ (o : Outcome Runs). WritesList next_says count_of o a b a' b' x) (ap after_of e ∙ sym (later_is few (h, (k, tt)))) w
 
 -- 18 by the values, and the list of the next ones
 module _ (l : List ℕ) (c : Permutes (length l) l) where
-  no-ascent : falls l ≡ eqb (ascentOf l) 0
-  no-ascent = falls-ascent l (permutes-distinct (length l) l c)
+  no_ascent : falls l ≡ eqb (ascent_of l) 0
+  no_ascent = falls_ascent l (permutes_distinct (length l) l c)
 
-  pub after-rises : 0 < ascentOf l → after_of l ≡ done (maximalRuns (length l) (value_at (successor l)))
+  pub after_rises : 0 < ascent_of l → after_of l ≡ done (maximal_runs (length l) (value_at (successor l)))
   unfolding after_of judge
-  after-rises h = simp (no-ascent ∙ ne_eqb (ascentOf l) 0 (λ e. omega arith))
+  after_rises h = simp (no_ascent ∙ ne_eqb (ascent_of l) 0 (λ e. omega arith))
 
-  pub after-falls : ascentOf l ≡ 0 → after_of l ≡ refused 18 0
+  pub after_falls : ascent_of l ≡ 0 → after_of l ≡ refused 18 0
   unfolding after_of judge
-  after-falls e = simp (no-ascent ∙ eq-eqb (ascentOf l) 0 e)
+  after_falls e = simp (no_ascent ∙ eq-eqb (ascent_of l) 0 e)
 
 -- what a call that is done, or refused with 18, says of its list
-judge-never : {A : Type 0} (ts : List Test) (x : A) (k p : ℕ) → All (λ t. t.number ≢ k) ts → judge ts x ≡ refused k p → ⊥
+judge_never : {A : Type 0} (ts : List Test) (x : A) (k p : ℕ) → All (λ t. t.number ≢ k) ts → judge ts x ≡ refused k p → ⊥
 unfolding judge
-judge-never [] x k p h e = done_refused x k p e
-judge-never (t ∷ ts) x k p h e = judge-never ts x k p h.1 (judge-past t ts x k p h.0 e).1
+judge_never [] x k p h e = done_refused x k p e
+judge_never (t ∷ ts) x k p h e = judge_never ts x k p h.1 (judge_past t ts x k p h.0 e).1
 
-check-never : (n : ℕ) (r : Runs) (p : ℕ) → checkOf n r ≡ refused 18 p → ⊥
-unfolding testsUpTo listTests
-check-never n r p e = judge-never (checkTests n r) tt 18 p
+check_never : (n : ℕ) (r : Runs) (p : ℕ) → check_of n r ≡ refused 18 p → ⊥
+unfolding tests_up_to list_tests
+check_never n r p e = judge_never (check_tests n r) tt 18 p
     (λ e. omega arith, (λ e. omega arith, (λ e. omega arith, (λ e. omega arith, (λ e. omega arith, (λ e. omega arith, tt)))))) e
 
 -- a call that is done: all tests passed, and the list given is the next one
-pub next-done : (n : ℕ) (r : Runs) (a b : List ℕ) (q : Runs) → next_of n r a b ≡ done q
-    → Legal n r × (n ≤ maxPlaces) × Long n (a ∷ b ∷ []) × (falls (values_of n r) ≡ false) × (q ≡ nextRuns n r)
-unfolding and_then laterOf
-next-done n r a b q e = go (checkOf n r) refl (sym (next-parts n r a b) ∙ e)
+pub next_done : (n : ℕ) (r : Runs) (a b : List ℕ) (q : Runs) → next_of n r a b ≡ done q
+    → Legal n r × (n ≤ max_places) × Long n (a ∷ b ∷ []) × (falls (values_of n r) ≡ false) × (q ≡ next_runs n r)
+unfolding and_then later_of
+next_done n r a b q e = go (check_of n r) refl (sym (next_parts n r a b) ∙ e)
   where
-    go : (o : Outcome (Unit {0})) → checkOf n r ≡ o → and_then o (λ _. laterOf n r a b) ≡ done q
-        → Legal n r × (n ≤ maxPlaces) × Long n (a ∷ b ∷ []) × (falls (values_of n r) ≡ false) × (q ≡ nextRuns n r)
+    go : (o : Outcome (Unit {0})) → check_of n r ≡ o → and_then o (λ _. later_of n r a b) ≡ done q
+        → Legal n r × (n ≤ max_places) × Long n (a ∷ b ∷ []) × (falls (values_of n r) ≡ false) × (q ≡ next_runs n r)
     go (done u) c f =
-        let x = nextRuns n r in
-        let size = judge-first (sizeTest n) (shortTest n (a ∷ b ∷ []) ∷ lastTest (values_of n r) ∷ []) x q (sym f) in
-        let room = judge-first (shortTest n (a ∷ b ∷ [])) (lastTest (values_of n r) ∷ []) x q size.1 in (
-          (accepted-legal n r c).0,
-          ltb-false maxPlaces n size.0,
+        let x = next_runs n r in
+        let size = judge_first (size_test n) (short_test n (a ∷ b ∷ []) ∷ last_test (values_of n r) ∷ []) x q (sym f) in
+        let room = judge_first (short_test n (a ∷ b ∷ [])) (last_test (values_of n r) ∷ []) x q size.1 in (
+          (accepted_legal n r c).0,
+          ltb-false max_places n size.0,
           none_below n (length a ∷ length b ∷ []) room.0,
-          (judge-first (lastTest (values_of n r)) [] x q room.1).0,
-          sym (judge-done (laterTests n r a b) x q f),
+          (judge_first (last_test (values_of n r)) [] x q room.1).0,
+          sym (judge_done (later_tests n r a b) x q f),
         )
     go (refused k p) c f = absurd (done_refused q k p (sym f))
 
 -- and one that is refused with 18: the tests before it passed, and the values fall
-pub next-eighteen : (n : ℕ) (r : Runs) (a b : List ℕ) (p : ℕ) → next_of n r a b ≡ refused 18 p
-    → Legal n r × (n ≤ maxPlaces) × Long n (a ∷ b ∷ []) × (falls (values_of n r) ≡ true) × (p ≡ 0)
-unfolding and_then laterOf judge
-next-eighteen n r a b p e = go (checkOf n r) refl (sym (next-parts n r a b) ∙ e)
+pub next_eighteen : (n : ℕ) (r : Runs) (a b : List ℕ) (p : ℕ) → next_of n r a b ≡ refused 18 p
+    → Legal n r × (n ≤ max_places) × Long n (a ∷ b ∷ []) × (falls (values_of n r) ≡ true) × (p ≡ 0)
+unfolding and_then later_of judge
+next_eighteen n r a b p e = go (check_of n r) refl (sym (next_parts n r a b) ∙ e)
   where
-    go : (o : Outcome (Unit {0})) → checkOf n r ≡ o → and_then o (λ _. laterOf n r a b) ≡ refused 18 p
-        → Legal n r × (n ≤ maxPlaces) × Long n (a ∷ b ∷ []) × (falls (values_of n r) ≡ true) × (p ≡ 0)
+    go : (o : Outcome (Unit {0})) → check_of n r ≡ o → and_then o (λ _. later_of n r a b) ≡ refused 18 p
+        → Legal n r × (n ≤ max_places) × Long n (a ∷ b ∷ []) × (falls (values_of n r) ≡ true) × (p ≡ 0)
     go (done u) c f =
-        let x = nextRuns n r in
-        let size = judge-past (sizeTest n) (shortTest n (a ∷ b ∷ []) ∷ lastTest (values_of n r) ∷ []) x 18 p (λ z. omega arith) f in
-        let room = judge-past (shortTest n (a ∷ b ∷ [])) (lastTest (values_of n r) ∷ []) x 18 p (λ z. omega arith) size.1 in
-        let last = judge-met (lastTest (values_of n r)) [] x 18 p (done_refused x 18 p) room.1 in (
-          (accepted-legal n r c).0,
-          ltb-false maxPlaces n size.0,
+        let x = next_runs n r in
+        let size = judge_past (size_test n) (short_test n (a ∷ b ∷ []) ∷ last_test (values_of n r) ∷ []) x 18 p (λ z. omega arith) f in
+        let room = judge_past (short_test n (a ∷ b ∷ [])) (last_test (values_of n r) ∷ []) x 18 p (λ z. omega arith) size.1 in
+        let last = judge_met (last_test (values_of n r)) [] x 18 p (done_refused x 18 p) room.1 in (
+          (accepted_legal n r c).0,
+          ltb-false max_places n size.0,
           none_below n (length a ∷ length b ∷ []) room.0,
           last.0,
           sym last.1,
         )
     go (refused k j) c f =
-        let z : k ≡ 18 = cc in absurd (check-never n r j (subst (λ (m : ℕ). checkOf n r ≡ refused m j) z c))
+        let z : k ≡ 18 = cc in absurd (check_never n r j (subst (λ (m : ℕ). check_of n r ≡ refused m j) z c))

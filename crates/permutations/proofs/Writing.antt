@@ -11,45 +11,45 @@ use Rattle.outcomes.specs.Outcome.{done, Long, over}
 use Rattle.outcomes.specs.declared.Refusal.TheVariants.{LastPermutation}
 use Rattle.runs.specs.Runs.{Runs, runs, count_of}
 use Rattle.runs.specs.Written.{WritesList}
-use Rattle.runs.specs.contracts.Written.{writes-refused, writes-done}
-use Rattle.folds.specs.Fold.{folded, maximalRuns}
+use Rattle.runs.specs.contracts.Written.{writes_refused, writes_done}
+use Rattle.folds.specs.Fold.{folded, maximal_runs}
 use Rattle.folds.specs.Parts.{Foldable, FoldWritten}
-use Rattle.folds.proofs.Maximal.{maximal-few}
-use Rattle.folds.proofs.Spreading.{spread-foldable, write-spread}
+use Rattle.folds.proofs.Maximal.{maximal_few}
+use Rattle.folds.proofs.Spreading.{spread_foldable, write_spread}
 use Rattle.permutations.specs.declared.Next.TheVariants.{RunCount, Refused}
 use Rattle.permutations.specs.Values.{value_at}
-use Rattle.permutations.specs.Next.{ascentOf, exchangeOf, changed, successor, maxPlaces, nextSays}
+use Rattle.permutations.specs.Next.{ascent_of, exchange_of, changed, successor, max_places, next_says}
 use Rattle.permutations.specs.Parts.{Permutes, Writable, after_of}
-use Rattle.permutations.proofs.Ascents.{ascent-few}
-use Rattle.permutations.proofs.Permutations.{successor-permutes}
-use Rattle.permutations.proofs.Outcomes.{after-rises, after-falls}
+use Rattle.permutations.proofs.Ascents.{ascent_few}
+use Rattle.permutations.proofs.Permutations.{successor_permutes}
+use Rattle.permutations.proofs.Outcomes.{after_rises, after_falls}
 
 -- the first of the places
-take-up : (n m a : ℕ) → n ≤ m → take n (up_from a m) ≡ up_from a n
-take-up zero m a h = refl
-take-up (suc n) zero a h = absurd (omega arith)
-take-up (suc n) (suc m) a h = ap (λ (l : List ℕ). a ∷ l) (take-up n m (suc a) (omega arith))
+take_up : (n m a : ℕ) → n ≤ m → take n (up_from a m) ≡ up_from a n
+take_up zero m a h = refl
+take_up (suc n) zero a h = absurd (omega arith)
+take_up (suc n) (suc m) a h = ap (λ (l : List ℕ). a ∷ l) (take_up n m (suc a) (omega arith))
 
-pub places-size : (n : ℕ) → n ≤ maxPlaces → n ≡ length (take n (up_to maxPlaces))
-places-size n h = sym (length-take-le n (up_to maxPlaces) h)
+pub places_size : (n : ℕ) → n ≤ max_places → n ≡ length (take n (up_to max_places))
+places_size n h = sym (length-take-le n (up_to max_places) h)
 
 -- the values ascent somewhere, and the next ones stand in front of `after`
 pub record Ready (l a b after : List ℕ) : Type 0 where
   pub writable : Writable l a b
-  pub rises : 0 < ascentOf l
+  pub rises : 0 < ascent_of l
   pub is : take (length l) after ≡ successor l
 
-module _ (l a b : List ℕ) (w : Writable l a b) (ascent : ℕ) (e : ascent ≡ ascentOf l) where
-  pub written_last : ascent ≡ 0 → WritesList nextSays count_of (after_of l) a b a b (Refused LastPermutation)
-  written_last z = writes-refused _ _ (after_of l) a b _ 18 0 (after-falls l w.permutes (sym e ∙ z)) refl
+module _ (l a b : List ℕ) (w : Writable l a b) (ascent : ℕ) (e : ascent ≡ ascent_of l) where
+  pub written_last : ascent ≡ 0 → WritesList next_says count_of (after_of l) a b a b (Refused LastPermutation)
+  written_last z = writes_refused _ _ (after_of l) a b _ 18 0 (after_falls l w.permutes (sym e ∙ z)) refl
 
-  pub ready : ascent ≢ 0 → (other : ℕ) → other ≡ exchangeOf l ascent → (after : List ℕ) → take (length l) after ≡ changed l ascent other
+  pub ready : ascent ≢ 0 → (other : ℕ) → other ≡ exchange_of l ascent → (after : List ℕ) → take (length l) after ≡ changed l ascent other
       → Ready l a b after
   unfolding successor
   ready n other f after g = record {
     writable = w;
     rises = omega arith;
-    is = g ∙ ap (changed l ascent) f ∙ ap (λ (k : ℕ). changed l k (exchangeOf l k)) e;
+    is = g ∙ ap (changed l ascent) f ∙ ap (λ (k : ℕ). changed l k (exchange_of l k)) e;
   }
 
 module _ (l a b after : List ℕ) (r : Ready l a b after) where
@@ -57,41 +57,41 @@ module _ (l a b after : List ℕ) (r : Ready l a b after) where
   n = length l
 
   some : 0 < n
-  some = omega (arith, ascent-few l (ascentOf l) refl, r.rises)
+  some = omega (arith, ascent_few l (ascent_of l) refl, r.rises)
 
   permutes : Permutes n (successor l)
-  permutes = successor-permutes n l r.writable.permutes r.rises
+  permutes = successor_permutes n l r.writable.permutes r.rises
 
   -- one run for each place, as it stands in two slices
   abbrev single : Runs
-  single = runs (take n (up_to maxPlaces)) (take n after)
+  single = runs (take n (up_to max_places)) (take n after)
 
-  single-is : single ≡ runs (up_to n) (successor l)
-  single-is = λ i. runs (take-up n maxPlaces 0 r.writable.few i) (r.is i)
+  single_is : single ≡ runs (up_to n) (successor l)
+  single_is = λ i. runs (take_up n max_places 0 r.writable.few i) (r.is i)
 
-  pub after-size : n ≡ length (take n after)
-  after-size = sym (ap length r.is ∙ permutes.size)
+  pub after_size : n ≡ length (take n after)
+  after_size = sym (ap length r.is ∙ permutes.size)
 
-  pub single-asked : Foldable single × Long (length single.starts) (a ∷ b ∷ [])
-  single-asked =
-      let s = places-size n r.writable.few in (
-        rw single-is (spread-foldable n (successor l) permutes.size),
-        (omega (arith, r.writable.starts-room), (omega (arith, r.writable.images-room), tt)),
+  pub single_asked : Foldable single × Long (length single.starts) (a ∷ b ∷ [])
+  single_asked =
+      let s = places_size n r.writable.few in (
+        rw single_is (spread_foldable n (successor l) permutes.size),
+        (omega (arith, r.writable.starts_room), (omega (arith, r.writable.images_room), tt)),
       )
 
-  single-folded : folded single ≡ maximalRuns n (value_at (successor l))
-  single-folded =
-      ap folded single-is
-      ∙ write-spread n (successor l) permutes.size some permutes.below permutes.one
+  single_folded : folded single ≡ maximal_runs n (value_at (successor l))
+  single_folded =
+      ap folded single_is
+      ∙ write_spread n (successor l) permutes.size some permutes.below permutes.one
 
   module _ (a' b' : List ℕ) (count : ℕ) (h : FoldWritten single a b a' b' count) where
-    pub written-few : count ≤ maxPlaces
-    written-few =
-        omega (arith, h.counted, ap count_of single-folded, maximal-few n (value_at (successor l)), r.writable.few)
+    pub written_few : count ≤ max_places
+    written_few =
+        omega (arith, h.counted, ap count_of single_folded, maximal_few n (value_at (successor l)), r.writable.few)
 
-    pub written_next : WritesList nextSays count_of (after_of l) a b a' b' (RunCount count)
+    pub written_next : WritesList next_says count_of (after_of l) a b a' b' (RunCount count)
     written_next =
-        writes-done _ _ (after_of l) a b _ (maximalRuns n (value_at (successor l))) a' b' (after-rises l r.writable.permutes r.rises)
-        (h.starts-at-exit ∙ ap (λ (q : Runs). over q.starts a) single-folded)
-        (h.images-at-exit ∙ ap (λ (q : Runs). over q.images b) single-folded)
-        (ap done (h.counted ∙ ap count_of single-folded))
+        writes_done _ _ (after_of l) a b _ (maximal_runs n (value_at (successor l))) a' b' (after_rises l r.writable.permutes r.rises)
+        (h.starts_at_exit ∙ ap (λ (q : Runs). over q.starts a) single_folded)
+        (h.images_at_exit ∙ ap (λ (q : Runs). over q.images b) single_folded)
+        (ap done (h.counted ∙ ap count_of single_folded))

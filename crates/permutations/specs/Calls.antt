@@ -2,33 +2,33 @@
 use Rattle.std.specs.Prelude.{ℕ, List, [], ◌∷◌, take}
 use Rattle.outcomes.specs.Outcome.{done, refused, Long}
 use Rattle.runs.specs.Runs.{Runs, runs}
-use Rattle.permutations.specs.Next.{nextSays, NextListed}
+use Rattle.permutations.specs.Next.{next_says, NextListed}
 use Rattle.permutations.specs.declared.Next.{Next}
 
 -- A call of `next_list`: both tables that are lent, before it and after it, and its answer.
 pub record NextCall : Type 0 where
-  pub toStarts : List ℕ
-  pub toImages : List ℕ
-  pub toStarts' : List ℕ
-  pub toImages' : List ℕ
+  pub to_starts : List ℕ
+  pub to_images : List ℕ
+  pub to_starts' : List ℕ
+  pub to_images' : List ℕ
   pub answer : Next
 
 -- the list that a call which answers k has left in the first entries of its tables
-abbrev pub leftBy : ℕ → NextCall → Runs
-leftBy k c = runs (take k c.toStarts') (take k c.toImages')
+abbrev pub left_by : ℕ → NextCall → Runs
+left_by k c = runs (take k c.to_starts') (take k c.to_images')
 
 -- the list to hand in after a call: what it left, or after a refusal the one before
-unfoldable pub handedOn : Runs → NextCall → Runs
-handedOn r c = elim (nextSays c.answer) [ done k ↦ leftBy k c | refused k p ↦ r ]
+unfoldable pub handed_on : Runs → NextCall → Runs
+handed_on r c = elim (next_says c.answer) [ done k ↦ left_by k c | refused k p ↦ r ]
 
 -- calls one after the other, the first of r: each keeps the contract, with tables of its own that are long enough
 abbrev pub Calling : ℕ → Runs → List NextCall → Type 0
 Calling n r [] = Unit {0}
 Calling n r (c ∷ cs) =
-    Long n (c.toStarts ∷ c.toImages ∷ []) × NextListed n r c.toStarts c.toImages c.toStarts' c.toImages' c.answer
-    × Calling n (handedOn r c) cs
+    Long n (c.to_starts ∷ c.to_images ∷ []) × NextListed n r c.to_starts c.to_images c.to_starts' c.to_images' c.answer
+    × Calling n (handed_on r c) cs
 
 -- the lists that they leave, up to the first refusal
-unfoldable pub listsBy : List NextCall → List Runs
-listsBy [] = []
-listsBy (c ∷ cs) = elim (nextSays c.answer) [ done k ↦ leftBy k c ∷ listsBy cs | refused k p ↦ [] ]
+unfoldable pub lists_by : List NextCall → List Runs
+lists_by [] = []
+lists_by (c ∷ cs) = elim (next_says c.answer) [ done k ↦ left_by k c ∷ lists_by cs | refused k p ↦ [] ]

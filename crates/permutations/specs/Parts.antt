@@ -3,15 +3,15 @@ use Rattle.std.specs.Prelude.{ℕ, ◌≤◌, ◌<◌, ◌≡◌, List, [], ◌�
 use Rattle.outcomes.specs.Outcome.{Outcome, refused, judge, and_then}
 use Rattle.runs.specs.Runs.{Runs, count_of, start_of, end_of}
 use Rattle.runs.specs.Legal.{Legal}
-use Rattle.folds.specs.Fold.{maximalRuns}
+use Rattle.folds.specs.Fold.{maximal_runs}
 use Rattle.permutations.specs.Values.{value_at}
-use Rattle.permutations.specs.Next.{maxPlaces, successor, lastTest, laterTests, nextRuns, nextSays}
+use Rattle.permutations.specs.Next.{max_places, successor, last_test, later_tests, next_runs, next_says}
 use Rattle.permutations.specs.declared.Next.{Next}
 
 -- the list is legal, and of few places
 pub record Small (n : ℕ) (r : Runs) : Type 0 where
   pub legal : Legal n r
-  pub few : n ≤ maxPlaces
+  pub few : n ≤ max_places
 
 -- run x has place p
 pub record HasPlace (n : ℕ) (r : Runs) (x p : ℕ) : Type 0 where
@@ -41,18 +41,18 @@ pub record Permutes (n : ℕ) (l : List ℕ) : Type 0 where
 
 -- what is asked of values whose successor is written: they permute a few places, and the tables have an entry for each
 pub record Writable (l starts images : List ℕ) : Type 0 where
-  pub few : length l ≤ maxPlaces
+  pub few : length l ≤ max_places
   pub permutes : Permutes (length l) l
-  pub starts-room : length l ≤ length starts
-  pub images-room : length l ≤ length images
+  pub starts_room : length l ≤ length starts
+  pub images_room : length l ≤ length images
 
 -- the answer to a list of too many places or runs: the refusal that its check came to, or 17
 pub record NoneListed (n : ℕ) (checked : Outcome (Unit {0})) (answer : Next) : Type 0 where
-  pub says : nextSays answer ≡ and_then checked (λ _. refused 17 n)
+  pub says : next_says answer ≡ and_then checked (λ _. refused 17 n)
 
 -- what a call comes to after tests 1 to 6; and after 17 and 8, by the values alone
-unfoldable pub laterOf : ℕ → Runs → List ℕ → List ℕ → Outcome Runs
-laterOf n r toStarts toImages = judge (laterTests n r toStarts toImages) (nextRuns n r)
+unfoldable pub later_of : ℕ → Runs → List ℕ → List ℕ → Outcome Runs
+later_of n r to_starts to_images = judge (later_tests n r to_starts to_images) (next_runs n r)
 
 unfoldable pub after_of : List ℕ → Outcome Runs
-after_of l = judge (lastTest l ∷ []) (maximalRuns (length l) (value_at (successor l)))
+after_of l = judge (last_test l ∷ []) (maximal_runs (length l) (value_at (successor l)))

@@ -3,14 +3,14 @@
 // out by itself, from its place, so that nothing is moved about.
 ghost use Rattle.std.specs.Prelude.{◌≡◌, ◌-◌, ◌≤◌, ◌<◌, length, take};
 ghost use Rattle.permutations.specs.Values.{value_at};
-ghost use Rattle.permutations.specs.Next.{ascentOf, lastAbove, changed, maxPlaces};
+ghost use Rattle.permutations.specs.Next.{ascent_of, last_above, changed, max_places};
 ghost use Rattle.permutations.specs.Parts.{Change};
 
 use super::MAX_PLACES;
 
 // The last place whose value is above the one before it, or 0.
 pub(crate) fn last_ascent(values: &[u32]) -> usize
-    ensures { result ≡ ascentOf values.now }
+    ensures { result ≡ ascent_of values.now }
 {
     if values.len() == 0 {
         return 0;
@@ -27,7 +27,7 @@ pub(crate) fn last_ascent(values: &[u32]) -> usize
 
 // The last place from 1 on whose value is above v, or 0.
 pub(crate) fn last_above(values: &[u32], v: u32) -> usize
-    ensures { result ≡ lastAbove values.now v (length values.now - 1) }
+    ensures { result ≡ last_above values.now v (length values.now - 1) }
 {
     if values.len() == 0 {
         return 0;
@@ -62,7 +62,7 @@ fn value_after(values: &[u32], ascent: usize, other: usize, p: usize) -> u32
 
 // All values after the change, in front of zeros.
 pub(crate) fn change(values: &[u32], ascent: usize, other: usize) -> [u32; MAX_PLACES]
-    requires { Change values.now ascent other × (length values.now ≤ maxPlaces) }
+    requires { Change values.now ascent other × (length values.now ≤ max_places) }
     ensures { take (length values.now) result ≡ changed values.now ascent other }
 {
     let mut after: [u32; MAX_PLACES] = [0; MAX_PLACES];

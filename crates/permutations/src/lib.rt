@@ -7,12 +7,12 @@ mod values;
 
 ghost use Rattle.std.specs.Prelude.{◌≡◌, ◌≤◌, length};
 ghost use Rattle.outcomes.specs.Outcome.{done};
-ghost use Rattle.outcomes.specs.Refusal.{checkedSays};
+ghost use Rattle.outcomes.specs.Refusal.{checked_says};
 ghost use Rattle.runs.specs.Runs.{runs, count_of};
-ghost use Rattle.runs.specs.Check.{checkOf};
+ghost use Rattle.runs.specs.Check.{check_of};
 ghost use Rattle.runs.specs.Written.{WritesList};
-ghost use Rattle.permutations.specs.Next.{maxPlaces, nextSays, NextListed};
-ghost use Rattle.permutations.specs.Parts.{Writable, NoneListed, laterOf, after_of};
+ghost use Rattle.permutations.specs.Next.{max_places, next_says, NextListed};
+ghost use Rattle.permutations.specs.Parts.{Writable, NoneListed, later_of, after_of};
 
 use outcomes::{Checked, Refusal};
 
@@ -31,7 +31,7 @@ const MAX_PLACES: usize = MOST_PLACES as usize;
 // Test 18, and the list of the next values. A list of one run for each place has these values; its fold is written.
 fn write_next(values: &[u32], to_starts: &mut [u32], to_images: &mut [u32]) -> Next
     requires { Writable values.now to_starts.old to_images.old }
-    ensures { WritesList nextSays count_of (after_of values.now)
+    ensures { WritesList next_says count_of (after_of values.now)
         to_starts.old to_images.old to_starts.new to_images.new result }
 {
     let n = values.len();
@@ -55,9 +55,9 @@ fn next_accepted(
     to_starts: &mut [u32],
     to_images: &mut [u32],
 ) -> Next
-    requires { (done tt ≡ checkOf n (runs starts.now images.now)) × (n ≤ maxPlaces) }
-    ensures { WritesList nextSays count_of
-        (laterOf n (runs starts.now images.now) to_starts.old to_images.old)
+    requires { (done tt ≡ check_of n (runs starts.now images.now)) × (n ≤ max_places) }
+    ensures { WritesList next_says count_of
+        (later_of n (runs starts.now images.now) to_starts.old to_images.old)
         to_starts.old to_images.old to_starts.new to_images.new result }
 {
     let size = n as usize;
@@ -73,8 +73,8 @@ fn next_accepted(
 
 // Tests 1 to 6 of a list of few runs, in little room.
 fn check_few(n: u32, starts: &[u32], images: &[u32]) -> Checked
-    requires { length starts.now ≤ maxPlaces }
-    ensures { checkedSays result ≡ checkOf n (runs starts.now images.now) }
+    requires { length starts.now ≤ max_places }
+    ensures { checked_says result ≡ check_of n (runs starts.now images.now) }
 {
     let mut order: [u32; MAX_PLACES] = [0; MAX_PLACES];
     let mut spare: [u32; MAX_PLACES] = [0; MAX_PLACES];
@@ -83,7 +83,7 @@ fn check_few(n: u32, starts: &[u32], images: &[u32]) -> Checked
 
 // The answer to a list of more than seven places or runs: its own refusal, or 17, which only one of more places can come to.
 fn refuse(n: u32, checked: Checked) -> Next
-    ensures { NoneListed n (checkedSays checked) result }
+    ensures { NoneListed n (checked_says checked) result }
 {
     match checked {
         Checked::Refused(refusal) => Next::Refused(refusal),

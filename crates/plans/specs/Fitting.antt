@@ -1,6 +1,6 @@
 -- Degrees at which a balanced list has few enough intervals (document 02, A.5).
 use Rattle.std.specs.Prelude.{ℕ, ◌-◌, Bool, leb}
-use Rattle.outcomes.specs.Search.{firstFrom}
+use Rattle.outcomes.specs.Search.{first_from}
 use Rattle.runs.specs.Runs.{Runs}
 use Rattle.cuts.specs.Balance.{size_at}
 
@@ -10,5 +10,5 @@ fits n r entries d = leb (size_at n r d) entries
 
 -- The least degree from `low` to 64 at which it has, or 65. K does not fall with the degree on every list, so that each
 -- degree is asked, from the lowest up.
-abbrev pub leastFrom : ℕ → Runs → ℕ → ℕ → ℕ
-leastFrom n r entries low = firstFrom (fits n r entries) (65 - low) low
+abbrev pub least_from : ℕ → Runs → ℕ → ℕ → ℕ
+least_from n r entries low = first_from (fits n r entries) (65 - low) low

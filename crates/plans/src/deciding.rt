@@ -1,18 +1,18 @@
 // Tests 1 to 8. The list is sorted once, in its check.
 ghost use Rattle.std.specs.Prelude.{◌≡◌, ◌≤◌};
-ghost use Rattle.outcomes.specs.Refusal.{checkedSays};
-ghost use Rattle.runs.specs.Check.{maxRuns};
+ghost use Rattle.outcomes.specs.Refusal.{checked_says};
+ghost use Rattle.runs.specs.Check.{max_runs};
 ghost use Rattle.runs.specs.Parts.{HoldsRuns};
 ghost use Rattle.runs.specs.Runs.{runs};
-ghost use Rattle.plans.specs.Working.{workingSize};
-ghost use Rattle.plans.specs.Parts.{sizedOf, Decided};
+ghost use Rattle.plans.specs.Working.{working_size};
+ghost use Rattle.plans.specs.Parts.{sized_of, Decided};
 
 use outcomes::{Checked, Refusal};
 
 // B, the whole part of dk/(d - 1).
 pub(crate) fn bound_of(d: u32, k: usize) -> usize
-    requires { (2 ≤ d) × (d ≤ 64) × (k ≤ maxRuns) }
-    ensures { (result ≡ workingSize d k) × (result ≤ 1048576) }
+    requires { (2 ≤ d) × (d ≤ 64) × (k ≤ max_runs) }
+    ensures { (result ≡ working_size d k) × (result ≤ 1048576) }
 {
     let degree = d as usize;
     degree * k / (degree - 1)
@@ -20,8 +20,8 @@ pub(crate) fn bound_of(d: u32, k: usize) -> usize
 
 // Tests 7 and 8 for a list of `k` runs.
 fn decide(d: u32, k: usize, room: usize) -> Checked
-    requires { k ≤ maxRuns }
-    ensures { checkedSays result ≡ sizedOf d k room }
+    requires { k ≤ max_runs }
+    ensures { checked_says result ≡ sized_of d k room }
 {
     if !outcomes::is_degree(d) {
         return Checked::Refused(Refusal::Degree(d));
@@ -44,7 +44,7 @@ pub(crate) fn decide_list(
     order: &mut [u32],
     spare: &mut [u32],
 ) -> Checked
-    requires { HoldsRuns maxRuns starts.now order.old × HoldsRuns maxRuns starts.now spare.old }
+    requires { HoldsRuns max_runs starts.now order.old × HoldsRuns max_runs starts.now spare.old }
     ensures { Decided n (runs starts.now images.now) d room order.new result }
 {
     let checked = runs::check_order(n, starts, images, runs::MOST_RUNS, order, spare);

@@ -11,9 +11,9 @@ mod seeking;
 
 ghost use Rattle.std.specs.Prelude.{◌≡◌, ◌≤◌, length, replicate};
 ghost use Rattle.outcomes.specs.Outcome.{over};
-ghost use Rattle.runs.specs.Check.{maxRuns};
+ghost use Rattle.runs.specs.Check.{max_runs};
 ghost use Rattle.runs.specs.Runs.{runs};
-ghost use Rattle.plans.specs.Working.{workingSize};
+ghost use Rattle.plans.specs.Working.{working_size};
 ghost use Rattle.plans.specs.Plan.{Plans};
 
 // More entries than any list has intervals.
@@ -36,8 +36,8 @@ pub enum Planned {
 // Sets the first B entries of the working table to 0, where B is that of `k` runs at degree `d`. Public for our own crates, for a
 // list that has been planned.
 pub fn clear(d: u32, k: usize, working: &mut [u32])
-    requires { (2 ≤ d) × (d ≤ 64) × (k ≤ maxRuns) × (workingSize d k ≤ length working.old) }
-    ensures { working.new ≡ over (replicate (workingSize d k) 0) working.old }
+    requires { (2 ≤ d) × (d ≤ 64) × (k ≤ max_runs) × (working_size d k ≤ length working.old) }
+    ensures { working.new ≡ over (replicate (working_size d k) 0) working.old }
 {
     order::clear(working, deciding::bound_of(d, k));
 }

@@ -3,10 +3,10 @@
 // The contract is one equation with the definition in specs/. On the tables of a legal list it is the inverse of the
 // list's function (proofs/LegalPreimages).
 ghost use Rattle.std.specs.Prelude.{◌≡◌, ◌<◌, length};
-ghost use Rattle.outcomes.specs.Search.{firstBelow};
+ghost use Rattle.outcomes.specs.Search.{first_below};
 ghost use Rattle.tables.specs.Tables.{tables};
-ghost use Rattle.preimages.specs.Inverse.{invertedSays, inverseOf};
-ghost use Rattle.preimages.specs.Parts.{imageHas};
+ghost use Rattle.preimages.specs.Inverse.{inverted_says, inverse_of};
+ghost use Rattle.preimages.specs.Parts.{image_has};
 
 use outcomes::Refusal;
 
@@ -27,7 +27,7 @@ pub enum Inverted {
 // that it is below x's end where that distance is below the length: no start is read, and there is no sum to overflow.
 fn is_source(images: &[u32], lengths: &[u32], x: usize, j: u32) -> bool
     requires { (x < length images.now) × (x < length lengths.now) }
-    ensures { result ≡ imageHas images.now lengths.now j x }
+    ensures { result ≡ image_has images.now lengths.now j x }
 {
     let image = images[x];
     if j < image {
@@ -39,7 +39,7 @@ fn is_source(images: &[u32], lengths: &[u32], x: usize, j: u32) -> bool
 // The lowest interval that sends a place to j, or their number.
 fn first_source(images: &[u32], lengths: &[u32], j: u32) -> usize
     requires { length lengths.now ≡ length images.now }
-    ensures { result ≡ firstBelow (imageHas images.now lengths.now j) (length images.now) }
+    ensures { result ≡ first_below (image_has images.now lengths.now j) (length images.now) }
 {
     let mut x: usize = 0;
     while x < images.len() {
@@ -60,7 +60,7 @@ pub fn inverse(
     lengths: &[u32],
     j: u32,
 ) -> Inverted
-    ensures { invertedSays result ≡ inverseOf n
+    ensures { inverted_says result ≡ inverse_of n
         (tables starts.now images.now holders.now lengths.now) j }
 {
     if tables::is_misshapen(n, starts, images, holders, lengths) {

@@ -13,7 +13,7 @@ use denote.Triple.Statement.{Contract}
 use denote.Triple.Spec.{triple_of}
 use Rattle.outcomes.specs.Outcome.{Outcome, done, refused}
 use Rattle.tables.specs.Tables.{Tables}
-use Rattle.questions.specs.Questions.{Answers, answersOf, places_of, recordsAfter, filledIn}
+use Rattle.questions.specs.Questions.{Answers, answers_of, places_of, records_after, filled_in}
 use Rattle.questions.specs.declared.Question.{Question}
 use Rattle.questions.specs.declared.Answered.{Answered}
 use Rattle.questions.specs.contracts.answer as ans
@@ -24,11 +24,11 @@ abbrev pub Ans : {M : Type 1} {𝓤 : Ura M} (𝓛 : Logic 𝓤) (mem : Memory �
 Ans 𝓛 mem run = triple_of 𝓛 ans.signature (ans.spec 𝓛 mem run)
 
 -- an answer leaves as many records as it was handed
-length-after : (f : Question → Question) (o : Outcome ℕ) (qs : List Question) → length (recordsAfter f o qs) ≡ length qs
-unfolding recordsAfter
-length-after f (done c) qs = length-map qs f
-length-after f (refused k p) qs = refl
+length_after : (f : Question → Question) (o : Outcome ℕ) (qs : List Question) → length (records_after f o qs) ≡ length qs
+unfolding records_after
+length_after f (done c) qs = length-map qs f
+length_after f (refused k p) qs = refl
 
-pub length-left : (n : ℕ) (t : Tables) (qs : List Question) (a : Answered) (left : List Question)
+pub length_left : (n : ℕ) (t : Tables) (qs : List Question) (a : Answered) (left : List Question)
     → Answers n t qs a left → length left ≡ length qs
-length-left n t qs a left h = ap length h.records ∙ length-after (filledIn t.links) (answersOf n t (places_of qs)) qs
+length_left n t qs a left h = ap length h.records ∙ length_after (filled_in t.links) (answers_of n t (places_of qs)) qs

@@ -2,7 +2,7 @@
 use Rattle.std.specs.Prelude.{ℕ, ◌+◌, ◌≤◌, ◌<◌, ◌≡◌, Bool, true, false, List, length, ltb}
 use Rattle.outcomes.specs.Outcome.{◌then◌else◌}
 use Rattle.outcomes.specs.declared.Refusal.TheVariants.{TableShape, PlaceRange, BrokenInterval}
-use Rattle.tables.specs.Tables.{Links, Tables, size_of, misshapen, broken, allLengths}
+use Rattle.tables.specs.Tables.{Links, Tables, size_of, misshapen, broken, all_lengths}
 use Rattle.tables.specs.Parts.{ShapedLinks}
 use Rattle.walks.specs.Move.{passed, found_at, unfindable}
 use Rattle.walks.specs.Parts.{Movable}
@@ -12,17 +12,17 @@ use Rattle.questions.specs.declared.Answered.TheVariants.{Passed, PlaceOrder, Re
 use Rattle.questions.specs.declared.judging.Standing.{Standing}
 use Rattle.questions.specs.declared.judging.Standing.TheVariants.{Misshapen, Mismeasured, Fallen, Outside, Broken, Clear}
 use Rattle.questions.specs.declared.judging.Judging.{Judging}
-use Rattle.questions.specs.Questions.{filledIn}
+use Rattle.questions.specs.Questions.{filled_in}
 
 -- JUDGING. What is known before the first record, by the tables alone, and with one record more.
-unfoldable pub standingBy : ℕ → Tables → Standing
-standingBy n t =
+unfoldable pub standing_by : ℕ → Tables → Standing
+standing_by n t =
     misshapen n t then Misshapen else
-    (allLengths n t).applies then Mismeasured (allLengths n t).place else
+    (all_lengths n t).applies then Mismeasured (all_lengths n t).place else
     Clear
 
-unfoldable pub begunOf : ℕ → Tables → Judging
-begunOf n t = record { standing = standingBy n t; interval = 0; last = 0; fallen = 0 }
+unfoldable pub begun_of : ℕ → Tables → Judging
+begun_of n t = record { standing = standing_by n t; interval = 0; last = 0; fallen = 0 }
 
 -- no record can change it; no record so far was refused
 abbrev pub settled : Standing → Bool
@@ -42,47 +42,47 @@ clear Broken = false
 clear Clear = true
 
 -- with a record at index i whose place p falls: it counts where the answer is not settled
-unfoldable pub fallenOf : Judging → ℕ → ℕ → Judging
-fallenOf s p i =
+unfoldable pub fallen_of : Judging → ℕ → ℕ → Judging
+fallen_of s p i =
     settled s.standing then record { standing = s.standing; interval = s.interval; last = p; fallen = s.fallen } else
     (record { standing = Fallen; interval = s.interval; last = p; fallen = i })
 
 -- with one whose place does not fall, where none was refused: 11, then 12 of the interval found
-unfoldable pub standingAt : ℕ → Links → ℕ → ℕ → Standing
-standingAt n k x p = broken n k x p then Broken else Clear
+unfoldable pub standing_at : ℕ → Links → ℕ → ℕ → Standing
+standing_at n k x p = broken n k x p then Broken else Clear
 
-unfoldable pub goneOf : ℕ → Links → Judging → ℕ → Judging
-goneOf n k s p =
+unfoldable pub gone_of : ℕ → Links → Judging → ℕ → Judging
+gone_of n k s p =
     unfindable n k.list.starts p then
     record { standing = Outside p; interval = s.interval; last = p; fallen = s.fallen } else
-    (record { standing = standingAt n k (found_at k p) p; interval = found_at k p; last = p; fallen = s.fallen })
+    (record { standing = standing_at n k (found_at k p) p; interval = found_at k p; last = p; fallen = s.fallen })
 
 -- and where one was: 11 still goes before 12
-abbrev pub outsideOr : ℕ → List ℕ → Standing → ℕ → Standing
-outsideOr n starts Misshapen p = Misshapen
-outsideOr n starts (Mismeasured x) p = Mismeasured x
-outsideOr n starts Fallen p = Fallen
-outsideOr n starts (Outside q) p = Outside q
-outsideOr n starts Broken p = unfindable n starts p then Outside p else Broken
-outsideOr n starts Clear p = Clear
+abbrev pub outside_or : ℕ → List ℕ → Standing → ℕ → Standing
+outside_or n starts Misshapen p = Misshapen
+outside_or n starts (Mismeasured x) p = Mismeasured x
+outside_or n starts Fallen p = Fallen
+outside_or n starts (Outside q) p = Outside q
+outside_or n starts Broken p = unfindable n starts p then Outside p else Broken
+outside_or n starts Clear p = Clear
 
-unfoldable pub stayedOf : ℕ → List ℕ → Judging → ℕ → Judging
-stayedOf n starts s p =
-    record { standing = outsideOr n starts s.standing p; interval = s.interval; last = p; fallen = s.fallen }
+unfoldable pub stayed_of : ℕ → List ℕ → Judging → ℕ → Judging
+stayed_of n starts s p =
+    record { standing = outside_or n starts s.standing p; interval = s.interval; last = p; fallen = s.fallen }
 
-unfoldable pub judgedOf : ℕ → Links → Judging → Question → ℕ → Judging
-judgedOf n k s q i =
-    ltb q.place s.last then fallenOf s q.place i else
-    clear s.standing then goneOf n k s q.place else
-    stayedOf n k.list.starts s q.place
+unfoldable pub judged_of : ℕ → Links → Judging → Question → ℕ → Judging
+judged_of n k s q i =
+    ltb q.place s.last then fallen_of s q.place i else
+    clear s.standing then gone_of n k s q.place else
+    stayed_of n k.list.starts s q.place
 
-abbrev pub verdictOf : Standing → ℕ → ℕ → Answered
-verdictOf Misshapen x f = Refused TableShape
-verdictOf (Mismeasured y) x f = Refused (BrokenInterval y)
-verdictOf Fallen x f = PlaceOrder f
-verdictOf (Outside p) x f = Refused (PlaceRange p)
-verdictOf Broken x f = Refused (BrokenInterval x)
-verdictOf Clear x f = Passed x
+abbrev pub verdict_of : Standing → ℕ → ℕ → Answered
+verdict_of Misshapen x f = Refused TableShape
+verdict_of (Mismeasured y) x f = Refused (BrokenInterval y)
+verdict_of Fallen x f = PlaceOrder f
+verdict_of (Outside p) x f = Refused (PlaceRange p)
+verdict_of Broken x f = Refused (BrokenInterval x)
+verdict_of Clear x f = Passed x
 
 -- The pass for place p can go on from interval x: that leads where find from the front does.
 pub record Onward (k : Links) (x p : ℕ) : Type 0 where
@@ -116,10 +116,10 @@ abbrev pub Ready : Links → Judging → Type 0
 Ready k s = (p : ℕ) → s.last ≤ p → Going k s.standing s.interval p
 
 -- FILLING. A record that is filled in where the call is done.
-abbrev pub filledOf : Links → Question → Answered → Question
-filledOf k q (Passed c) = filledIn k q
-filledOf k q (PlaceOrder i) = q
-filledOf k q (Refused r) = q
+abbrev pub filled_of : Links → Question → Answered → Question
+filled_of k q (Passed c) = filled_in k q
+filled_of k q (PlaceOrder i) = q
+filled_of k q (Refused r) = q
 
 -- what is asked for that
 pub record Placed (k : Links) (x p : ℕ) : Type 0 where

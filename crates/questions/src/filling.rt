@@ -4,7 +4,7 @@ ghost use Rattle.tables.specs.Tables.{links};
 ghost use Rattle.walks.specs.Move.{step_of};
 ghost use Rattle.walks.specs.Parts.{Movable};
 ghost use Rattle.questions.specs.Questions.{question};
-ghost use Rattle.questions.specs.Turns.{Fillable, filledOf};
+ghost use Rattle.questions.specs.Turns.{Fillable, filled_of};
 
 use super::{Answered, Question};
 
@@ -18,7 +18,7 @@ pub(crate) fn fill(
     x: u32,
 ) -> Question
     requires { Fillable (links starts.now images.now holders.now) q answered x }
-    ensures { result ≡ filledOf (links starts.now images.now holders.now) q answered }
+    ensures { result ≡ filled_of (links starts.now images.now holders.now) q answered }
 {
     match answered {
         Answered::PlaceOrder(_) => q,

@@ -2,7 +2,7 @@
 ghost use Rattle.std.specs.Prelude.{◌≡◌};
 ghost use Rattle.tables.specs.Tables.{links, tables};
 ghost use Rattle.tables.specs.Parts.{Located};
-ghost use Rattle.questions.specs.Turns.{Ready, Findable, Staying, begunOf, standingBy, judgedOf, settled, clear, fallenOf, goneOf, standingAt, stayedOf, outsideOr, verdictOf};
+ghost use Rattle.questions.specs.Turns.{Ready, Findable, Staying, begun_of, standing_by, judged_of, settled, clear, fallen_of, gone_of, standing_at, stayed_of, outside_or, verdict_of};
 
 use super::{Answered, Question, finding};
 use outcomes::Refusal;
@@ -43,7 +43,7 @@ pub(crate) fn begin(
     holders: &[u32],
     lengths: &[u32],
 ) -> Judging
-    ensures { result ≡ begunOf n (tables starts.now images.now holders.now lengths.now) }
+    ensures { result ≡ begun_of n (tables starts.now images.now holders.now lengths.now) }
 {
     Judging {
         standing: judge_tables(n, starts, images, holders, lengths),
@@ -61,7 +61,7 @@ fn judge_tables(
     holders: &[u32],
     lengths: &[u32],
 ) -> Standing
-    ensures { result ≡ standingBy n (tables starts.now images.now holders.now lengths.now) }
+    ensures { result ≡ standing_by n (tables starts.now images.now holders.now lengths.now) }
 {
     if tables::is_misshapen(n, starts, images, holders, lengths) {
         return Standing::Misshapen;
@@ -84,7 +84,7 @@ pub(crate) fn judge(
     i: usize,
 ) -> Judging
     requires { Ready (links starts.now images.now holders.now) s }
-    ensures { result ≡ judgedOf n (links starts.now images.now holders.now) s q i }
+    ensures { result ≡ judged_of n (links starts.now images.now holders.now) s q i }
 {
     if q.place < s.last {
         return fall(s, q.place, i);
@@ -98,7 +98,7 @@ pub(crate) fn judge(
 
 // Where the place of the record at index i is below the last one: test 16, for the first such record.
 fn fall(s: Judging, place: u32, i: usize) -> Judging
-    ensures { result ≡ fallenOf s place i }
+    ensures { result ≡ fallen_of s place i }
 {
     let standing = s.standing;
     if is_settled(standing) {
@@ -146,7 +146,7 @@ fn is_clear(standing: Standing) -> bool
 // Where it is not below, and no record before was refused: test 11, the interval that has the place, and test 12 there.
 fn go_on(n: u32, starts: &[u32], images: &[u32], holders: &[u32], s: Judging, place: u32) -> Judging
     requires { Findable (links starts.now images.now holders.now) s.interval place }
-    ensures { result ≡ goneOf n (links starts.now images.now holders.now) s place }
+    ensures { result ≡ gone_of n (links starts.now images.now holders.now) s place }
 {
     if walks::is_unfindable(n, starts, place) {
         return Judging {
@@ -168,7 +168,7 @@ fn go_on(n: u32, starts: &[u32], images: &[u32], holders: &[u32], s: Judging, pl
 // Test 12 of a place that lies in interval x.
 fn stand(n: u32, starts: &[u32], images: &[u32], holders: &[u32], x: u32, place: u32) -> Standing
     requires { Located n (links starts.now images.now holders.now) x place }
-    ensures { result ≡ standingAt n (links starts.now images.now holders.now) x place }
+    ensures { result ≡ standing_at n (links starts.now images.now holders.now) x place }
 {
     if tables::is_broken(n, starts, images, holders, x, place) {
         return Standing::Broken;
@@ -179,7 +179,7 @@ fn stand(n: u32, starts: &[u32], images: &[u32], holders: &[u32], x: u32, place:
 // Where it is not below, and the tables or a record before were refused: test 11 goes before 12 of a record.
 fn stay(n: u32, starts: &[u32], s: Judging, place: u32) -> Judging
     requires { Staying starts.now s.standing }
-    ensures { result ≡ stayedOf n starts.now s place }
+    ensures { result ≡ stayed_of n starts.now s place }
 {
     let standing = s.standing;
     Judging {
@@ -192,7 +192,7 @@ fn stay(n: u32, starts: &[u32], s: Judging, place: u32) -> Judging
 
 fn outside_or(n: u32, starts: &[u32], standing: Standing, place: u32) -> Standing
     requires { Staying starts.now standing }
-    ensures { result ≡ outsideOr n starts.now standing place }
+    ensures { result ≡ outside_or n starts.now standing place }
 {
     match standing {
         Standing::Misshapen => standing,
@@ -211,7 +211,7 @@ fn outside_or(n: u32, starts: &[u32], standing: Standing, place: u32) -> Standin
 
 // The answer, after the last record.
 pub(crate) fn verdict(s: Judging) -> Answered
-    ensures { result ≡ verdictOf s.standing s.interval s.fallen }
+    ensures { result ≡ verdict_of s.standing s.interval s.fallen }
 {
     let standing = s.standing;
     match standing {

@@ -6,68 +6,68 @@ use mathlib.Core.List.{List, [], ◌∷◌}
 use lib.ListN.{length, take, drop}
 use lib.Seq.{take_at, drop_at}
 use borrow.Author.Tests.{lt-ltb, le-ltb}
-use Rattle.outcomes.specs.Outcome.{Outcome, done, refused, anyShort, Long, shortTest, judge, mapDone, and_then, over, filled}
-use Rattle.outcomes.proofs.Judging.{done_refused, judge-append, judge-first, judge-done, none_below}
+use Rattle.outcomes.specs.Outcome.{Outcome, done, refused, any_short, Long, short_test, judge, map_done, and_then, over, filled}
+use Rattle.outcomes.proofs.Judging.{done_refused, judge_append, judge_first, judge_done, none_below}
 use Rattle.runs.specs.Runs.{Runs, runs, count_of}
-use Rattle.runs.specs.Check.{checkTests, checkOf, writeTests}
-use Rattle.runs.specs.Written.{WritesList, ifRoom}
-use Rattle.runs.specs.contracts.Written.{writes-refused}
+use Rattle.runs.specs.Check.{check_tests, check_of, write_tests}
+use Rattle.runs.specs.Written.{WritesList, if_room}
+use Rattle.runs.specs.contracts.Written.{writes_refused}
 
 -- test 8 by itself: a table too short, and two that are not
 module _ (k : ℕ) (q : Runs) (a b : List ℕ) where
-  pub room_for : k ≤ length a → k ≤ length b → ifRoom k q a b ≡ done q
-  unfolding ifRoom judge
+  pub room_for : k ≤ length a → k ≤ length b → if_room k q a b ≡ done q
+  unfolding if_room judge
   room_for h l = simp (le-ltb _ _ h, le-ltb _ _ l)
 
   module _ {A B : Type 0} (said : B → Outcome A) (result : Runs → A) (x : B) (e : said x ≡ refused 8 k) where
-    pub starts-short : length a < k → WritesList said result (ifRoom k q a b) a b a b x
-    unfolding ifRoom judge
-    starts-short h = writes-refused said result (ifRoom k q a b) a b x 8 k (simp (lt-ltb _ _ h)) e
+    pub starts_short : length a < k → WritesList said result (if_room k q a b) a b a b x
+    unfolding if_room judge
+    starts_short h = writes_refused said result (if_room k q a b) a b x 8 k (simp (lt-ltb _ _ h)) e
 
-    pub images-short : k ≤ length a → length b < k → WritesList said result (ifRoom k q a b) a b a b x
-    unfolding ifRoom judge
-    images-short h l = writes-refused said result (ifRoom k q a b) a b x 8 k (simp (le-ltb _ _ h, lt-ltb _ _ l)) e
+    pub images_short : k ≤ length a → length b < k → WritesList said result (if_room k q a b) a b a b x
+    unfolding if_room judge
+    images_short h l = writes_refused said result (if_room k q a b) a b x 8 k (simp (le-ltb _ _ h, lt-ltb _ _ l)) e
 
 -- tests 1 to 6, and then 8
 module _ (n : ℕ) (r q : Runs) (a b : List ℕ) where
   abbrev whole : Outcome Runs
-  whole = judge (writeTests n r (a ∷ b ∷ [])) q
+  whole = judge (write_tests n r (a ∷ b ∷ [])) q
 
   abbrev later : Outcome Runs
-  later = ifRoom (count_of r) q a b
+  later = if_room (count_of r) q a b
 
-  parts : whole ≡ and_then (checkOf n r) (λ _. later)
-  unfolding ifRoom
-  parts = judge-append (checkTests n r) (shortTest (count_of r) (a ∷ b ∷ []) ∷ []) tt q
+  parts : whole ≡ and_then (check_of n r) (λ _. later)
+  unfolding if_room
+  parts = judge_append (check_tests n r) (short_test (count_of r) (a ∷ b ∷ []) ∷ []) tt q
 
-  after_check : done tt ≡ checkOf n r → whole ≡ later
+  after_check : done tt ≡ check_of n r → whole ≡ later
   unfolding and_then
   after_check e = parts ∙ ap (λ c. and_then c (λ _. later)) (sym e)
 
   -- a list that is accepted, and tables that are long enough; and no others
-  pub written-given : checkOf n r ≡ done tt → Long (count_of r) (a ∷ b ∷ []) → whole ≡ done q
-  written-given e long = after_check (sym e) ∙ room_for (count_of r) q a b long.0 long.1.0
+  pub written_given : check_of n r ≡ done tt → Long (count_of r) (a ∷ b ∷ []) → whole ≡ done q
+  written_given e long = after_check (sym e) ∙ room_for (count_of r) q a b long.0 long.1.0
 
-  pub written-only : (t : Runs) → whole ≡ done t → (checkOf n r ≡ done tt) × Long (count_of r) (a ∷ b ∷ []) × (t ≡ q)
-  unfolding and_then ifRoom
-  written-only t e =
-      let c = go (checkOf n r) refl in
-      let short : anyShort (count_of r) (a ∷ b ∷ []) ≡ false =
-      (judge-first (shortTest (count_of r) (a ∷ b ∷ [])) [] q t (sym e ∙ after_check (sym c))).0 in
-      (c, none_below (count_of r) (length a ∷ length b ∷ []) short, sym (judge-done (writeTests n r (a ∷ b ∷ [])) q t e))
+  pub written_only : (t : Runs) → whole ≡ done t → (check_of n r ≡ done tt) × Long (count_of r) (a ∷ b ∷ []) × (t ≡ q)
+  unfolding and_then if_room
+  written_only t e =
+      let c = go (check_of n r) refl in
+      let short : any_short (count_of r) (a ∷ b ∷ []) ≡ false =
+      (judge_first (short_test (count_of r) (a ∷ b ∷ [])) [] q t (sym e ∙ after_check (sym c))).0 in
+      (c, none_below (count_of r) (length a ∷ length b ∷ []) short, sym (judge_done (write_tests n r (a ∷ b ∷ [])) q t e))
     where
-      go : (o : Outcome (Unit {0})) → checkOf n r ≡ o → checkOf n r ≡ done tt
+      go : (o : Outcome (Unit {0})) → check_of n r ≡ o → check_of n r ≡ done tt
       go (done u) f = f
       go (refused k p) f = absurd (done_refused t k p (sym e ∙ parts ∙ ap (λ o. and_then o (λ _. later)) f))
 
   module _ {A B : Type 0} (said : B → Outcome A) (result : Runs → A) (x : B) where
-    pub writes-check-refused : (k p : ℕ) → refused k p ≡ checkOf n r → said x ≡ refused k p → WritesList said result whole a b a b x
+    pub writes_check_refused : (k p : ℕ) → refused k p ≡ check_of n r → said x ≡ refused k p → WritesList said result whole a b a b x
     unfolding and_then
-    writes-check-refused k p e f = writes-refused said result whole a b x k p (parts ∙ ap (λ c. and_then c (λ _. later)) (sym e)) f
+    writes_check_refused k p e f = writes_refused said result whole a b x k p (parts ∙ ap (λ c. and_then c (λ _. later)) (sym e)) f
 
-    pub writes-checked : (a' b' : List ℕ) → done tt ≡ checkOf n r → WritesList said result later a b a' b' x
+    pub writes_checked : (a' b' : List ℕ) → done tt ≡ check_of n r → WritesList said result later a b a' b' x
         → WritesList said result whole a b a' b' x
-    writes-checked a' b' e w = subst (λ (o : Outcome Runs). WritesList said result o a b a' b' x) (sym (after_check e)) w
+    writes_checked a' b' e w = subst (λ (o : Outcome Runs). WritesList said result o a b a' b' x) (sym (after_check e)) w
 
 -- a list of k runs over two tables stands in their first k entries, and the others stay
 pub list_over : (q : Runs) (k : ℕ) → count_of q ≡ k → length q.images ≡ k → (a b a' b' : List ℕ)

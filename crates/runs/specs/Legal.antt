@@ -2,7 +2,7 @@
 -- of source document 002 and in those of Nishimoto and Tabei, and the split permutation of source document 001. That all four agree
 -- is proved (proofs/Intervals, proofs/Sequences, and folds/proofs/Splitting).
 use Rattle.std.specs.Prelude.{ℕ, suc, ◌+◌, ◌≤◌, ◌<◌, ◌≡◌, ◌⊎◌, ◌≢◌, List, length, get_or}
-use Rattle.runs.specs.Runs.{Runs, count_of, start_of, image_of, length_of, imageEnd}
+use Rattle.runs.specs.Runs.{Runs, count_of, start_of, image_of, length_of, image_end}
 
 -- Legal: starts rise strictly from 0 and stay below n, no image reaches beyond n, and images share no place.
 pub record Legal (n : ℕ) (r : Runs) : Type 0 where
@@ -11,10 +11,10 @@ pub record Legal (n : ℕ) (r : Runs) : Type 0 where
   pub first : start_of r 0 ≡ 0
   pub below : (x : ℕ) → x < count_of r → start_of r x < n
   pub rising : (x : ℕ) → suc x < count_of r → start_of r x < start_of r (suc x)
-  pub within : (x : ℕ) → x < count_of r → imageEnd n r x ≤ n
+  pub within : (x : ℕ) → x < count_of r → image_end n r x ≤ n
   pub apart : (x y p : ℕ) → x < count_of r → y < count_of r
-      → image_of r x ≤ p → p < imageEnd n r x
-      → image_of r y ≤ p → p < imageEnd n r y → x ≡ y
+      → image_of r x ≤ p → p < image_end n r x
+      → image_of r y ≤ p → p < image_end n r y → x ≡ y
 
 -- Source 002, counted from 0: k pairs (p, q) with lengths d, where each p is the one before plus its length, and the last
 -- plus its length is n; the output intervals, from q up to q + d, do not overlap. That the first p is 0, lengths are at
@@ -43,7 +43,7 @@ pub record IntervalSequence (n : ℕ) (r : Runs) : Type 0 where
   pub below : (x : ℕ) → x < count_of r → start_of r x < n
   -- the run that stands at j in the order
   pub order : ℕ → ℕ
-  pub runs-only : (j : ℕ) → j < count_of r → order j < count_of r
+  pub runs_only : (j : ℕ) → j < count_of r → order j < count_of r
   pub each : (x : ℕ) → x < count_of r → (j : ℕ) × (j < count_of r) × (order j ≡ x)
   pub once : (i j : ℕ) → i < count_of r → j < count_of r → order i ≡ order j → i ≡ j
   pub from : image_of r (order 0) ≡ 0
@@ -54,7 +54,7 @@ pub record IntervalSequence (n : ℕ) (r : Runs) : Type 0 where
 -- P' and Q'. That they stand in two lists of one length, the starts in rising order, is document 01's.
 pub record SplitPermutation (n : ℕ) (π : ℕ → ℕ) (r : Runs) : Type 0 where
   pub inside : (p : ℕ) → p < n → π p < n
-  pub one-to-one : (p q : ℕ) → p < n → q < n → π p ≡ π q → p ≡ q
+  pub one_to_one : (p q : ℕ) → p < n → q < n → π p ≡ π q → p ≡ q
   pub rising : (x : ℕ) → suc x < count_of r → start_of r x < start_of r (suc x)
   pub below : (x : ℕ) → x < count_of r → start_of r x < n
   pub first : (x : ℕ) × (x < count_of r) × (start_of r x ≡ 0)

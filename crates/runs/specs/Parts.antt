@@ -2,15 +2,15 @@
 use Rattle.std.specs.Prelude.{ℕ, suc, ◌≤◌, ◌<◌, ◌≡◌, Bool, ◌&&◌, ◌||◌, List, length, get_or, take, ltb}
 use Rattle.order.specs.Order.{order_of}
 use Rattle.outcomes.specs.Outcome.{done}
-use Rattle.outcomes.specs.Refusal.{checkedSays}
-use Rattle.outcomes.specs.Search.{firstBelow}
+use Rattle.outcomes.specs.Refusal.{checked_says}
+use Rattle.outcomes.specs.Search.{first_below}
 use Rattle.runs.specs.Runs.{Runs, count_of, image_of}
-use Rattle.runs.specs.Check.{overlaps, checkUpTo}
+use Rattle.runs.specs.Check.{overlaps, check_up_to}
 use Rattle.outcomes.specs.declared.Checked.{Checked}
 
 -- the lowest run with the property, or the number of runs
-abbrev pub lowestOf : (Runs → ℕ → Bool) → Runs → ℕ
-lowestOf p r = firstBelow (p r) (count_of r)
+abbrev pub lowest_of : (Runs → ℕ → Bool) → Runs → ℕ
+lowest_of p r = first_below (p r) (count_of r)
 
 -- the run at j in the order by image
 abbrev pub ranked : Runs → ℕ → ℕ
@@ -42,10 +42,10 @@ meets r t reached end =
 
 -- the lowest run that shares a place, and the order it was found by
 pub record OverlapFound (n : ℕ) (r : Runs) (order : List ℕ) (x : ℕ) : Type 0 where
-  pub lowest : x ≡ lowestOf (overlaps n) r
+  pub lowest : x ≡ lowest_of (overlaps n) r
   pub ordered : Ordered r order
 
 -- the answer of a check, and the order that it leaves of a list that it accepts
 pub record OrderChecked (most n : ℕ) (r : Runs) (order : List ℕ) (answer : Checked) : Type 0 where
-  pub says : checkedSays answer ≡ checkUpTo most n r
-  pub ordered : checkUpTo most n r ≡ done tt → Ordered r order
+  pub says : checked_says answer ≡ check_up_to most n r
+  pub ordered : check_up_to most n r ≡ done tt → Ordered r order

@@ -1,7 +1,7 @@
 -- A call that writes a list to two lent tables, and the answer of such a call that gives the list's run count.
 use Rattle.std.specs.Prelude.{ℕ, ◌≡◌, List, [], ◌∷◌}
-use Rattle.outcomes.specs.Outcome.{Outcome, done, shortTest, judge, mapDone, filled}
-use Rattle.outcomes.specs.Refusal.{refusalSays}
+use Rattle.outcomes.specs.Outcome.{Outcome, done, short_test, judge, map_done, filled}
+use Rattle.outcomes.specs.Refusal.{refusal_says}
 use Rattle.runs.specs.Runs.{Runs}
 use Rattle.runs.specs.declared.Written.{Written}
 use Rattle.runs.specs.declared.Written.TheVariants.{RunCount, Refused}
@@ -10,15 +10,15 @@ use Rattle.runs.specs.declared.Written.TheVariants.{RunCount, Refused}
 -- their first entries, or after a refusal what they had.
 pub record WritesList {A B : Type 0} (said : B → Outcome A) (result : Runs → A) (o : Outcome Runs)
     (starts images starts' images' : List ℕ) (answer : B) : Type 0 where
-  pub says : said answer ≡ mapDone result o
-  pub starts-at-exit : starts' ≡ filled (λ q. q.starts) o starts
-  pub images-at-exit : images' ≡ filled (λ q. q.images) o images
+  pub says : said answer ≡ map_done result o
+  pub starts_at_exit : starts' ≡ filled (λ q. q.starts) o starts
+  pub images_at_exit : images' ≡ filled (λ q. q.images) o images
 
 -- what each answer says: a run count, or the number and the place of a refusal
-abbrev pub writtenSays : Written → Outcome ℕ
-writtenSays (RunCount k) = done k
-writtenSays (Refused x) = refusalSays x
+abbrev pub written_says : Written → Outcome ℕ
+written_says (RunCount k) = done k
+written_says (Refused x) = refusal_says x
 
 -- test 8 by itself: the list q where both tables have at least k entries, and else 8 with k
-unfoldable pub ifRoom : ℕ → Runs → List ℕ → List ℕ → Outcome Runs
-ifRoom k q toStarts toImages = judge (shortTest k (toStarts ∷ toImages ∷ []) ∷ []) q
+unfoldable pub if_room : ℕ → Runs → List ℕ → List ℕ → Outcome Runs
+if_room k q to_starts to_images = judge (short_test k (to_starts ∷ to_images ∷ []) ∷ []) q

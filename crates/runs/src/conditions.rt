@@ -1,16 +1,16 @@
 // Tests 1, 4 and 5 of a run list, each by itself.
 ghost use Rattle.std.specs.Prelude.{◌≡◌, ◌<◌, length};
-ghost use Rattle.outcomes.specs.Search.{firstBelow};
-ghost use Rattle.runs.specs.Runs.{runs, imageEnd};
-ghost use Rattle.runs.specs.Check.{unmatched, unordered, outOfRange};
-ghost use Rattle.runs.specs.Parts.{Lasting, lowestOf};
+ghost use Rattle.outcomes.specs.Search.{first_below};
+ghost use Rattle.runs.specs.Runs.{runs, image_end};
+ghost use Rattle.runs.specs.Check.{unmatched, unordered, out_of_range};
+ghost use Rattle.runs.specs.Parts.{Lasting, lowest_of};
 
 use order::wide;
 
 // Where the image of run x ends.
 pub(crate) fn image_end(n: u32, starts: &[u32], images: &[u32], x: usize) -> u64
     requires { (x < length starts.now) × Lasting n (runs starts.now images.now) }
-    ensures { result ≡ imageEnd n (runs starts.now images.now) x }
+    ensures { result ≡ image_end n (runs starts.now images.now) x }
 {
     let end = order::entry_or(starts, x + 1, n);
     wide(images[x]) + wide(end - starts[x])
@@ -46,7 +46,7 @@ fn is_unordered(n: u32, starts: &[u32], x: usize) -> bool
 
 // The lowest run that test 4 refuses, or the number of runs.
 pub(crate) fn first_unordered(n: u32, starts: &[u32]) -> usize
-    ensures { result ≡ firstBelow (unordered n starts.now) (length starts.now) }
+    ensures { result ≡ first_below (unordered n starts.now) (length starts.now) }
 {
     let mut x = 0;
     while x < starts.len() {
@@ -61,7 +61,7 @@ pub(crate) fn first_unordered(n: u32, starts: &[u32]) -> usize
 // The lowest run that test 5 refuses, or the number of runs.
 pub(crate) fn first_out_of_range(n: u32, starts: &[u32], images: &[u32]) -> usize
     requires { Lasting n (runs starts.now images.now) }
-    ensures { result ≡ lowestOf (outOfRange n) (runs starts.now images.now) }
+    ensures { result ≡ lowest_of (out_of_range n) (runs starts.now images.now) }
 {
     let mut x = 0;
     while x < starts.len() {

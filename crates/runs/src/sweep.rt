@@ -2,7 +2,7 @@
 ghost use Rattle.std.specs.Prelude.{◌≡◌, ◌⊎◌, ◌<◌, ◌≤◌, length};
 ghost use Rattle.runs.specs.Runs.{runs};
 ghost use Rattle.runs.specs.Check.{overlaps};
-ghost use Rattle.runs.specs.Parts.{Lasting, Ordered, OverlapFound, lowestOf, meets};
+ghost use Rattle.runs.specs.Parts.{Lasting, Ordered, OverlapFound, lowest_of, meets};
 
 use super::conditions;
 use order::wide;
@@ -47,7 +47,7 @@ fn meets_another(
 // tell all there is to know of the others.
 fn lowest_overlap(n: u32, starts: &[u32], images: &[u32], order: &[u32]) -> usize
     requires { Lasting n (runs starts.now images.now) × Ordered (runs starts.now images.now) order.now }
-    ensures { result ≡ lowestOf (overlaps n) (runs starts.now images.now) }
+    ensures { result ≡ lowest_of (overlaps n) (runs starts.now images.now) }
 {
     let mut lowest = starts.len();
     let mut reached: u64 = 0;

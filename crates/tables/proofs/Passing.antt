@@ -1,9 +1,9 @@
 -- The tests of 9 to 12 and the facts that they stand for.
 use Rattle.std.proofs.Common.{◌≡◌, ℕ, ◌+◌, ◌<◌, ◌≤◌, Bool, true, false, not, ◌||◌, eqb, ltb, leb, length, sym, refl, ◌∙◌, arith, ltb-false, le-ltb, lt-ltb, eq-eqb, ne_eqb, eqb-true, le-leb, leb-false}
 use borrow.Author.Tests.{lt-leb, eqb-false, not-false}
-use Rattle.order.proofs.Laws.{or-false}
+use Rattle.order.proofs.Laws.{or_false}
 use Rattle.runs.specs.Runs.{start_of, image_of, carry}
-use Rattle.tables.specs.Tables.{Links, Tables, size_of, holderOf, columns, unequal, maxIntervals, misshapen, mismatch, end_at, outside, unheld, broken}
+use Rattle.tables.specs.Tables.{Links, Tables, size_of, holder_of, columns, unequal, max_intervals, misshapen, mismatch, end_at, outside, unheld, broken}
 use Rattle.tables.specs.Parts.{Full, Shaped}
 
 -- 9 passed
@@ -12,18 +12,18 @@ unfolding misshapen
 shaped n t s q f =
     let k = size_of t.links in
     let e : misshapen n t ≡ false = sym q ∙ f in
-    let a = or-false (eqb n 0) _ e in
-    let b = or-false (eqb k 0) _ a.1 in
-    let c = or-false (unequal k (columns t)) _ b.1 in
-    let d = or-false (not (eqb k (length t.links.list.images))) _ c.0 in
-    let g = or-false (not (eqb k (length t.links.holders))) _ d.1 in
-    let h = or-false (not (eqb k (length t.lengths))) _ g.1 in
+    let a = or_false (eqb n 0) _ e in
+    let b = or_false (eqb k 0) _ a.1 in
+    let c = or_false (unequal k (columns t)) _ b.1 in
+    let d = or_false (not (eqb k (length t.links.list.images))) _ c.0 in
+    let g = or_false (not (eqb k (length t.links.holders))) _ d.1 in
+    let h = or_false (not (eqb k (length t.lengths))) _ g.1 in
     record {
       fits = e;
       places = omega (arith, eqb-false n 0 a.0);
       linked = record {
         some = omega (arith, eqb-false k 0 b.0);
-        few = ltb-false maxIntervals k c.1;
+        few = ltb-false max_intervals k c.1;
         full = record {
           imaged = sym (eqb-true k _ (not-false _ d.0));
           held = sym (eqb-true k _ (not-false _ g.0));
@@ -33,7 +33,7 @@ shaped n t s q f =
     }
 
 pub fitting : (n : ℕ) (t : Tables) → 0 < n → 0 < size_of t.links → Full t.links → length t.lengths ≡ size_of t.links
-    → size_of t.links ≤ maxIntervals → misshapen n t ≡ false
+    → size_of t.links ≤ max_intervals → misshapen n t ≡ false
 unfolding misshapen
 fitting n t a b c d e =
     let f = ne_eqb n 0 (λ z. omega arith) in
@@ -46,19 +46,19 @@ module _ (s e l : ℕ) where
   unfolding mismatch
   matching h q = simp (ne_eqb l 0 (λ z. omega arith), eq-eqb _ _ q)
 
-  pub matching-is : mismatch s e l ≡ false → (0 < l) × (s + l ≡ e)
+  pub matching_is : mismatch s e l ≡ false → (0 < l) × (s + l ≡ e)
   unfolding mismatch
-  matching-is f =
-      let a = or-false (eqb l 0) _ f in
+  matching_is f =
+      let a = or_false (eqb l 0) _ f in
       (omega (arith, eqb-false l 0 a.0), eqb-true (s + l) e (not-false _ a.1))
 
-  pub mismatch-empty : l ≡ 0 → mismatch s e l ≡ true
+  pub mismatch_empty : l ≡ 0 → mismatch s e l ≡ true
   unfolding mismatch
-  mismatch-empty h = simp (eq-eqb l 0 h)
+  mismatch_empty h = simp (eq-eqb l 0 h)
 
-  pub mismatch-end : (s + l ≡ e → ⊥) → mismatch s e l ≡ true
+  pub mismatch_end : (s + l ≡ e → ⊥) → mismatch s e l ≡ true
   unfolding mismatch
-  mismatch-end h = go (eqb l 0)
+  mismatch_end h = go (eqb l 0)
     where
       go : (b : Bool) → (b || not (eqb (s + l) e)) ≡ true
       go true = refl
@@ -66,9 +66,9 @@ module _ (s e l : ℕ) where
 
 module _ (n : ℕ) (t : Tables) (x i : ℕ) where
   -- 11
-  pub outside-far : n ≤ i → outside n t x i ≡ true
+  pub outside_far : n ≤ i → outside n t x i ≡ true
   unfolding outside
-  outside-far h = simp (le-leb _ _ h)
+  outside_far h = simp (le-leb _ _ h)
 
   pub outside_low : i < n → i < start_of t.links.list x → outside n t x i ≡ true
   unfolding outside
@@ -85,19 +85,19 @@ module _ (n : ℕ) (t : Tables) (x i : ℕ) where
   pub inside_is : outside n t x i ≡ false → (i < n) × (start_of t.links.list x ≤ i) × (i < end_at t x)
   unfolding outside
   inside_is e =
-      let a = or-false (leb n i) _ e in
-      let b = or-false (ltb i (start_of t.links.list x)) _ a.1 in
+      let a = or_false (leb n i) _ e in
+      let b = or_false (ltb i (start_of t.links.list x)) _ a.1 in
       (leb-false n i a.0, ltb-false i _ b.0, leb-false _ i b.1)
 
 module _ (n : ℕ) (k : Links) (x i : ℕ) where
   -- 12 for a move
-  pub broken-unheld : unheld k x ≡ true → broken n k x i ≡ true
+  pub broken_unheld : unheld k x ≡ true → broken n k x i ≡ true
   unfolding broken
-  broken-unheld h = simp h
+  broken_unheld h = simp h
 
-  pub broken-held : unheld k x ≡ false → (a b : ℕ) → a ≡ n → b ≡ carry k.list x i → leb a b ≡ broken n k x i
+  pub broken_held : unheld k x ≡ false → (a b : ℕ) → a ≡ n → b ≡ carry k.list x i → leb a b ≡ broken n k x i
   unfolding broken
-  broken-held h a b p q = simp (h, p, q)
+  broken_held h a b p q = simp (h, p, q)
 
   pub whole : unheld k x ≡ false → carry k.list x i < n → broken n k x i ≡ false
   unfolding broken
@@ -105,24 +105,24 @@ module _ (n : ℕ) (k : Links) (x i : ℕ) where
 
   pub whole_is : broken n k x i ≡ false → (unheld k x ≡ false) × (carry k.list x i < n)
   unfolding broken
-  whole_is e = let a = or-false (unheld k x) _ e in (a.0, leb-false _ _ a.1)
+  whole_is e = let a = or_false (unheld k x) _ e in (a.0, leb-false _ _ a.1)
 
 -- the holder's part of 12
 module _ (k : Links) (x : ℕ) where
-  pub unheld-index : size_of k ≤ holderOf k x → unheld k x ≡ true
+  pub unheld_index : size_of k ≤ holder_of k x → unheld k x ≡ true
   unfolding unheld
-  unheld-index h = simp (le-leb _ _ h)
+  unheld_index h = simp (le-leb _ _ h)
 
-  pub unheld-start : holderOf k x < size_of k → unheld k x ≡ ltb (image_of k.list x) (start_of k.list (holderOf k x))
+  pub unheld_start : holder_of k x < size_of k → unheld k x ≡ ltb (image_of k.list x) (start_of k.list (holder_of k x))
   unfolding unheld
-  unheld-start h = simp (lt-leb _ _ h)
+  unheld_start h = simp (lt-leb _ _ h)
 
-  pub held-is : unheld k x ≡ false → (holderOf k x < size_of k) × (start_of k.list (holderOf k x) ≤ image_of k.list x)
+  pub held_is : unheld k x ≡ false → (holder_of k x < size_of k) × (start_of k.list (holder_of k x) ≤ image_of k.list x)
   unfolding unheld
-  held-is e =
-      let a = or-false (leb (size_of k) (holderOf k x)) _ e in
+  held_is e =
+      let a = or_false (leb (size_of k) (holder_of k x)) _ e in
       (leb-false _ _ a.0, ltb-false _ _ a.1)
 
-  pub held : holderOf k x < size_of k → start_of k.list (holderOf k x) ≤ image_of k.list x → unheld k x ≡ false
+  pub held : holder_of k x < size_of k → start_of k.list (holder_of k x) ≤ image_of k.list x → unheld k x ≡ false
   unfolding unheld
   held h l = simp (lt-leb _ _ h, le-ltb _ _ l)

@@ -22,28 +22,28 @@ abbrev pub tables : List ℕ → List ℕ → List ℕ → List ℕ → Tables
 tables s i h l = record { links = links s i h; lengths = l }
 
 -- the links of a list: an interval's holder is the index of the interval that has its image
-abbrev pub linksOf : ℕ → Runs → Links
-linksOf n r = record { list = r; holders = map (run_at n r) r.images }
+abbrev pub links_of : ℕ → Runs → Links
+links_of n r = record { list = r; holders = map (run_at n r) r.images }
 
 -- the lengths of a list by its starts: the next start, or n, minus the start
-abbrev pub lengthsOf : ℕ → List ℕ → List ℕ
-lengthsOf n [] = []
-lengthsOf n (s ∷ ss) = (slice_index_or ss 0 n - s) ∷ lengthsOf n ss
+abbrev pub lengths_of : ℕ → List ℕ → List ℕ
+lengths_of n [] = []
+lengths_of n (s ∷ ss) = (slice_index_or ss 0 n - s) ∷ lengths_of n ss
 
 -- the tables of a list
 abbrev pub tables_of : ℕ → Runs → Tables
-tables_of n r = record { links = linksOf n r; lengths = lengthsOf n r.starts }
+tables_of n r = record { links = links_of n r; lengths = lengths_of n r.starts }
 
 -- K, the number of intervals
 abbrev pub size_of : Links → ℕ
 size_of k = count_of k.list
 
-abbrev pub holderOf : Links → ℕ → ℕ
-holderOf k x = slice_index k.holders x
+abbrev pub holder_of : Links → ℕ → ℕ
+holder_of k x = slice_index k.holders x
 
 -- the most intervals that tables may have
-abbrev pub maxIntervals : ℕ
-maxIntervals = 32768
+abbrev pub max_intervals : ℕ
+max_intervals = 32768
 
 -- the columns beside the starts, and whether one of them has not k entries
 abbrev pub columns : Tables → List (List ℕ)
@@ -55,14 +55,14 @@ unequal k (l ∷ ls) = not (k == length l) || unequal k ls
 
 -- All columns, the starts first; each of them by f; and each of one with the same of another. What holds for each column
 -- is said through these, so that no other place names them one by one.
-abbrev pub allColumns : Tables → List (List ℕ)
-allColumns t = t.links.list.starts ∷ columns t
+abbrev pub all_columns : Tables → List (List ℕ)
+all_columns t = t.links.list.starts ∷ columns t
 
-abbrev pub eachColumn : (List ℕ → List ℕ) → Tables → Tables
-eachColumn f t = tables (f t.links.list.starts) (f t.links.list.images) (f t.links.holders) (f t.lengths)
+abbrev pub each_column : (List ℕ → List ℕ) → Tables → Tables
+each_column f t = tables (f t.links.list.starts) (f t.links.list.images) (f t.links.holders) (f t.lengths)
 
-abbrev pub eachPair : (List ℕ → List ℕ → List ℕ) → Tables → Tables → Tables
-eachPair f t u =
+abbrev pub each_pair : (List ℕ → List ℕ → List ℕ) → Tables → Tables → Tables
+each_pair f t u =
     tables
     (f t.links.list.starts u.links.list.starts)
     (f t.links.list.images u.links.list.images)
@@ -70,22 +70,22 @@ eachPair f t u =
     (f t.lengths u.lengths)
 
 -- 9: n is 0, or the tables are empty, of unequal count, or have more entries than they may
-abbrev pub misshapenBy : ℕ → ℕ → List (List ℕ) → Bool
-misshapenBy n k others = n == 0 || (k == 0 || (unequal k others || nat_lt maxIntervals k))
+abbrev pub misshapen_by : ℕ → ℕ → List (List ℕ) → Bool
+misshapen_by n k others = n == 0 || (k == 0 || (unequal k others || nat_lt max_intervals k))
 
 unfoldable pub misshapen : ℕ → Tables → Bool
-misshapen n t = misshapenBy n (size_of t.links) (columns t)
+misshapen n t = misshapen_by n (size_of t.links) (columns t)
 
 -- 12, the part about a length: it is 0, or start and length together do not make the end
 unfoldable pub mismatch : ℕ → ℕ → ℕ → Bool
 mismatch s e l = l == 0 || not (s + l == e)
 
 -- the same of interval x, which ends where the next one starts, and the last one at n
-abbrev pub wrongLength : ℕ → List ℕ → List ℕ → ℕ → Bool
-wrongLength n starts lengths x = mismatch (slice_index starts x) (slice_index_or starts (suc x) n) (slice_index lengths x)
+abbrev pub wrong_length : ℕ → List ℕ → List ℕ → ℕ → Bool
+wrong_length n starts lengths x = mismatch (slice_index starts x) (slice_index_or starts (suc x) n) (slice_index lengths x)
 
-abbrev pub wrongAt : ℕ → Tables → ℕ → Bool
-wrongAt n t x = wrongLength n t.links.list.starts t.lengths x
+abbrev pub wrong_at : ℕ → Tables → ℕ → Bool
+wrong_at n t x = wrong_length n t.links.list.starts t.lengths x
 
 -- the end of interval x as it is read: its start plus its length
 abbrev pub end_at : Tables → ℕ → ℕ
@@ -97,28 +97,28 @@ outside n t x i = nat_le n i || (nat_lt i (start_of t.links.list x) || nat_le (e
 
 -- 12, the part about the holder: there is no such interval, or it starts above x's image
 unfoldable pub unheld : Links → ℕ → Bool
-unheld k x = nat_le (size_of k) (holderOf k x) || nat_lt (image_of k.list x) (start_of k.list (holderOf k x))
+unheld k x = nat_le (size_of k) (holder_of k x) || nat_lt (image_of k.list x) (start_of k.list (holder_of k x))
 
 -- 12 for a move: that part, or the place that it reaches is not below n
 unfoldable pub broken : ℕ → Links → ℕ → ℕ → Bool
 broken n k x i = unheld k x || nat_le n (carry k.list x i)
 
 -- the tests as rows of the paper's table
-abbrev pub shapeTest : ℕ → Tables → Test
-shapeTest n t = test 9 (misshapen n t) 0
+abbrev pub shape_test : ℕ → Tables → Test
+shape_test n t = test 9 (misshapen n t) 0
 
-abbrev pub indexTest : Links → ℕ → Test
-indexTest k x = test 10 (nat_le (size_of k) x) x
+abbrev pub index_test : Links → ℕ → Test
+index_test k x = test 10 (nat_le (size_of k) x) x
 
-abbrev pub lengthTest : ℕ → Tables → ℕ → Test
-lengthTest n t x = test 12 (wrongAt n t x) x
+abbrev pub length_test : ℕ → Tables → ℕ → Test
+length_test n t x = test 12 (wrong_at n t x) x
 
 -- the same of all intervals, with the lowest that it applies to
-abbrev pub allLengths : ℕ → Tables → Test
-allLengths n t = lowest 12 (wrongAt n t) (size_of t.links)
+abbrev pub all_lengths : ℕ → Tables → Test
+all_lengths n t = lowest 12 (wrong_at n t) (size_of t.links)
 
-abbrev pub placeTest : ℕ → Tables → ℕ → ℕ → Test
-placeTest n t x i = test 11 (outside n t x i) i
+abbrev pub place_test : ℕ → Tables → ℕ → ℕ → Test
+place_test n t x i = test 11 (outside n t x i) i
 
-abbrev pub brokenTest : ℕ → Links → ℕ → ℕ → Test
-brokenTest n k x i = test 12 (broken n k x i) x
+abbrev pub broken_test : ℕ → Links → ℕ → ℕ → Test
+broken_test n k x i = test 12 (broken n k x i) x

@@ -3,8 +3,8 @@
 mod measuring;
 
 ghost use Rattle.std.specs.Prelude.{◌≡◌, ◌<◌, length};
-ghost use Rattle.outcomes.specs.Search.{firstBelow};
-ghost use Rattle.tables.specs.Tables.{links, tables, misshapen, wrongLength, unheld, broken};
+ghost use Rattle.outcomes.specs.Search.{first_below};
+ghost use Rattle.tables.specs.Tables.{links, tables, misshapen, wrong_length, unheld, broken};
 ghost use Rattle.tables.specs.Parts.{Entered, Located};
 
 use order::wide;
@@ -43,7 +43,7 @@ pub fn is_misshapen(
 // Test 12 of the length of interval x.
 pub fn is_wrong_length(n: u32, starts: &[u32], lengths: &[u32], x: usize) -> bool
     requires { (x < length starts.now) × (x < length lengths.now) }
-    ensures { result ≡ wrongLength n starts.now lengths.now x }
+    ensures { result ≡ wrong_length n starts.now lengths.now x }
 {
     measuring::differs(starts[x], order::entry_or(starts, x + 1, n), lengths[x])
 }
@@ -52,7 +52,7 @@ pub fn is_wrong_length(n: u32, starts: &[u32], lengths: &[u32], x: usize) -> boo
 // it has seen a wrong length a second one looks for it.
 pub fn first_wrong_length(n: u32, starts: &[u32], lengths: &[u32]) -> usize
     requires { (0 < length starts.now) × (length lengths.now ≡ length starts.now) }
-    ensures { result ≡ firstBelow (wrongLength n starts.now lengths.now) (length starts.now) }
+    ensures { result ≡ first_below (wrong_length n starts.now lengths.now) (length starts.now) }
 {
     if !measuring::is_any_wrong(n, starts, lengths) {
         return starts.len();

@@ -1,7 +1,7 @@
 // Whether lengths are right: one, and all of them.
 ghost use Rattle.std.specs.Prelude.{◌≡◌, ◌<◌, length};
-ghost use Rattle.outcomes.specs.Search.{anyBelow};
-ghost use Rattle.tables.specs.Tables.{mismatch, wrongLength};
+ghost use Rattle.outcomes.specs.Search.{any_below};
+ghost use Rattle.tables.specs.Tables.{mismatch, wrong_length};
 
 // Whether a length is 0 or is not the end minus the start. Where the end lies above the start the difference does not wrap, and
 // where it does not the answer is settled; so 32 bits are enough.
@@ -16,7 +16,7 @@ pub(crate) fn differs(start: u32, end: u32, length: u32) -> bool
 // what is not so would have to be turned over.
 pub(crate) fn is_any_wrong(n: u32, starts: &[u32], lengths: &[u32]) -> bool
     requires { (0 < length starts.now) × (length lengths.now ≡ length starts.now) }
-    ensures { result ≡ anyBelow (wrongLength n starts.now lengths.now) (length starts.now) }
+    ensures { result ≡ any_below (wrong_length n starts.now lengths.now) (length starts.now) }
 {
     let last = starts.len() - 1;
     let mut right = true;

@@ -12,20 +12,20 @@ use mir.Syntax.{w64}
 use mir.Val.{SFits, to_z, of_z}
 use mir.ValLaws.{to_z-of_z}
 use borrow.Author.Tests.{le-ltb}
-use Rattle.text.specs.Text.{maxSize, decimal, negative, signed}
-use Rattle.text.proofs.Digits.{decimal-length}
+use Rattle.text.specs.Text.{max_size, decimal, negative, signed}
+use Rattle.text.proofs.Digits.{decimal_length}
 
-pub below-zero : (v : ℤ) → lt_z v (pos 0) ≡ negative v
-below-zero (pos v) = le-ltb v 0 (omega arith)
-below-zero (negsuc v) = refl
+pub below_zero : (v : ℤ) → lt_z v (pos 0) ≡ negative v
+below_zero (pos v) = le-ltb v 0 (omega arith)
+below_zero (negsuc v) = refl
 
 module _ (v : ℤ) (f : SFits w64 v) where
   -- the bits of v say v
   pub bits_back : to_z w64 (of_z w64 v) ≡ v
   bits_back = to_z-of_z w64 v f
 
-  pub bits-sign : lt_z (to_z w64 (of_z w64 v)) (pos 0) ≡ negative v
-  bits-sign = rw bits_back (below-zero v)
+  pub bits_sign : lt_z (to_z w64 (of_z w64 v)) (pos 0) ≡ negative v
+  bits_sign = rw bits_back (below_zero v)
 
   pub bits_positive : negative v ≡ false → T (non_neg (to_z w64 (of_z w64 v)))
   bits_positive e = rw bits_back (go v e)
@@ -35,30 +35,30 @@ module _ (v : ℤ) (f : SFits w64 v) where
       go (negsuc v) e = absurd (false≢true (sym e))
 
 -- 0 − v, for a small v below 0
-opposite-is : (v : ℤ) → negative v ≡ true → pos 0 -ℤ v ≡ pos (nat_abs v)
-opposite-is (pos v) e = absurd (false≢true e)
-opposite-is (negsuc v) e = ap pos (omega arith)
+opposite_is : (v : ℤ) → negative v ≡ true → pos 0 -ℤ v ≡ pos (nat_abs v)
+opposite_is (pos v) e = absurd (false≢true e)
+opposite_is (negsuc v) e = ap pos (omega arith)
 
-module _ (v : ℤ) (f : SFits w64 v) (small : nat_abs v < maxSize) (e : negative v ≡ true) where
-  opposite-bits : pos 0 -ℤ to_z w64 (of_z w64 v) ≡ pos (nat_abs v)
-  opposite-bits = rw (bits_back v f) (opposite-is v e)
+module _ (v : ℤ) (f : SFits w64 v) (small : nat_abs v < max_size) (e : negative v ≡ true) where
+  opposite_bits : pos 0 -ℤ to_z w64 (of_z w64 v) ≡ pos (nat_abs v)
+  opposite_bits = rw (bits_back v f) (opposite_is v e)
 
-  pub opposite-fits : SFits w64 (pos 0 -ℤ to_z w64 (of_z w64 v))
-  opposite-fits = rw opposite-bits (record { sfits = omega arith })
+  pub opposite_fits : SFits w64 (pos 0 -ℤ to_z w64 (of_z w64 v))
+  opposite_fits = rw opposite_bits (record { sfits = omega arith })
 
-  pub opposite-back : to_z w64 (of_z w64 (pos 0 -ℤ to_z w64 (of_z w64 v))) ≡ pos (nat_abs v)
-  opposite-back = to_z-of_z w64 _ opposite-fits ∙ opposite-bits
+  pub opposite_back : to_z w64 (of_z w64 (pos 0 -ℤ to_z w64 (of_z w64 v))) ≡ pos (nat_abs v)
+  opposite_back = to_z-of_z w64 _ opposite_fits ∙ opposite_bits
 
 -- the text of an integer, by its sign
-below-text : (v : ℤ) → negative v ≡ true → signed v ≡ 45 ∷ decimal (nat_abs v)
+below_text : (v : ℤ) → negative v ≡ true → signed v ≡ 45 ∷ decimal (nat_abs v)
 unfolding signed
-below-text (pos v) e = absurd (false≢true e)
-below-text (negsuc v) e = refl
+below_text (pos v) e = absurd (false≢true e)
+below_text (negsuc v) e = refl
 
-above-text : (v : ℤ) → negative v ≡ false → signed v ≡ decimal (nat_abs v)
+above_text : (v : ℤ) → negative v ≡ false → signed v ≡ decimal (nat_abs v)
 unfolding signed
-above-text (pos v) e = refl
-above-text (negsuc v) e = absurd (false≢true (sym e))
+above_text (pos v) e = refl
+above_text (negsuc v) e = absurd (false≢true (sym e))
 
 -- and by the sign and the size that its bits say
 module _ (v : ℤ) (f : SFits w64 v) (size : ℕ) (b : Bool)
@@ -66,16 +66,16 @@ module _ (v : ℤ) (f : SFits w64 v) (size : ℕ) (b : Bool)
   size_is : nat_abs v ≡ size
   size_is = sym (sized ∙ ap nat_abs (bits_back v f))
 
-  sign-is : negative v ≡ b
-  sign-is = sym (says ∙ ap negative (bits_back v f))
+  sign_is : negative v ≡ b
+  sign_is = sym (says ∙ ap negative (bits_back v f))
 
-  pub signed-minus : b ≡ true → signed v ≡ (45 ∷ []) ++ decimal size
-  signed-minus e = below-text v (sign-is ∙ e) ∙ rw size_is
+  pub signed_minus : b ≡ true → signed v ≡ (45 ∷ []) ++ decimal size
+  signed_minus e = below_text v (sign_is ∙ e) ∙ rw size_is
 
-  pub signed-plus : b ≡ false → signed v ≡ decimal size
-  signed-plus e = above-text v (sign-is ∙ e) ∙ rw size_is
+  pub signed_plus : b ≡ false → signed v ≡ decimal size
+  signed_plus e = above_text v (sign_is ∙ e) ∙ rw size_is
 
-pub signed-length : (v : ℤ) → nat_abs v < maxSize → length (signed v) ≤ 11
+pub signed_length : (v : ℤ) → nat_abs v < max_size → length (signed v) ≤ 11
 unfolding signed
-signed-length (pos v) h = omega (arith, decimal-length v h)
-signed-length (negsuc v) h = omega (arith, decimal-length (nat_abs (negsuc v)) h)
+signed_length (pos v) h = omega (arith, decimal_length v h)
+signed_length (negsuc v) h = omega (arith, decimal_length (nat_abs (negsuc v)) h)

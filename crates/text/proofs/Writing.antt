@@ -16,20 +16,20 @@ wrote_nothing page at h =
     record { text = rw e (sym (take-append-drop at page)); till = omega arith; inside = h }
 
 -- a text at the page's start
-pub wrote-start : (page s page' : List ℕ) (end : ℕ) → length s ≤ length page → end ≡ length s → page' ≡ s ++ drop (length s) page → Wrote page 0 s page' end
+pub wrote_start : (page s page' : List ℕ) (end : ℕ) → length s ≤ length page → end ≡ length s → page' ≡ s ++ drop (length s) page → Wrote page 0 s page' end
 unfolding overlaid
-wrote-start page s page' end r e f =
+wrote_start page s page' end r e f =
     let z : 0 + length s ≡ length s = omega arith in
     record { text = f ∙ rw z; till = e ∙ sym z; inside = omega arith }
 
 -- one byte
-pub wrote-byte : (page : List ℕ) (at b : ℕ) → at < length page → Wrote page at (b ∷ []) (set page at b) (at + 1)
+pub wrote_byte : (page : List ℕ) (at b : ℕ) → at < length page → Wrote page at (b ∷ []) (set page at b) (at + 1)
 unfolding overlaid
-wrote-byte page at b h = record { text = set_split page at b h ∙ rw add-one; till = refl; inside = omega arith }
+wrote_byte page at b h = record { text = set_split page at b h ∙ rw add-one; till = refl; inside = omega arith }
 
-pub length-overlaid : (page : List ℕ) (at : ℕ) (s : List ℕ) → at + length s ≤ length page → length (overlaid page at s) ≡ length page
+pub length_overlaid : (page : List ℕ) (at : ℕ) (s : List ℕ) → at + length s ≤ length page → length (overlaid page at s) ≡ length page
 unfolding overlaid
-length-overlaid page at s h =
+length_overlaid page at s h =
     simp (length-append, length-drop, length-take-le at page (omega arith)) (omega arith)
 
 -- a list whose first part is known by its length
@@ -37,10 +37,10 @@ drop_past : (x rest : List ℕ) (k m : ℕ) → length x ≡ k → drop (k + m) 
 drop_past x rest k m e = rw (← e) (drop-append-add x rest m)
 
 -- a second text on what the first one left
-overlaid-on : (page : List ℕ) (at : ℕ) (s s' : List ℕ) → at ≤ length page
+overlaid_on : (page : List ℕ) (at : ℕ) (s s' : List ℕ) → at ≤ length page
     → overlaid (overlaid page at s) (at + length s) s' ≡ overlaid page at (s ++ s')
 unfolding overlaid
-overlaid-on page at s s' h =
+overlaid_on page at s s' h =
     let x = take at page ++ s in
     let rest = drop (at + length s) page in
     let whole : take at page ++ (s ++ rest) ≡ x ++ rest = sym (append_assoc (take at page) s rest) in
@@ -57,18 +57,18 @@ module _ (page : List ℕ) (at : ℕ) (s s' : List ℕ) (f : Fits page at (s ++ 
   sum = length-append s s'
 
   -- room for two texts is room for the first, and afterwards for the second
-  pub fits-first : Fits page at s
-  fits-first = record { room = omega (arith, f.room, sum) }
+  pub fits_first : Fits page at s
+  fits_first = record { room = omega (arith, f.room, sum) }
 
   module _ (page' : List ℕ) (m : ℕ) (w : Wrote page at s page' m) where
-    pub fits-second : Fits page' m s'
-    fits-second = record {
-      room = rw (w.text, length-overlaid page at s (omega (arith, f.room, sum))) (omega (arith, f.room, sum, w.till));
+    pub fits_second : Fits page' m s'
+    fits_second = record {
+      room = rw (w.text, length_overlaid page at s (omega (arith, f.room, sum))) (omega (arith, f.room, sum, w.till));
     }
 
-    pub wrote-both : (page'' : List ℕ) (e : ℕ) → Wrote page' m s' page'' e → Wrote page at (s ++ s') page'' e
-    wrote-both page'' e v = record {
-      text = v.text ∙ rw (w.text, w.till) (overlaid-on page at s s' (omega (arith, f.room)));
+    pub wrote_both : (page'' : List ℕ) (e : ℕ) → Wrote page' m s' page'' e → Wrote page at (s ++ s') page'' e
+    wrote_both page'' e v = record {
+      text = v.text ∙ rw (w.text, w.till) (overlaid_on page at s s' (omega (arith, f.room)));
       till = omega (arith, v.till, w.till, sum);
-      inside = omega (arith, v.inside, ap length w.text, length-overlaid page at s (omega (arith, f.room, sum)));
+      inside = omega (arith, v.inside, ap length w.text, length_overlaid page at s (omega (arith, f.room, sum)));
     }

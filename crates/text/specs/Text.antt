@@ -21,8 +21,8 @@ signed (pos v) = decimal v
 signed (negsuc v) = 45 ∷ decimal (suc v)
 
 -- integers are written whose size has at most 32 bits, as that of a difference of two such numbers
-abbrev pub maxSize : ℕ
-maxSize = 4294967296
+abbrev pub max_size : ℕ
+max_size = 4294967296
 
 -- fields with a space between them, and a line feed at the end
 abbrev pub line : List (List ℕ) → List ℕ
@@ -31,12 +31,12 @@ line (field ∷ []) = field ++ (10 ∷ [])
 line (field ∷ next ∷ fields) = (field ++ (32 ∷ [])) ++ line (next ∷ fields)
 
 -- two numbers with a space between them, and the byte after them
-abbrev pub pairText : ℕ → ℕ → ℕ → List ℕ
-pairText v w after = (decimal v ++ (32 ∷ [])) ++ (decimal w ++ (after ∷ []))
+abbrev pub pair_text : ℕ → ℕ → ℕ → List ℕ
+pair_text v w after = (decimal v ++ (32 ∷ [])) ++ (decimal w ++ (after ∷ []))
 
 -- the line of a refusal: the word `refused`, the number and the place
-abbrev pub refusalText : ℕ → ℕ → List ℕ
-refusalText number place = line ((114 ∷ 101 ∷ 102 ∷ 117 ∷ 115 ∷ 101 ∷ 100 ∷ []) ∷ decimal number ∷ decimal place ∷ [])
+abbrev pub refusal_text : ℕ → ℕ → List ℕ
+refusal_text number place = line ((114 ∷ 101 ∷ 102 ∷ 117 ∷ 115 ∷ 101 ∷ 100 ∷ []) ∷ decimal number ∷ decimal place ∷ [])
 
 -- the texts of several numbers, one after the other
 abbrev pub texts : (ℕ → List ℕ) → List ℕ → List ℕ

@@ -5,7 +5,7 @@
 mod numbers;
 
 ghost use Rattle.std.specs.Prelude.{[], ◌∷◌, ◌++◌, ◌<◌, nat_abs};
-ghost use Rattle.text.specs.Text.{maxSize, decimal as Text·decimal, signed as Text·signed, pairText, refusalText};
+ghost use Rattle.text.specs.Text.{max_size, decimal as Text·decimal, signed as Text·signed, pair_text, refusal_text};
 ghost use Rattle.text.specs.Page.{Fits, Wrote};
 
 use numbers::{decimal, put, signed};
@@ -21,7 +21,7 @@ pub fn field(page: &mut [u8], at: usize, v: u32, after: u8) -> usize
 
 // The same for an integer.
 pub fn signed_field(page: &mut [u8], at: usize, v: i64, after: u8) -> usize
-    requires { (nat_abs v < maxSize) × Fits page.old at (Text·signed v ++ (after ∷ [])) }
+    requires { (nat_abs v < max_size) × Fits page.old at (Text·signed v ++ (after ∷ [])) }
     ensures { Wrote page.old at (Text·signed v ++ (after ∷ [])) page.new result }
 {
     let end = signed(page, at, v);
@@ -30,8 +30,8 @@ pub fn signed_field(page: &mut [u8], at: usize, v: i64, after: u8) -> usize
 
 // Writes two numbers with a space between them, and the byte after them.
 pub fn pair(page: &mut [u8], at: usize, v: u32, w: u32, after: u8) -> usize
-    requires { Fits page.old at (pairText v w after) }
-    ensures { Wrote page.old at (pairText v w after) page.new result }
+    requires { Fits page.old at (pair_text v w after) }
+    ensures { Wrote page.old at (pair_text v w after) page.new result }
 {
     let next = field(page, at, v, 32);
     field(page, next, w, after)
@@ -39,8 +39,8 @@ pub fn pair(page: &mut [u8], at: usize, v: u32, w: u32, after: u8) -> usize
 
 // Writes a refusal's line at the page's start.
 pub fn refusal(page: &mut [u8], number: u32, place: u32) -> usize
-    requires { Fits page.old 0 (refusalText number place) }
-    ensures { Wrote page.old 0 (refusalText number place) page.new result }
+    requires { Fits page.old 0 (refusal_text number place) }
+    ensures { Wrote page.old 0 (refusal_text number place) page.new result }
 {
     let next = bytes::copy(b"refused ", page);
     pair(page, next, number, place, 10)

@@ -1,6 +1,6 @@
 // Numbers and integers written on a page, as decimal digits.
 ghost use Rattle.std.specs.Prelude.{[], ◌∷◌, ◌≡◌, ◌<◌, nat_abs};
-ghost use Rattle.text.specs.Text.{maxSize, decimal as Text·decimal, signed as Text·signed, negative};
+ghost use Rattle.text.specs.Text.{max_size, decimal as Text·decimal, signed as Text·signed, negative};
 ghost use Rattle.text.specs.Page.{Fits, Wrote};
 
 // Writes one byte at `at`, and returns where to go on.
@@ -34,7 +34,7 @@ fn is_negative(v: i64) -> bool
 
 // The size of v.
 fn magnitude(v: i64) -> u64
-    requires { nat_abs v < maxSize }
+    requires { nat_abs v < max_size }
     ensures { result ≡ nat_abs v }
 {
     if v < 0 {
@@ -45,7 +45,7 @@ fn magnitude(v: i64) -> u64
 
 // Writes v, with its sign where it is below 0.
 pub(crate) fn signed(page: &mut [u8], at: usize, v: i64) -> usize
-    requires { (nat_abs v < maxSize) × Fits page.old at (Text·signed v) }
+    requires { (nat_abs v < max_size) × Fits page.old at (Text·signed v) }
     ensures { Wrote page.old at (Text·signed v) page.new result }
 {
     let size = magnitude(v);

@@ -8,7 +8,7 @@ mod reaching;
 mod walk;
 
 ghost use Rattle.std.specs.Prelude.{◌≡◌, ◌+◌, ◌≤◌, ◌<◌, length};
-ghost use Rattle.tables.specs.Tables.{links, tables, maxIntervals};
+ghost use Rattle.tables.specs.Tables.{links, tables, max_intervals};
 ghost use Rattle.walks.specs.Move.{passed, unfindable, step_of, Finds, MovesOnce, MovesOften};
 ghost use Rattle.walks.specs.Parts.{Movable};
 
@@ -111,7 +111,7 @@ pub fn is_unfindable(n: u32, starts: &[u32], i: u32) -> bool
 
 // The interval that a walk from interval x for place i reaches, for our own crates.
 pub fn reach_from(starts: &[u32], x: u32, i: u32) -> u32
-    requires { (x < length starts.now) × (length starts.now ≤ maxIntervals) }
+    requires { (x < length starts.now) × (length starts.now ≤ max_intervals) }
     ensures { result ≡ x + passed starts.now x i }
 {
     let walked = reaching::walk_from(starts, x, i);

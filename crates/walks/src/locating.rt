@@ -1,7 +1,7 @@
 // The tests that a move begins with, and the step that stands at a place.
 ghost use Rattle.std.specs.Prelude.{◌≡◌, ◌≤◌, ◌<◌, length, get_or};
 ghost use Rattle.tables.specs.Tables.{tables};
-ghost use Rattle.walks.specs.Move.{movedSays, moves_of, standAt};
+ghost use Rattle.walks.specs.Move.{moved_says, moves_of, stand_at};
 
 use super::{Moved, Step};
 use outcomes::Refusal;
@@ -9,7 +9,7 @@ use outcomes::Refusal;
 // Standing at place i of interval x, after walks of this count.
 pub(crate) fn stand(starts: &[u32], x: u32, i: u32, count: u64) -> Step
     requires { (x < length starts.now) × (get_or starts.now x 0 ≤ i) }
-    ensures { result ≡ standAt starts.now x i count }
+    ensures { result ≡ stand_at starts.now x i count }
 {
     Step {
         place: i,
@@ -29,7 +29,7 @@ pub(crate) fn locate(
     x: u32,
     i: u32,
 ) -> Moved
-    ensures { movedSays result ≡ moves_of n (tables starts.now images.now holders.now lengths.now) 0 x i }
+    ensures { moved_says result ≡ moves_of n (tables starts.now images.now holders.now lengths.now) 0 x i }
 {
     if tables::is_misshapen(n, starts, images, holders, lengths) {
         return Moved::Refused(Refusal::TableShape);

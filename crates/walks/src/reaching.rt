@@ -1,7 +1,7 @@
 // How far a walk along the starts goes, and how many of them it reads.
 ghost use Rattle.std.specs.Prelude.{◌≡◌, ◌≤◌, ◌<◌, length};
-ghost use Rattle.tables.specs.Tables.{maxIntervals};
-ghost use Rattle.walks.specs.Move.{readTo, walkedTo};
+ghost use Rattle.tables.specs.Tables.{max_intervals};
+ghost use Rattle.walks.specs.Move.{read_to, walked_to};
 
 // The interval that a walk reaches, and how many starts it reads.
 #[derive(Drop)]
@@ -15,8 +15,8 @@ pub struct Walked {
 // otherwise x and the number of starts passed, which is counted from 0, so that x is added once, at the end. Each way to return
 // has its own number of starts read, so that nothing is left to work out where none is passed.
 pub(crate) fn walk_from(starts: &[u32], x: u32, i: u32) -> Walked
-    requires { (x < length starts.now) × (length starts.now ≤ maxIntervals) }
-    ensures { result ≡ walkedTo starts.now x i }
+    requires { (x < length starts.now) × (length starts.now ≤ max_intervals) }
+    ensures { result ≡ walked_to starts.now x i }
 {
     let next = x as usize + 1;
     if starts.len() <= next {
@@ -42,8 +42,8 @@ pub(crate) fn walk_from(starts: &[u32], x: u32, i: u32) -> Walked
 // goes past, and the start behind the interval reached, which ends the walk; behind the last interval there is none. The indexes
 // tell it, so that no loop has a counter for it.
 fn read_to(intervals: usize, from: u32, reached: u32) -> u64
-    requires { (from ≤ reached) × (reached < intervals) × (intervals ≤ maxIntervals) }
-    ensures { result ≡ readTo intervals from reached }
+    requires { (from ≤ reached) × (reached < intervals) × (intervals ≤ max_intervals) }
+    ensures { result ≡ read_to intervals from reached }
 {
     let past = (reached - from) as u64;
     if reached as usize + 1 < intervals {

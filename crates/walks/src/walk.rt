@@ -1,9 +1,9 @@
 // A move from a place that lies in its interval, and many of them.
 ghost use Rattle.std.specs.Prelude.{◌≡◌};
 ghost use Rattle.tables.specs.Tables.{links, tables};
-ghost use Rattle.walks.specs.Move.{movedSays, moves_of};
+ghost use Rattle.walks.specs.Move.{moved_says, moves_of};
 ghost use Rattle.tables.specs.Parts.{Located, Stands};
-ghost use Rattle.walks.specs.Parts.{advanceOf, leaveOf, Starting};
+ghost use Rattle.walks.specs.Parts.{advance_of, leave_of, Starting};
 
 use super::{Moved, locating};
 use outcomes::Refusal;
@@ -18,7 +18,7 @@ pub(crate) fn advance(
     i: u32,
 ) -> Moved
     requires { Located n (links starts.now images.now holders.now) x i }
-    ensures { movedSays result ≡ advanceOf n (links starts.now images.now holders.now) x i }
+    ensures { moved_says result ≡ advance_of n (links starts.now images.now holders.now) x i }
 {
     if tables::is_broken(n, starts, images, holders, x, i) {
         return Moved::Refused(Refusal::BrokenInterval(x));
@@ -37,7 +37,7 @@ fn leave(
     i: u32,
 ) -> Moved
     requires { Stands n (tables starts.now images.now holders.now lengths.now) x i }
-    ensures { movedSays result ≡ leaveOf n (tables starts.now images.now holders.now lengths.now) x i }
+    ensures { moved_says result ≡ leave_of n (tables starts.now images.now holders.now lengths.now) x i }
 {
     if tables::is_wrong_length(n, starts, lengths, x as usize) {
         return Moved::Refused(Refusal::BrokenInterval(x));
@@ -58,7 +58,7 @@ pub(crate) fn moves_from(
     m: u32,
 ) -> Moved
     requires { Starting n (tables starts.now images.now holders.now lengths.now) x i }
-    ensures { movedSays result ≡ moves_of n (tables starts.now images.now holders.now lengths.now) m x i }
+    ensures { moved_says result ≡ moves_of n (tables starts.now images.now holders.now lengths.now) m x i }
 {
     let mut place = i;
     let mut interval = x;

@@ -2,8 +2,8 @@
 use Rattle.std.specs.Prelude.{ℕ}
 use Rattle.outcomes.specs.Outcome.{Outcome, judge}
 use Rattle.tables.specs.Tables.{Tables}
-use Rattle.weights.specs.Under.{stretchTests, underCount}
+use Rattle.weights.specs.Under.{stretch_tests, under_count}
 
 -- after 9 and 10: 12 and the size
-unfoldable pub sizeUnder : ℕ → Tables → ℕ → Outcome ℕ
-sizeUnder n t x = judge (stretchTests n t x) (underCount t x)
+unfoldable pub size_under : ℕ → Tables → ℕ → Outcome ℕ
+size_under n t x = judge (stretch_tests n t x) (under_count t x)

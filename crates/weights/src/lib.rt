@@ -7,8 +7,8 @@ ghost use Rattle.std.specs.Prelude.{◌≡◌, ◌≤◌, false, eqb};
 ghost use Rattle.outcomes.specs.Outcome.{◌then◌else◌};
 ghost use Rattle.tables.specs.Tables.{links, tables, unheld};
 ghost use Rattle.tables.specs.Parts.{Indexed, Entered};
-ghost use Rattle.weights.specs.Under.{weighedSays, stretchedSays, underFirst, weightOf, underOf, startsUnderOf};
-ghost use Rattle.weights.specs.Parts.{sizeUnder};
+ghost use Rattle.weights.specs.Under.{weighed_says, stretched_says, under_first, weight_of, under_of, starts_under_of};
+ghost use Rattle.weights.specs.Parts.{size_under};
 
 use order::wide;
 use outcomes::Refusal;
@@ -46,7 +46,7 @@ fn one_unless_equal(start: u32, image: u32) -> usize
 fn first(starts: &[u32], images: &[u32], holders: &[u32], x: u32) -> usize
     requires entered { Entered (links starts.now images.now holders.now) x }
     requires x_value { unheld (links starts.now images.now holders.now) x ≡ false }
-    ensures { result ≡ underFirst (links starts.now images.now holders.now) x }
+    ensures { result ≡ under_first (links starts.now images.now holders.now) x }
 {
     let at = x as usize;
     let h = holders[at] as usize;
@@ -56,7 +56,7 @@ fn first(starts: &[u32], images: &[u32], holders: &[u32], x: u32) -> usize
 // Test 12 and the stretch's size.
 fn size(n: u32, starts: &[u32], images: &[u32], holders: &[u32], lengths: &[u32], x: u32) -> Weighed
     requires { Indexed n (tables starts.now images.now holders.now lengths.now) x }
-    ensures { weighedSays result ≡ sizeUnder n
+    ensures { weighed_says result ≡ size_under n
         (tables starts.now images.now holders.now lengths.now) x }
 {
     let at = x as usize;
@@ -83,7 +83,7 @@ pub fn weight(
     lengths: &[u32],
     x: u32,
 ) -> Weighed
-    ensures { weighedSays result ≡ weightOf n
+    ensures { weighed_says result ≡ weight_of n
         (tables starts.now images.now holders.now lengths.now) x }
 {
     if tables::is_misshapen(n, starts, images, holders, lengths) {
@@ -104,7 +104,7 @@ pub fn under(
     lengths: &[u32],
     x: u32,
 ) -> Stretched
-    ensures { stretchedSays result ≡ underOf n
+    ensures { stretched_says result ≡ under_of n
         (tables starts.now images.now holders.now lengths.now) x }
 {
     match weight(n, starts, images, holders, lengths, x) {
@@ -125,7 +125,7 @@ pub fn starts_under<'a>(
     lengths: &[u32],
     x: u32,
 ) -> &'a [u32]
-    ensures { result.now ≡ startsUnderOf n
+    ensures { result.now ≡ starts_under_of n
         (tables starts.now images.now holders.now lengths.now) x }
 {
     match under(n, starts, images, holders, lengths, x) {

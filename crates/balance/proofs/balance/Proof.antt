@@ -3,12 +3,12 @@ use borrow.Author.Rules.{rules}
 use mathlib.Core.Path.{◌≡◌, sym, subst}
 use lib.Seq.{length-take-le}
 use Rattle.runs.specs.Runs.{Runs, runs}
-use Rattle.plans.specs.Plan.{noLimit, Plans, CutsFound}
+use Rattle.plans.specs.Plan.{no_limit, Plans, CutsFound}
 use Rattle.plans.specs.declared.Planned.{Planned}
 use Rattle.plans.proofs.Outcomes.{clearable}
-use Rattle.plans.proofs.Fitted.{found-planned}
+use Rattle.plans.proofs.Fitted.{found_planned}
 use Rattle.balance.specs.Lent.{Lent, lent}
-use Rattle.balance.proofs.Outcomes.{plan-refused, plan-fillable, plan-filled}
+use Rattle.balance.proofs.Outcomes.{plan_refused, plan_fillable, plan_filled}
 use Rattle.balance.proofs.balance.Statement.{statement}
 use Rattle.balance.proofs.balance.Tie as tie
 
@@ -38,9 +38,9 @@ lent_of a =
 
 -- what a plan promises, where it is known which
 promised : (c : tie.After-plan) (p : Planned) → c.plan.result ≡ p → let a = start c in
-    Plans a.args.n (list_of a) noLimit a.args.d a.args.working.now c.plan.new.1.1.1.1.1.0 p
+    Plans a.args.n (list_of a) no_limit a.args.d a.args.working.now c.plan.new.1.1.1.1.1.0 p
 promised c p e = let a = start c in
-    subst (λ (q : Planned). Plans a.args.n (list_of a) noLimit a.args.d a.args.working.now
+    subst (λ (q : Planned). Plans a.args.n (list_of a) no_limit a.args.d a.args.working.now
     c.plan.new.1.1.1.1.1.0 q) e c.plan.ensures
 
 plan-requires : tie.Need-plan-requires
@@ -54,7 +54,7 @@ enum-known-planned-2 c = search rules
 
 -- the cuts that were found
 found : (c : tie.After-known-told2) → let a = start (plan-of c) in
-    CutsFound a.args.n (list_of a) noLimit a.args.d a.args.working.now (plan-of c).plan.new.1.1.1.1.1.0
+    CutsFound a.args.n (list_of a) no_limit a.args.d a.args.working.now (plan-of c).plan.new.1.1.1.1.1.0
     c.before.planned2.given.0.0
 found c = promised (plan-of c) _ c.before.planned2.given.1
 
@@ -69,14 +69,14 @@ fill-tables-requires : tie.Need-fill-tables-requires
 fill-tables-requires c κs =
     let k = c.before.before.before.before.before in
     let a = start (plan-of k) in
-    plan-fillable _ (list_of a) _ (lent_of a) _ _ (found k)
+    plan_fillable _ (list_of a) _ (lent_of a) _ _ (found k)
 
 clear-requires : tie.Need-clear-requires
 clear-requires c κs =
     let k = cut (filled c.before) in
     let g = plan-of k in
     let a = start g in
-    clearable _ (list_of a) _ _ (found-planned _ (list_of a) _ _ _ _ (found k)) _ g.plan.kept.1.1.1.1.1.0
+    clearable _ (list_of a) _ _ (found_planned _ (list_of a) _ _ _ _ (found k)) _ g.plan.kept.1.1.1.1.1.0
 
 same_length : tie.Need-same-length
 same_length c = search rules
@@ -85,10 +85,10 @@ returns : tie.Need-returns
 returns c =
     let g = planned c.before.before.before in
     let p = promised g _ c.before.planned.given.1 in
-    plan-refused _ (list_of (start g)) _ (lent_of (start g)) _ _ p.0 p.1
+    plan_refused _ (list_of (start g)) _ (lent_of (start g)) _ _ p.0 p.1
 
-same-length-2 : tie.Need-same-length-2
-same-length-2 c = search rules
+same_length_2 : tie.Need-same-length-2
+same_length_2 c = search rules
 
 same-length-3 : tie.Need-same-length-3
 same-length-3 c = search rules
@@ -102,16 +102,16 @@ same-length-5 c = search rules
 same-length-6 : tie.Need-same-length-6
 same-length-6 c = search rules
 
-returns-2 : tie.Need-returns-2
-returns-2 c =
+returns_2 : tie.Need-returns-2
+returns_2 c =
     let w = c.before.before in
     let f = filled w.before.before in
     let k = cut f in
     let a = start (plan-of k) in
-    plan-filled _ (list_of a) _ (lent_of a) _ _ (found k) _ _ _ f.fill-tables.ensures w.clear.ensures
+    plan_filled _ (list_of a) _ (lent_of a) _ _ (found k) _ _ _ f.fill-tables.ensures w.clear.ensures
 
-pub balance-spec : {M : Type 1} → statement M
-balance-spec =
+pub balance_spec : {M : Type 1} → statement M
+balance_spec =
     tie.close
     (tie.spec
     plan-requires
@@ -123,9 +123,9 @@ balance-spec =
     clear-requires
     same_length
     returns
-    same-length-2
+    same_length_2
     same-length-3
     same-length-4
     same-length-5
     same-length-6
-    returns-2)
+    returns_2)

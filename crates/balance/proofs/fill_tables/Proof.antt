@@ -1,4 +1,4 @@
--- `fill_tables` meets its contract: 8, or the tables that are written (`fills-short`, `fills-done`).
+-- `fill_tables` meets its contract: 8, or the tables that are written (`fills_short`, `fills_done`).
 use borrow.Author.Rules.{rules}
 use Prim.Native.Nat.{◌+◌}
 use mathlib.Core.Path.{◌≡◌, sym, ◌∙◌}
@@ -6,12 +6,12 @@ use mathlib.Core.Bool.{false}
 use mathlib.Core.List.{map}
 use native.Mathlib.Omega.{arith}
 use lib.ListN.{length}
-use Rattle.outcomes.specs.Outcome.{anyShort}
+use Rattle.outcomes.specs.Outcome.{any_short}
 use Rattle.outcomes.proofs.Judging.{none_below}
-use Rattle.merging.proofs.Merged.{merged-length}
+use Rattle.merging.proofs.Merged.{merged_length}
 use Rattle.runs.specs.Runs.{Runs, runs}
-use Rattle.tables.specs.Tables.{Tables, tables, allColumns}
-use Rattle.balance.proofs.Outcomes.{fills-short, fills-done}
+use Rattle.tables.specs.Tables.{Tables, tables, all_columns}
+use Rattle.balance.proofs.Outcomes.{fills_short, fills_done}
 use Rattle.balance.proofs.fill_tables.Statement.{statement}
 use Rattle.balance.proofs.fill_tables.Tie as tie
 
@@ -33,7 +33,7 @@ written c = c.before.before.before.before.before.before.before.before
 
 -- what the test says of the tables
 long : (c : tie.Else1) → let a = start c.before in
-    anyShort (length a.args.starts.now + length a.args.cuts.now) (allColumns (tables-of a)) ≡ false
+    any_short (length a.args.starts.now + length a.args.cuts.now) (all_columns (tables-of a)) ≡ false
 long c = sym c.before.is-short.ensures ∙ c.if1.false
 
 add-size : tie.Need-overflow-add-size
@@ -48,13 +48,13 @@ cast-t16 c = search rules
 returns : tie.Need-returns
 returns c =
     let a = start c.before in
-    fills-short _ _ (tables-of a) (sym c.before.is-short.ensures ∙ c.if1.true)
+    fills_short _ _ (tables-of a) (sym c.before.is-short.ensures ∙ c.if1.true)
 
 write-tables-requires : tie.Need-write-tables-requires
 write-tables-requires c κs =
     let e = passed c in
     let a = start e.before in
-    (a.pre.legal, a.pre.starts, none_below _ (map length (allColumns (tables-of a))) (long e))
+    (a.pre.legal, a.pre.starts, none_below _ (map length (all_columns (tables-of a))) (long e))
 
 cast-t27 : tie.Need-overflow-cast-t27
 cast-t27 c = search rules
@@ -62,8 +62,8 @@ cast-t27 c = search rules
 same_length : tie.Need-same-length
 same_length c = search rules
 
-same-length-2 : tie.Need-same-length-2
-same-length-2 c = search rules
+same_length_2 : tie.Need-same-length-2
+same_length_2 c = search rules
 
 same-length-3 : tie.Need-same-length-3
 same-length-3 c = search rules
@@ -71,16 +71,16 @@ same-length-3 c = search rules
 same-length-4 : tie.Need-same-length-4
 same-length-4 c = search rules
 
-returns-2 : tie.Need-returns-2
-returns-2 c =
+returns_2 : tie.Need-returns-2
+returns_2 c =
     let w = written c in
     let e = passed w.before in
     let a = start e.before in
-    fills-done _ _ (tables-of a) (long e) _ w.write-tables.ensures
-    (omega (arith, merged-length a.args.starts.now a.args.cuts.now))
+    fills_done _ _ (tables-of a) (long e) _ w.write-tables.ensures
+    (omega (arith, merged_length a.args.starts.now a.args.cuts.now))
 
-pub fill-tables-spec : {M : Type 1} → statement M
-fill-tables-spec =
+pub fill_tables_spec : {M : Type 1} → statement M
+fill_tables_spec =
     tie.close
     (tie.spec
     add-size
@@ -90,7 +90,7 @@ fill-tables-spec =
     write-tables-requires
     cast-t27
     same_length
-    same-length-2
+    same_length_2
     same-length-3
     same-length-4
-    returns-2)
+    returns_2)

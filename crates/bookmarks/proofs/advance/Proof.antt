@@ -47,7 +47,7 @@ use denote.Triple.Table.{entered, cited}
 use denote.Triple.Walked.{says, Stays, stay_ref, stay_dropped, walk_of, AllGo, Goes-dropped, Goes-ref}
 use denote.Triple.Walked.{Walks, ends_at, walked, walk_Meets}
 use denote.Exit.{yes}
-use Rattle.tables.specs.Tables.{tables as tablesIn}
+use Rattle.tables.specs.Tables.{tables as tables_in}
 use Rattle.bookmarks.specs.Bookmark.{Advances}
 use Rattle.bookmarks.specs.declared.Bookmark.{Bookmark}
 use Rattle.bookmarks.specs.declared.Marked.{Marked}
@@ -126,7 +126,7 @@ module _ {M : Type 1} {𝓤 : Ura M} (𝓛 : Logic 𝓤) (at_mem : Memory → SP
 
   -- what the contract says
   abbrev Said : Marked → Type 0
-  Said r = Advances n (tablesIn s₁.now s₂.now s₃.now s₄.now) h r.moved r.bookmark
+  Said r = Advances n (tables_in s₁.now s₂.now s₃.now s₄.now) h r.moved r.bookmark
 
   abbrev Post : Val → SProp 𝓤
   Post = (walk_of 𝓛 advance.ended stayed (advance.clauses 𝓛 at_mem run)).post ((κs, qs, tt, x, at), tt)
@@ -171,12 +171,12 @@ module _ {M : Type 1} {𝓤 : Ura M} (𝓛 : Logic 𝓤) (at_mem : Memory → SP
   known_of r = ex_e 𝓤 _ (λ ws. snd∗ 𝓤 (sem 𝓛 (lasts adv.ended lfts given_to ws)) (fact 𝓤 (Said r)))
 
   -- what is known of the parts of the callee's result
-  b-is : (r : Marked) (u : Val) → Is N.the_row r (u ∷ []) → Is T.the_row r.bookmark (T'.lowered r.bookmark ∷ [])
-  b-is r u is = (LL.owed N.the_type N'.the_laws r _ is).0
+  b_is : (r : Marked) (u : Val) → Is N.the_row r (u ∷ []) → Is T.the_row r.bookmark (T'.lowered r.bookmark ∷ [])
+  b_is r u is = (LL.owed N.the_type N'.the_laws r _ is).0
 
-  a-is : (r : Marked) (u : Val) → Is N.the_row r (u ∷ [])
+  a_is : (r : Marked) (u : Val) → Is N.the_row r (u ∷ [])
       → Is S.the_row r.moved (EL.vals S.the_type S'.the_laws r.moved)
-  a-is r u is = (LL.owed N.the_type N'.the_laws r _ is).1.0
+  a_is r u is = (LL.owed N.the_type N'.the_laws r _ is).1.0
 
   -- what is left at the end
   abbrev Tokens : Item 𝓤
@@ -265,12 +265,12 @@ module _ {M : Type 1} {𝓤 : Ura M} (𝓛 : Logic 𝓤) (at_mem : Memory → SP
         (ap only (LL.tells N.the_type N'.the_laws r _ is)) refl $
         assigns ! (of_opd ! (load ! (from ! (fld ! refl (stop !))) (look_in ! 7 (sub ! 0 refl (whole !)))))
         (from ! (hop ! (look ! 9 refl) (stop !)))
-        (store_raw ! 1 refl ((LL.lawful T.the_type T'.the_laws 𝓛).typed r.bookmark _ (b-is r u is)).0) $
+        (store_raw ! 1 refl ((LL.lawful T.the_type T'.the_laws 𝓛).typed r.bookmark _ (b_is r u is)).0) $
         assigns ! (of_opd ! (load ! (from ! (fld ! refl (stop !))) (look_in ! 7 (sub ! 1 refl (whole !)))))
         (from ! (stop !))
-        (init ! 21 refl ((EL.lawful S.the_type S'.the_laws 𝓛 tt).typed r.moved _ (a-is r u is)).0) $
+        (init ! 21 refl ((EL.lawful S.the_type S'.the_laws 𝓛 tt).typed r.moved _ (a_is r u is)).0) $
         -- the borrow is closed at the new bookmark
-        owned ! T.the_row (Is T.the_row) (LL.makes T.the_type T'.the_plain 𝓛) r.bookmark _ (b-is r u is) $
+        owned ! T.the_row (Is T.the_row) (LL.makes T.the_type T'.the_plain 𝓛) r.bookmark _ (b_is r u is) $
         move ! (2 ∷ 0 ∷ 3 ∷ 4 ∷ 5 ∷ []) $ closes ! tt T.the_row r.bookmark (T'.lowered r.bookmark ∷ []) b o $
         -- [obs; the borrow; κ's token; the callee's tokens; _8 at 4; …; _0 at 20]
         returns ! (look ! 20 refl) $ forget ! 4 refl $ forget ! 6 refl $ forget ! 8 refl $ forget ! 10 refl $
@@ -279,16 +279,16 @@ module _ {M : Type 1} {𝓤 : Ura M} (𝓛 : Logic 𝓤) (at_mem : Memory → SP
         move ! (14 ∷ 15 ∷ []) $ free1 ! $
         move ! (12 ∷ 13 ∷ []) $ free1 ! $ move ! (10 ∷ 11 ∷ []) $ free1 ! $ move ! (8 ∷ 9 ∷ []) $ free1 ! $
         move ! (6 ∷ 7 ∷ []) $ free1 ! $ move ! (4 ∷ 5 ∷ []) $ free1 ! $ free0 ! $
-        by ! (exits r e (a-is r u is)))))))))))))))))
+        by ! (exits r e (a_is r u is)))))))))))))))))
 
 module _ {M : Type 1} {𝓤 : Ura M} (𝓛 : Logic 𝓤) (mem : Memory → SProp 𝓤)
     (run : Routine → Fun 𝓤) where
   open 𝓛 use {H}
 
-  advance-walks : (C : Calls 𝓤 H) (Λ : Loops 𝓤 H) → FmC 𝓤 H 𝓛.laws C
+  advance_walks : (C : Calls 𝓤 H) (Λ : Loops 𝓤 H) → FmC 𝓤 H 𝓛.laws C
       → Triple 𝓤 (C #bookmarks·advanced) (Adv 𝓛 mem run)
       → Walks 𝓛 advance.ended stayed (WpFn 𝓤 H C Λ code.function) (advance.clauses 𝓛 mem run)
-  advance-walks C Λ fm known =
+  advance_walks C Λ fm known =
       walked 𝓛 advance.ended stayed (advance.clauses 𝓛 mem run) (WpFn 𝓤 H C Λ code.function)
       (λ κs. (uint_vals w32, (shr_slice_vals, (shr_slice_vals, (shr_slice_vals, (shr_slice_vals, (shr_vals, tt)))))))
       (λ κs. (
@@ -333,20 +333,20 @@ module _ {M : Type 1} {𝓤 : Ura M} (𝓛 : Logic 𝓤) (mem : Memory → SProp
     ),
   )
 
-advance-meets : {M : Type 1} {𝓤 : Ura M} (𝓛 : Logic 𝓤) →
+advance_meets : {M : Type 1} {𝓤 : Ura M} (𝓛 : Logic 𝓤) →
     (mem : Memory → SProp 𝓤) (run : Routine → Fun 𝓤) (𝓣 : Tables 𝓤 𝓛.H)
     → Triple 𝓤 (𝓣.C #bookmarks·advanced) (Adv 𝓛 mem run)
     → Meets 𝓛 advance.signature (WpFn 𝓤 𝓛.H 𝓣.C 𝓣.Λ code.function) (advance.spec 𝓛 mem run)
-advance-meets {𝓤 = 𝓤} 𝓛 mem run 𝓣 known =
+advance_meets {𝓤 = 𝓤} 𝓛 mem run 𝓣 known =
     walk_Meets 𝓛 advance.ended stayed (goes 𝓛 mem run) (advance.clauses 𝓛 mem run)
     (WpFn 𝓤 𝓛.H 𝓣.C 𝓣.Λ code.function) (WpFn-mono 𝓤 𝓛.H 𝓛.laws 𝓣 code.function)
-    (advance-walks 𝓛 mem run 𝓣.C 𝓣.Λ (fm_of 𝓤 𝓛.H 𝓛.laws 𝓣) known)
+    (advance_walks 𝓛 mem run 𝓣.C 𝓣.Λ (fm_of 𝓤 𝓛.H 𝓛.laws 𝓣) known)
 
-pub advance-spec : {M : Type 1} → stated.statement M
+pub advance_spec : {M : Type 1} → stated.statement M
 unfolding code.routine tables_of
-advance-spec 𝓤 𝓛 𝓜 𝓡 =
+advance_spec 𝓤 𝓛 𝓜 𝓡 =
     entered 𝓤 𝓛.H (triple_of 𝓛 advance.signature (advance.spec 𝓛 𝓜.mem 𝓡.run))
     (tables 𝓤 𝓛.H 𝓜 𝓡 code.env).C (tables 𝓤 𝓛.H 𝓜 𝓡 code.env).Λ #bookmarks·advance code.function (code.unfolded 𝓤 𝓛.H 𝓜 𝓡)
-    (advance-meets 𝓛 𝓜.mem 𝓡.run (tables_of 𝓤 𝓛.H 𝓜 (tables 𝓤 𝓛.H 𝓜 𝓡 code.env))
+    (advance_meets 𝓛 𝓜.mem 𝓡.run (tables_of 𝓤 𝓛.H 𝓜 (tables 𝓤 𝓛.H 𝓜 𝓡 code.env))
     (cited 𝓤 𝓛.H (Adv 𝓛 𝓜.mem 𝓡.run) 𝓜 𝓡 code.env #bookmarks·advanced adv-def.routine
     code.calls-bookmarks::advanced (adv-thm.met 𝓤 𝓛 𝓜 𝓡)))

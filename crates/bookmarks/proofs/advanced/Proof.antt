@@ -1,7 +1,7 @@
 -- `advanced` meets its contract: by whether the move is refused. All of the work is `move_query`'s and `mark`'s.
-use Rattle.bookmarks.proofs.Marks.{after-refused, bookmark-refused, bookmark-on}
-use Rattle.bookmarks.specs.Bookmark.{markAfter}
-use Rattle.walks.specs.Move.{movedSays}
+use Rattle.bookmarks.proofs.Marks.{after_refused, bookmark_refused, bookmark_on}
+use Rattle.bookmarks.specs.Bookmark.{mark_after}
+use Rattle.walks.specs.Move.{moved_says}
 use mathlib.Core.Path.{sym, ap, ◌∙◌}
 use borrow.Author.Rules.{rules}
 use Rattle.bookmarks.proofs.advanced.Statement.{statement}
@@ -22,16 +22,16 @@ mark-requires c κs = search rules
 returns : tie.Need-returns
 returns c =
     let m = c.before.before.before in
-    let f = bookmark-refused _ _ _ _ _ (ap movedSays (sym c.before.r.given.1) ∙ m.move-query.ensures) in
-    record { says = f; mark = after-refused _ _ _ _ f }
+    let f = bookmark_refused _ _ _ _ _ (ap moved_says (sym c.before.r.given.1) ∙ m.move-query.ensures) in
+    record { says = f; mark = after_refused _ _ _ _ f }
 
-returns-2 : tie.Need-returns-2
-returns-2 c =
+returns_2 : tie.Need-returns-2
+returns_2 c =
     let s = c.before.before in
-    let f = bookmark-on _ _ _ _ (ap movedSays (sym s.s.given.1) ∙ s.before.before.move-query.ensures) in
-    record { says = c.mark.ensures.says ∙ f; mark = c.mark.ensures.mark ∙ ap (markAfter _) f }
+    let f = bookmark_on _ _ _ _ (ap moved_says (sym s.s.given.1) ∙ s.before.before.move-query.ensures) in
+    record { says = c.mark.ensures.says ∙ f; mark = c.mark.ensures.mark ∙ ap (mark_after _) f }
 
-pub advanced-spec : {M : Type 1} → statement M
-advanced-spec =
+pub advanced_spec : {M : Type 1} → statement M
+advanced_spec =
     tie.close
-    (tie.spec move-query-requires enum-known-r enum-known-s mark-requires returns returns-2)
+    (tie.spec move-query-requires enum-known-r enum-known-s mark-requires returns returns_2)

@@ -4,7 +4,7 @@ use mathlib.Core.Path.{◌≡◌, refl, ◌∙◌}
 use native.Mathlib.Omega.{arith}
 use lib.ListN.{length}
 use Rattle.runs.specs.Runs.{runs}
-use Rattle.bounds.proofs.Passing.{Passed, passed_none, passed-few, passed-next, passed-all, from_some}
+use Rattle.bounds.proofs.Passing.{Passed, passed_none, passed_few, passed_next, passed_all, from_some}
 use Rattle.bounds.proofs.add_all_cuts.Statement.{statement}
 use Rattle.bounds.proofs.add_all_cuts.Tie as tie
 
@@ -32,7 +32,7 @@ sub-near-end c =
 
 near-end-requires : tie.Need-near-end-requires invariant-loop decreases-loop
 near-end-requires c κs =
-    let l = c.before.before in passed-few _ _ l.before.before.before.before.before.requires.legal _ _ _ l.loop.invariant.1
+    let l = c.before.before in passed_few _ _ l.before.before.before.before.before.requires.legal _ _ _ l.loop.invariant.1
 
 sub-add-cuts : tie.Need-overflow-sub-add-cuts invariant-loop decreases-loop
 sub-add-cuts c = omega (arith, c.before.near-end.ensures.0)
@@ -64,7 +64,7 @@ loop-again c =
     let m = e.before.before in
     let l = m.before.before.before in
     let a = l.before.before.before.before.before in
-    let next = passed-next _ _ a.requires.legal _ _ _ l.loop.invariant.1 m.before.before.loop-test.true _ _
+    let next = passed_next _ _ a.requires.legal _ _ _ l.loop.invariant.1 m.before.before.loop-test.true _ _
     m.before.image-from.ensures m.near-end.ensures.0 _ e.add-cuts.ensures in
     (e.add-cuts.auto.0 ∙ l.loop.invariant.0, next)
 
@@ -74,10 +74,10 @@ same_length c = c.before.loop.invariant.0
 returns : tie.Need-returns invariant-loop decreases-loop
 returns c =
     let l = c.before in
-    passed-all _ _ l.before.before.before.before.before.requires.legal _ _ _ l.loop.invariant.1 c.loop-test.false
+    passed_all _ _ l.before.before.before.before.before.requires.legal _ _ _ l.loop.invariant.1 c.loop-test.false
 
-pub add-all-cuts-spec : {M : Type 1} → statement M
-add-all-cuts-spec =
+pub add_all_cuts_spec : {M : Type 1} → statement M
+add_all_cuts_spec =
     tie.close
     (tie.spec
     invariant-loop

@@ -4,7 +4,7 @@ use native.Mathlib.Nat.{le-div_iff_mul-le}
 use native.Mathlib.Omega.{arith}
 use lib.ListN.{length}
 use borrow.Author.Tests.{leb-true, leb-false}
-use Rattle.bounds.proofs.Totals.{Adding, adding-none, adding-fits, adding-next, adding-all}
+use Rattle.bounds.proofs.Totals.{Adding, adding_none, adding_fits, adding_next, adding_all}
 use Rattle.bounds.proofs.add_cuts.Statement.{statement}
 use Rattle.bounds.proofs.add_cuts.Tie as tie
 
@@ -21,7 +21,7 @@ inside c =
     let l = c.before.before.before in omega (arith, l.loop.invariant.stored.size, l.before.requires.sized)
 
 loop-holds : tie.Need-loop-init invariant-loop decreases-loop
-loop-holds c = adding-none _ _
+loop-holds c = adding_none _ _
 
 mul-if1 : tie.Need-overflow-mul-if1 invariant-loop decreases-loop
 mul-if1 c = omega arith
@@ -49,7 +49,7 @@ slice-read-totals c = inside c
 
 add-totals : tie.Need-overflow-add-totals invariant-loop decreases-loop
 add-totals c =
-    let l = c.before.before.before in omega (arith, adding-fits _ _ _ _ l.loop.invariant l.before.requires (omega arith))
+    let l = c.before.before.before in omega (arith, adding_fits _ _ _ _ l.loop.invariant l.before.requires (omega arith))
 
 slice-write-totals : tie.Need-slice-write-totals invariant-loop decreases-loop
 slice-write-totals c = inside c
@@ -61,22 +61,22 @@ loop-less : tie.Need-loop-smaller invariant-loop decreases-loop
 loop-less c = omega arith
 
 loop-again : tie.Need-loop-preserved invariant-loop decreases-loop
-loop-again c = adding-next _ _ _ _ c.before.before.before.loop.invariant (omega arith) (inside c)
+loop-again c = adding_next _ _ _ _ c.before.before.before.loop.invariant (omega arith) (inside c)
 
 same_length : tie.Need-same-length invariant-loop decreases-loop
 same_length c = c.before.before.loop.invariant.stored.size
 
 returns : tie.Need-returns invariant-loop decreases-loop
-returns c = adding-all _ _ _ _ c.before.before.loop.invariant (λ h. leb-false _ _ c.if1.false)
+returns c = adding_all _ _ _ _ c.before.before.loop.invariant (λ h. leb-false _ _ c.if1.false)
 
-same-length-2 : tie.Need-same-length-2 invariant-loop decreases-loop
-same-length-2 c = c.before.loop.invariant.stored.size
+same_length_2 : tie.Need-same-length-2 invariant-loop decreases-loop
+same_length_2 c = c.before.loop.invariant.stored.size
 
-returns-2 : tie.Need-returns-2 invariant-loop decreases-loop
-returns-2 c = adding-all _ _ _ _ c.before.loop.invariant (λ h. omega arith)
+returns_2 : tie.Need-returns-2 invariant-loop decreases-loop
+returns_2 c = adding_all _ _ _ _ c.before.loop.invariant (λ h. omega arith)
 
-pub add-cuts-spec : {M : Type 1} → statement M
-add-cuts-spec =
+pub add_cuts_spec : {M : Type 1} → statement M
+add_cuts_spec =
     tie.close
     (tie.spec
     invariant-loop
@@ -96,5 +96,5 @@ add-cuts-spec =
     loop-again
     same_length
     returns
-    same-length-2
-    returns-2)
+    same_length_2
+    returns_2)

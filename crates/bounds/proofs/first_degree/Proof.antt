@@ -1,8 +1,8 @@
 -- `first_degree` meets its contract: too few entries for the runs rule all degrees out, and else the totals tell.
 use borrow.Author.Rules.{rules}
 use native.Mathlib.Omega.{arith}
-use Rattle.bounds.proofs.Totals.{cleared-all}
-use Rattle.bounds.proofs.Ruling.{ruled-all, opens}
+use Rattle.bounds.proofs.Totals.{cleared_all}
+use Rattle.bounds.proofs.Ruling.{ruled_all, opens}
 use Rattle.bounds.proofs.first_degree.Statement.{statement}
 use Rattle.bounds.proofs.first_degree.Tie as tie
 
@@ -16,7 +16,7 @@ returns : tie.Need-returns
 returns c =
     let a = c.before.before.before.before.before in
     record {
-      ruled = ruled-all _ _ a.requires.legal _ _ a.requires.from a.requires.high c.if1.true;
+      ruled = ruled_all _ _ a.requires.legal _ _ a.requires.from a.requires.high c.if1.true;
       up = omega arith;
       most = omega arith;
       whole = λ h. absurd (omega arith);
@@ -33,8 +33,8 @@ add-all-cuts-requires c κs =
       legal = a.requires.legal;
       ordered = a.requires.ordered;
       few = a.requires.few;
-      sized = omega (arith, a.requires.in-room, k.clear.auto.0);
-      cleared = cleared-all _ _ k.clear.ensures;
+      sized = omega (arith, a.requires.in_room, k.clear.auto.0);
+      cleared = cleared_all _ _ k.clear.ensures;
     }
 
 first-within-requires : tie.Need-first-within-requires
@@ -46,17 +46,17 @@ first-within-requires-2 c κs = search rules
 same_length : tie.Need-same-length
 same_length c = search rules
 
-returns-2 : tie.Need-returns-2
-returns-2 c =
+returns_2 : tie.Need-returns-2
+returns_2 c =
     let f = c.before.before in
     let m = f.before.before.before.before in
     let e = m.before.before.before.before.before.before in
     let a = e.before.before.before.before.before in
     opens _ _ a.requires.legal _ _ m.add-all-cuts.new.1.1.1.1.0 _ _ a.requires.from e.if1.false m.add-all-cuts.ensures
-    f.first-within.ensures c.first-within2.ensures
+    f.first_within.ensures c.first-within2.ensures
 
-pub first-degree-spec : {M : Type 1} → statement M
-first-degree-spec =
+pub first_degree_spec : {M : Type 1} → statement M
+first_degree_spec =
     tie.close
     (tie.spec
     add-t12
@@ -67,4 +67,4 @@ first-degree-spec =
     first-within-requires
     first-within-requires-2
     same_length
-    returns-2)
+    returns_2)

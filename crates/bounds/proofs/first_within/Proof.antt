@@ -2,7 +2,7 @@
 use Prim.Native.Nat.{◌-◌}
 use native.Mathlib.Omega.{arith}
 use Rattle.bounds.specs.Parts.{Above}
-use Rattle.bounds.proofs.Ruling.{above-none, above-next}
+use Rattle.bounds.proofs.Ruling.{above_none, above_next}
 use Rattle.bounds.proofs.first_within.Statement.{statement}
 use Rattle.bounds.proofs.first_within.Tie as tie
 
@@ -13,7 +13,7 @@ abbrev decreases-loop : tie.decreases-loop
 decreases-loop totals low spare d₀ d = 65 - d
 
 loop-holds : tie.Need-loop-init invariant-loop decreases-loop
-loop-holds c = above-none _ _ _ (omega arith)
+loop-holds c = above_none _ _ _ (omega arith)
 
 sub-total : tie.Need-overflow-sub-total invariant-loop decreases-loop
 sub-total c = omega arith
@@ -40,13 +40,13 @@ loop-less : tie.Need-loop-smaller invariant-loop decreases-loop
 loop-less c = omega arith
 
 loop-again : tie.Need-loop-preserved invariant-loop decreases-loop
-loop-again c = above-next _ _ _ _ c.before.before.before.loop.invariant (omega arith) c.if1.false
+loop-again c = above_next _ _ _ _ c.before.before.before.loop.invariant (omega arith) c.if1.false
 
-returns-2 : tie.Need-returns-2 invariant-loop decreases-loop
-returns-2 c = record { passed = c.before.loop.invariant; within = λ h. absurd (omega (arith, c.loop-test.false)) }
+returns_2 : tie.Need-returns-2 invariant-loop decreases-loop
+returns_2 c = record { passed = c.before.loop.invariant; within = λ h. absurd (omega (arith, c.loop-test.false)) }
 
-pub first-within-spec : {M : Type 1} → statement M
-first-within-spec =
+pub first_within_spec : {M : Type 1} → statement M
+first_within_spec =
     tie.close
     (tie.spec
     invariant-loop
@@ -61,4 +61,4 @@ first-within-spec =
     add-d
     loop-less
     loop-again
-    returns-2)
+    returns_2)

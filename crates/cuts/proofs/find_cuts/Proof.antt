@@ -45,7 +45,7 @@ gather-requires c κs =
     let a = start c in
     let i = images-of a in
     record {
-      room = omega (arith, a.pre.ordered.paired, a.pre.in-ranked);
+      room = omega (arith, a.pre.ordered.paired, a.pre.in_ranked);
       indexes = omega (arith, a.pre.ordered.paired, a.pre.in_order);
       below = λ t h. omega (
         arith,
@@ -66,29 +66,29 @@ slice-aggregate-sweep-2 c =
     let g = gathered c.before in
     let a = start g.before in
     sym (length-take-le (length (images-of a)) g.gather.last.1.1.0
-    (omega (arith, g.gather.kept.1.1.0, a.pre.ordered.paired, a.pre.in-ranked)))
+    (omega (arith, g.gather.kept.1.1.0, a.pre.ordered.paired, a.pre.in_ranked)))
 
 sweep-requires : tie.Need-sweep-requires
 sweep-requires c κs =
     let g = gathered c.before.before in
     let a = start g.before in (
-      record { legal = a.pre.legal; order_is = ordered a; ranked-is = ranks g },
+      record { legal = a.pre.legal; order_is = ordered a; ranked_is = ranks g },
       a.pre.low,
       a.pre.high,
-      a.pre.in-working,
+      a.pre.in_working,
     )
 
 same_length : tie.Need-same-length
 same_length c = search rules
 
-same-length-2 : tie.Need-same-length-2
-same-length-2 c = search rules
+same_length_2 : tie.Need-same-length-2
+same_length_2 c = search rules
 
 returns : tie.Need-returns
 returns c = search rules
 
-pub find-cuts-spec : {M : Type 1} → statement M
-find-cuts-spec =
+pub find_cuts_spec : {M : Type 1} → statement M
+find_cuts_spec =
     tie.close
     (tie.spec
     gather-requires
@@ -97,5 +97,5 @@ find-cuts-spec =
     slice-aggregate-sweep-2
     sweep-requires
     same_length
-    same-length-2
+    same_length_2
     returns)

@@ -1,7 +1,7 @@
 -- `zibewoka_balance` meets its contract: the library's promise, with its answer as a struct.
 use borrow.Author.Rules.{rules}
 use mathlib.Core.Path.{ap, ◌∙◌}
-use Rattle.export_balance.specs.Answers.{balanceAnswer}
+use Rattle.export_balance.specs.Answers.{balance_answer}
 use Rattle.export_balance.proofs.zibewoka_balance.Statement.{statement}
 use Rattle.export_balance.proofs.zibewoka_balance.Tie as tie
 
@@ -14,8 +14,8 @@ of-balance-requires c κs = search rules
 same_length : tie.Need-same-length
 same_length c = search rules
 
-same-length-2 : tie.Need-same-length-2
-same-length-2 c = search rules
+same_length_2 : tie.Need-same-length-2
+same_length_2 c = search rules
 
 same-length-3 : tie.Need-same-length-3
 same-length-3 c = search rules
@@ -29,16 +29,16 @@ same-length-5 c = search rules
 returns : tie.Need-returns
 returns c =
     let b = c.before.before.before.before.before.before.before.before.before.before.before.balance in
-    record { says = c.of-balance.ensures ∙ ap balanceAnswer b.ensures.says; library = _; at_exit = b.ensures }
+    record { says = c.of-balance.ensures ∙ ap balance_answer b.ensures.says; library = _; at_exit = b.ensures }
 
-pub zibewoka-balance-spec : {M : Type 1} → statement M
-zibewoka-balance-spec =
+pub zibewoka_balance_spec : {M : Type 1} → statement M
+zibewoka_balance_spec =
     tie.close
     (tie.spec
     balance-requires
     of-balance-requires
     same_length
-    same-length-2
+    same_length_2
     same-length-3
     same-length-4
     same-length-5

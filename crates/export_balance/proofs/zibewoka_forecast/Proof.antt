@@ -1,7 +1,7 @@
 -- `zibewoka_forecast` meets its contract: the library's promise, with its answer as a struct.
 use borrow.Author.Rules.{rules}
 use mathlib.Core.Path.{ap, ◌∙◌}
-use Rattle.export_balance.specs.Answers.{forecastAnswer}
+use Rattle.export_balance.specs.Answers.{forecast_answer}
 use Rattle.export_balance.proofs.zibewoka_forecast.Statement.{statement}
 use Rattle.export_balance.proofs.zibewoka_forecast.Tie as tie
 
@@ -17,7 +17,7 @@ same_length c = search rules
 returns : tie.Need-returns
 returns c =
     let f = c.before.before.before.forecast in
-    record { says = c.of_size.ensures ∙ ap forecastAnswer f.ensures.says; working = f.ensures.working }
+    record { says = c.of_size.ensures ∙ ap forecast_answer f.ensures.says; working = f.ensures.working }
 
-pub zibewoka-forecast-spec : {M : Type 1} → statement M
-zibewoka-forecast-spec = tie.close (tie.spec forecast-requires of-size-requires same_length returns)
+pub zibewoka_forecast_spec : {M : Type 1} → statement M
+zibewoka_forecast_spec = tie.close (tie.spec forecast-requires of-size-requires same_length returns)

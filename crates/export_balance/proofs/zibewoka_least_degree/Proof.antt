@@ -1,7 +1,7 @@
 -- `zibewoka_least_degree` meets its contract: the library's promise, with its answer as a struct.
 use borrow.Author.Rules.{rules}
 use mathlib.Core.Path.{ap, ◌∙◌}
-use Rattle.export_balance.specs.Answers.{degreeAnswer}
+use Rattle.export_balance.specs.Answers.{degree_answer}
 use Rattle.export_balance.proofs.zibewoka_least_degree.Statement.{statement}
 use Rattle.export_balance.proofs.zibewoka_least_degree.Tie as tie
 
@@ -16,8 +16,8 @@ same_length c = search rules
 
 returns : tie.Need-returns
 returns c =
-    let f = c.before.before.before.least-degree in
-    record { says = c.of-degree.ensures ∙ ap degreeAnswer f.ensures.says; working = f.ensures.working }
+    let f = c.before.before.before.least_degree in
+    record { says = c.of-degree.ensures ∙ ap degree_answer f.ensures.says; working = f.ensures.working }
 
-pub zibewoka-least-degree-spec : {M : Type 1} → statement M
-zibewoka-least-degree-spec = tie.close (tie.spec least-degree-requires of-degree-requires same_length returns)
+pub zibewoka_least_degree_spec : {M : Type 1} → statement M
+zibewoka_least_degree_spec = tie.close (tie.spec least-degree-requires of-degree-requires same_length returns)

@@ -39,8 +39,8 @@ use denote.Triple.Table.{entered, cited}
 use denote.Triple.Walked.{says, Stays, gave_ref, stay_dropped, walk_of, AllGo, Goes-gave_ref, Goes-dropped}
 use denote.Triple.Walked.{Walks, ends_at, walked, walk_Meets}
 use denote.Exit.{yes}
-use Rattle.tables.specs.Tables.{tables as tablesIn}
-use Rattle.walks.specs.Move.{movedSays}
+use Rattle.tables.specs.Tables.{tables as tables_in}
+use Rattle.walks.specs.Move.{moved_says}
 use Rattle.walks.specs.declared.Moved.{Moved}
 use Rattle.bookmarks.specs.Bookmark.{Advances}
 use Rattle.bookmarks.specs.declared.Bookmark.{Bookmark}
@@ -52,7 +52,7 @@ use Rattle.bookmarks.specs.contracts.advance as adv
 use Rattle.bookmarks.proofs.advance.Symbol as adv-def
 use Rattle.bookmarks.proofs.advance.Symbol.{name as #bookmarks·advance}
 use Rattle.bookmarks.proofs.advance.Met as adv-thm
-use Rattle.export_bookmarks.specs.Answers.{advanceAnswer, AdvancesHost}
+use Rattle.export_bookmarks.specs.Answers.{advance_answer, AdvancesHost}
 use Rattle.export_bookmarks.specs.declared.AdvanceAnswer.{AdvanceAnswer}
 use Rattle.export_bookmarks.specs.contracts.AdvanceAnswer as R
 use Rattle.export_bookmarks.proofs.AdvanceAnswer.TheLaws as R'
@@ -128,14 +128,14 @@ module _ {M : Type 1} {𝓤 : Ura M} (𝓛 : Logic 𝓤) (at_mem : Memory → SP
 
   -- what `advance` says, and what the contract says
   abbrev Said : Moved → Bookmark → Type 0
-  Said a left = Advances n (tablesIn s₁.now s₂.now s₃.now s₄.now) h a left
+  Said a left = Advances n (tables_in s₁.now s₂.now s₃.now s₄.now) h a left
 
   abbrev Promised : AdvanceAnswer → Bookmark → Type 0
-  Promised r left = AdvancesHost n (tablesIn s₁.now s₂.now s₃.now s₄.now) h r left
+  Promised r left = AdvancesHost n (tables_in s₁.now s₂.now s₃.now s₄.now) h r left
 
   promised : (a : Moved) (r : AdvanceAnswer) (left : Bookmark) → Said a left
-      → r ≡ advanceAnswer (movedSays a) → Promised r left
-  promised a r left e f = record { says = f ∙ ap advanceAnswer e.says; mark = e.mark }
+      → r ≡ advance_answer (moved_says a) → Promised r left
+  promised a r left e f = record { says = f ∙ ap advance_answer e.says; mark = e.mark }
 
   abbrev Tokens : Item 𝓤
   Tokens = ‵ (flft κ₁ q₁) ⊛ ‵ (flft κ₂ q₂) ⊛ ‵ (flft κ₃ q₃) ⊛ ‵ (flft κ₄ q₄) ⊛ ‵ (flft κ q) ⊛ ‵ ftrue
@@ -160,24 +160,24 @@ module _ {M : Type 1} {𝓤 : Ura M} (𝓛 : Logic 𝓤) (at_mem : Memory → SP
   left ws = ws.1.1.1.1.1.0
 
   -- the second call is handed the answer
-  abbrev to-told : Moved → (Told 𝓛 at_mem run).Ghost
-  to-told a = ((tt, tt, tt, (a, tt), (val a ∷ [], tt)), tt)
+  abbrev to_told : Moved → (Told 𝓛 at_mem run).Ghost
+  to_told a = ((tt, tt, tt, (a, tt), (val a ∷ [], tt)), tt)
 
-  lent-told : (a : Moved) → Is S.the_row a (val a ∷ [])
-      → ent 𝓤 (⋆ 𝓛 (Tokens ∷ [])) (⋆ 𝓛 (raw ((Told 𝓛 at_mem run).pre (to-told a)) ∷ Tokens ∷ []))
-  lent-told a a-is =
+  lent_told : (a : Moved) → Is S.the_row a (val a ∷ [])
+      → ent 𝓤 (⋆ 𝓛 (Tokens ∷ [])) (⋆ 𝓛 (raw ((Told 𝓛 at_mem run).pre (to_told a)) ∷ Tokens ∷ []))
+  lent_told a a_is =
       qed 𝓛 (Tokens ∷ []) ∵
-      nothing ! $ owned ! S.the_row (Is S.the_row) (EL.makes S.the_type S'.the_plain 𝓛) a _ a-is $ fjoin ! $
+      nothing ! $ owned ! S.the_row (Is S.the_row) (EL.makes S.the_type S'.the_plain 𝓛) a _ a_is $ fjoin ! $
       nothing ! $ join ! $ nothing ! $ move ! (1 ∷ 0 ∷ []) $ join ! $ frame ! $ done !
 
   abbrev Ensured : Moved → AdvanceAnswer → SProp 𝓤
   Ensured a r = ensured 𝓛 told.ended (told.clauses 𝓛 at_mem run) tt (a, tt) tt r
 
-  known-told : (a : Moved) (r : AdvanceAnswer)
-      → ent 𝓤 (Ensured a r) (fact 𝓤 (r ≡ advanceAnswer (movedSays a)))
-  known-told a r =
+  known_told : (a : Moved) (r : AdvanceAnswer)
+      → ent 𝓤 (Ensured a r) (fact 𝓤 (r ≡ advance_answer (moved_says a)))
+  known_told a r =
       ex_e 𝓤 _ (λ ws. snd∗ 𝓤 (sem 𝓛 (lasts told.ended tt (a, tt) ws))
-      (fact 𝓤 (r ≡ advanceAnswer (movedSays a))))
+      (fact 𝓤 (r ≡ advance_answer (moved_says a))))
 
   exits : (w : Bookmark) (r : AdvanceAnswer) → Promised r w → Is R.the_row r (R'.lowered r ∷ [])
       → ent 𝓤 (⋆ 𝓛 (Tokens ∷ ‵ (fres γ ((T.the_row).coded.code w)) ∷ [])) (Post (R'.lowered r))
@@ -231,17 +231,17 @@ module _ {M : Type 1} {𝓤 : Ura M} (𝓛 : Logic 𝓤) (at_mem : Memory → SP
         land ! (from ! (stop !)) (init ! 4 refl ((EL.lawful S.the_type S'.the_laws 𝓛 tt).typed a _ is).0) $
         rewrite ! 4 (λ (w : Val). ‵ (fat full_share S'.mir l₇ 0 w))
         (ap only (EL.tells S.the_type S'.the_laws a _ is)) refl $
-        use1 𝓛 (raw ((Told 𝓛 at_mem run).pre (to-told a)) ⊛ Tokens)
-        (lent-told a (subst (Is S.the_row a) (EL.tells S.the_type S'.the_laws a _ is) is)) $
+        use1 𝓛 (raw ((Told 𝓛 at_mem run).pre (to_told a)) ⊛ Tokens)
+        (lent_told a (subst (Is S.the_row a) (EL.tells S.the_type S'.the_laws a _ is) is)) $
         split ! $
         -- [what `of_moved` asks; the tokens; the bookmark's last value; _8 at 3; _7 at 5; …]
-        calls_at ! fm (Told 𝓛 at_mem run) known' (to-told a)
+        calls_at ! fm (Told 𝓛 at_mem run) known' (to_told a)
         (and_then ! (load ! (from ! (stop !)) (look ! 5 refl)) (no_more !)) (λ u'.
         use1 𝓛 (later (some (λ (r : AdvanceAnswer). (‵ ftrue ⊛ ‵ ((R.the_row).own_val r (u' ∷ []))) ⊛ raw (Ensured a r))))
         (id⊢ 𝓤 _) $
         await ! tt $ pick ! (λ r. split ! $ move ! (1 ∷ []) $
-        use1 𝓛 (raw (fact 𝓤 (r ≡ advanceAnswer (movedSays a)))) (known-told a r) $
-        heard ! (r ≡ advanceAnswer (movedSays a)) (λ f. split ! $ drop ! $
+        use1 𝓛 (raw (fact 𝓤 (r ≡ advance_answer (moved_says a)))) (known_told a r) $
+        heard ! (r ≡ advance_answer (moved_says a)) (λ f. split ! $ drop ! $
         peeks ! R.the_row (Is R.the_row) (shows 𝓛 R.the_row) r (u' ∷ []) (λ is'. drop ! $
         land ! (from ! (stop !)) (init ! 18 refl ((LL.lawful R.the_type R'.the_laws 𝓛).typed r _ is').0) $
         rewrite ! 18 (λ (w : Val). ‵ (fat full_share R'.mir l₀ 0 w))
@@ -260,8 +260,8 @@ module _ {M : Type 1} {𝓤 : Ura M} (𝓛 : Logic 𝓤) (mem : Memory → SProp
     (known' : Triple 𝓤 (𝓣.C #export-bookmarks·answers·of-moved) (Told 𝓛 mem run)) where
   open 𝓛 use {H}
 
-  host-walks : Walks 𝓛 host.ended stayed (WpFn 𝓤 H 𝓣.C 𝓣.Λ code.function) (host.clauses 𝓛 mem run)
-  host-walks =
+  host_walks : Walks 𝓛 host.ended stayed (WpFn 𝓤 H 𝓣.C 𝓣.Λ code.function) (host.clauses 𝓛 mem run)
+  host_walks =
       walked 𝓛 host.ended stayed (host.clauses 𝓛 mem run) (WpFn 𝓤 H 𝓣.C 𝓣.Λ code.function)
       (λ κs. (uint_vals w32, (shr_slice_vals, (shr_slice_vals, (shr_slice_vals, (shr_slice_vals, (shr_vals, tt)))))))
       (λ κs. (
@@ -304,18 +304,18 @@ module _ {M : Type 1} {𝓤 : Ura M} (𝓛 : Logic 𝓤) (mem : Memory → SProp
     ),
   )
 
-  host-meets : Meets 𝓛 host.signature (WpFn 𝓤 H 𝓣.C 𝓣.Λ code.function) (host.spec 𝓛 mem run)
-  host-meets =
+  host_meets : Meets 𝓛 host.signature (WpFn 𝓤 H 𝓣.C 𝓣.Λ code.function) (host.spec 𝓛 mem run)
+  host_meets =
       walk_Meets 𝓛 host.ended stayed goes (host.clauses 𝓛 mem run)
-      (WpFn 𝓤 H 𝓣.C 𝓣.Λ code.function) (WpFn-mono 𝓤 H 𝓛.laws 𝓣 code.function) host-walks
+      (WpFn 𝓤 H 𝓣.C 𝓣.Λ code.function) (WpFn-mono 𝓤 H 𝓛.laws 𝓣 code.function) host_walks
 
-pub zibewoka-advance-spec : {M : Type 1} → stated.statement M
+pub zibewoka_advance_spec : {M : Type 1} → stated.statement M
 unfolding code.routine tables_of
-zibewoka-advance-spec 𝓤 𝓛 𝓜 𝓡 =
+zibewoka_advance_spec 𝓤 𝓛 𝓜 𝓡 =
     entered 𝓤 𝓛.H (triple_of 𝓛 host.signature (host.spec 𝓛 𝓜.mem 𝓡.run))
     (tables 𝓤 𝓛.H 𝓜 𝓡 code.env).C (tables 𝓤 𝓛.H 𝓜 𝓡 code.env).Λ #export-bookmarks·zibewoka-advance code.function
     (code.unfolded 𝓤 𝓛.H 𝓜 𝓡)
-    (host-meets 𝓛 𝓜.mem 𝓡.run (tables_of 𝓤 𝓛.H 𝓜 (tables 𝓤 𝓛.H 𝓜 𝓡 code.env))
+    (host_meets 𝓛 𝓜.mem 𝓡.run (tables_of 𝓤 𝓛.H 𝓜 (tables 𝓤 𝓛.H 𝓜 𝓡 code.env))
     (cited 𝓤 𝓛.H (Adv 𝓛 𝓜.mem 𝓡.run) 𝓜 𝓡 code.env #bookmarks·advance adv-def.routine
     code.calls-bookmarks::advance (adv-thm.met 𝓤 𝓛 𝓜 𝓡))
     (cited 𝓤 𝓛.H (Told 𝓛 𝓜.mem 𝓡.run) 𝓜 𝓡 code.env #export-bookmarks·answers·of-moved told-def.routine

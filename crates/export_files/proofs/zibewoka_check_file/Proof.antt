@@ -1,7 +1,7 @@
 -- `zibewoka_check_file` meets its contract: the library's promise, as an answer.
 use borrow.Author.Rules.{rules}
 use mathlib.Core.Path.{ap, ◌∙◌}
-use Rattle.export_files.specs.Answers.{fileAnswer}
+use Rattle.export_files.specs.Answers.{file_answer}
 use Rattle.export_files.proofs.zibewoka_check_file.Statement.{statement}
 use Rattle.export_files.proofs.zibewoka_check_file.Tie as tie
 
@@ -12,7 +12,7 @@ of-file-requires : tie.Need-of-file-requires
 of-file-requires c κs = search rules
 
 returns : tie.Need-returns
-returns c = c.of-file.ensures ∙ ap (fileAnswer) c.before.check-file.ensures
+returns c = c.of-file.ensures ∙ ap (file_answer) c.before.check-file.ensures
 
-pub zibewoka-check-file-spec : {M : Type 1} → statement M
-zibewoka-check-file-spec = tie.close (tie.spec check-file-requires of-file-requires returns)
+pub zibewoka_check_file_spec : {M : Type 1} → statement M
+zibewoka_check_file_spec = tie.close (tie.spec check-file-requires of-file-requires returns)

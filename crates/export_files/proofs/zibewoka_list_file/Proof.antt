@@ -12,5 +12,5 @@ same_length c = search rules
 returns : tie.Need-returns
 returns c = c.before.before.list-file.ensures
 
-pub zibewoka-list-file-spec : {M : Type 1} → statement M
-zibewoka-list-file-spec = tie.close (tie.spec list-file-requires same_length returns)
+pub zibewoka_list_file_spec : {M : Type 1} → statement M
+zibewoka_list_file_spec = tie.close (tie.spec list-file-requires same_length returns)

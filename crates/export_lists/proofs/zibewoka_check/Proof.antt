@@ -1,7 +1,7 @@
 -- `zibewoka_check` meets its contract: the library's promise, as an answer.
 use borrow.Author.Rules.{rules}
 use mathlib.Core.Path.{ap, ◌∙◌}
-use Rattle.export_lists.specs.Answers.{listAnswer}
+use Rattle.export_lists.specs.Answers.{list_answer}
 use Rattle.export_lists.proofs.zibewoka_check.Statement.{statement}
 use Rattle.export_lists.proofs.zibewoka_check.Tie as tie
 
@@ -12,7 +12,7 @@ of-list-requires : tie.Need-of-list-requires
 of-list-requires c κs = search rules
 
 returns : tie.Need-returns
-returns c = c.of-list.ensures ∙ ap (listAnswer) c.before.check.ensures
+returns c = c.of-list.ensures ∙ ap (list_answer) c.before.check.ensures
 
-pub zibewoka-check-spec : {M : Type 1} → statement M
-zibewoka-check-spec = tie.close (tie.spec check-requires of-list-requires returns)
+pub zibewoka_check_spec : {M : Type 1} → statement M
+zibewoka_check_spec = tie.close (tie.spec check-requires of-list-requires returns)

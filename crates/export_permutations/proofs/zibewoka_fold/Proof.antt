@@ -1,7 +1,7 @@
 -- `zibewoka_fold` meets its contract: the library's promise, with its answer as a struct.
 use borrow.Author.Rules.{rules}
 use mathlib.Core.Path.{ap, ◌∙◌}
-use Rattle.export_permutations.specs.Answers.{runsAnswer}
+use Rattle.export_permutations.specs.Answers.{runs_answer}
 use Rattle.export_permutations.proofs.zibewoka_fold.Statement.{statement}
 use Rattle.export_permutations.proofs.zibewoka_fold.Tie as tie
 
@@ -14,17 +14,17 @@ of-written-requires c κs = search rules
 same_length : tie.Need-same-length
 same_length c = search rules
 
-same-length-2 : tie.Need-same-length-2
-same-length-2 c = search rules
+same_length_2 : tie.Need-same-length-2
+same_length_2 c = search rules
 
 returns : tie.Need-returns
 returns c =
     let l = c.before.before.before.before.before.fold.ensures in
     record {
-      says = c.of-written.ensures ∙ ap runsAnswer l.says;
-      starts-at-exit = l.starts-at-exit;
-      images-at-exit = l.images-at-exit;
+      says = c.of-written.ensures ∙ ap runs_answer l.says;
+      starts_at_exit = l.starts_at_exit;
+      images_at_exit = l.images_at_exit;
     }
 
-pub zibewoka-fold-spec : {M : Type 1} → statement M
-zibewoka-fold-spec = tie.close (tie.spec fold-requires of-written-requires same_length same-length-2 returns)
+pub zibewoka_fold_spec : {M : Type 1} → statement M
+zibewoka_fold_spec = tie.close (tie.spec fold-requires of-written-requires same_length same_length_2 returns)

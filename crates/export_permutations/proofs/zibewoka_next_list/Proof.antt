@@ -1,7 +1,7 @@
 -- `zibewoka_next_list` meets its contract: the library's promise, with its answer as a struct.
 use borrow.Author.Rules.{rules}
 use mathlib.Core.Path.{ap, ◌∙◌}
-use Rattle.export_permutations.specs.Answers.{nextAnswer}
+use Rattle.export_permutations.specs.Answers.{next_answer}
 use Rattle.export_permutations.proofs.zibewoka_next_list.Statement.{statement}
 use Rattle.export_permutations.proofs.zibewoka_next_list.Tie as tie
 
@@ -14,17 +14,17 @@ of-next-requires c κs = search rules
 same_length : tie.Need-same-length
 same_length c = search rules
 
-same-length-2 : tie.Need-same-length-2
-same-length-2 c = search rules
+same_length_2 : tie.Need-same-length-2
+same_length_2 c = search rules
 
 returns : tie.Need-returns
 returns c =
-    let l = c.before.before.before.before.before.next-list.ensures in
+    let l = c.before.before.before.before.before.next_list.ensures in
     record {
-      says = c.of-next.ensures ∙ ap nextAnswer l.says;
-      starts-at-exit = l.starts-at-exit;
-      images-at-exit = l.images-at-exit;
+      says = c.of-next.ensures ∙ ap next_answer l.says;
+      starts_at_exit = l.starts_at_exit;
+      images_at_exit = l.images_at_exit;
     }
 
-pub zibewoka-next-list-spec : {M : Type 1} → statement M
-zibewoka-next-list-spec = tie.close (tie.spec next-list-requires of-next-requires same_length same-length-2 returns)
+pub zibewoka_next_list_spec : {M : Type 1} → statement M
+zibewoka_next_list_spec = tie.close (tie.spec next-list-requires of-next-requires same_length same_length_2 returns)

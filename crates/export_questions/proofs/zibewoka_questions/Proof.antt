@@ -43,12 +43,12 @@ use denote.Triple.Table.{entered, cited}
 use denote.Triple.Walked.{says, Stays, gave_slice, stay_dropped, walk_of, AllGo, Goes-gave_slice, Goes-dropped}
 use denote.Triple.Walked.{Walks, ends_at, walked, walk_Meets}
 use denote.Exit.{yes}
-use Rattle.tables.specs.Tables.{tables as tablesIn}
-use Rattle.questions.specs.Questions.{Answers, answeredSays}
+use Rattle.tables.specs.Tables.{tables as tables_in}
+use Rattle.questions.specs.Questions.{Answers, answered_says}
 use Rattle.questions.specs.declared.Question.{Question}
 use Rattle.questions.specs.declared.Answered.{Answered}
 use Rattle.tables.proofs.Held.{Xs, v, num, list₁, list₂, list₃, list₄}
-use Rattle.questions.proofs.Handing.{Ans, length-left}
+use Rattle.questions.proofs.Handing.{Ans, length_left}
 use Rattle.questions.specs.contracts.Question as T
 use Rattle.questions.specs.contracts.Answered as S
 use Rattle.questions.proofs.Answered.TheLaws as S'
@@ -56,7 +56,7 @@ use Rattle.questions.specs.contracts.answer as ans
 use Rattle.questions.proofs.answer.Symbol as ans-def
 use Rattle.questions.proofs.answer.Symbol.{name as #questions·answer}
 use Rattle.questions.proofs.answer.Met as ans-thm
-use Rattle.export_questions.specs.Answers.{questionsAnswer, AnswersHost}
+use Rattle.export_questions.specs.Answers.{questions_answer, AnswersHost}
 use Rattle.export_questions.specs.declared.QuestionsAnswer.{QuestionsAnswer}
 use Rattle.export_questions.specs.contracts.QuestionsAnswer as R
 use Rattle.export_questions.proofs.QuestionsAnswer.TheLaws as R'
@@ -131,14 +131,14 @@ module _ {M : Type 1} {𝓤 : Ura M} (𝓛 : Logic 𝓤) (at_mem : Memory → SP
 
   -- what `answer` says, and what the contract says
   abbrev Said : Answered → List Question → Type 0
-  Said a left = Answers n (tablesIn s₁.now s₂.now s₃.now s₄.now) xs a left
+  Said a left = Answers n (tables_in s₁.now s₂.now s₃.now s₄.now) xs a left
 
   abbrev Promised : QuestionsAnswer → List Question → Type 0
-  Promised r left = AnswersHost n (tablesIn s₁.now s₂.now s₃.now s₄.now) xs r left
+  Promised r left = AnswersHost n (tables_in s₁.now s₂.now s₃.now s₄.now) xs r left
 
   promised : (a : Answered) (r : QuestionsAnswer) (left : List Question) → Said a left
-      → r ≡ questionsAnswer (answeredSays a) → Promised r left
-  promised a r left e f = record { says = f ∙ ap questionsAnswer e.says; records = e.records }
+      → r ≡ questions_answer (answered_says a) → Promised r left
+  promised a r left e f = record { says = f ∙ ap questions_answer e.says; records = e.records }
 
   abbrev Tokens : Item 𝓤
   Tokens = ‵ (flft κ₁ q₁) ⊛ ‵ (flft κ₂ q₂) ⊛ ‵ (flft κ₃ q₃) ⊛ ‵ (flft κ₄ q₄) ⊛ ‵ (flft κ q) ⊛ ‵ ftrue
@@ -163,24 +163,24 @@ module _ {M : Type 1} {𝓤 : Ura M} (𝓛 : Logic 𝓤) (at_mem : Memory → SP
   left ws = ws.1.1.1.1.1.0
 
   -- the second call is handed the answer
-  abbrev to-told : Answered → (Told 𝓛 at_mem run).Ghost
-  to-told a = ((tt, tt, tt, (a, tt), (val a ∷ [], tt)), tt)
+  abbrev to_told : Answered → (Told 𝓛 at_mem run).Ghost
+  to_told a = ((tt, tt, tt, (a, tt), (val a ∷ [], tt)), tt)
 
-  lent-told : (a : Answered) → Is S.the_row a (val a ∷ [])
-      → ent 𝓤 (⋆ 𝓛 (Tokens ∷ [])) (⋆ 𝓛 (raw ((Told 𝓛 at_mem run).pre (to-told a)) ∷ Tokens ∷ []))
-  lent-told a a-is =
+  lent_told : (a : Answered) → Is S.the_row a (val a ∷ [])
+      → ent 𝓤 (⋆ 𝓛 (Tokens ∷ [])) (⋆ 𝓛 (raw ((Told 𝓛 at_mem run).pre (to_told a)) ∷ Tokens ∷ []))
+  lent_told a a_is =
       qed 𝓛 (Tokens ∷ []) ∵
-      nothing ! $ owned ! S.the_row (Is S.the_row) (EL.makes S.the_type S'.the_plain 𝓛) a _ a-is $ fjoin ! $
+      nothing ! $ owned ! S.the_row (Is S.the_row) (EL.makes S.the_type S'.the_plain 𝓛) a _ a_is $ fjoin ! $
       nothing ! $ join ! $ nothing ! $ move ! (1 ∷ 0 ∷ []) $ join ! $ frame ! $ done !
 
   abbrev Ensured : Answered → QuestionsAnswer → SProp 𝓤
   Ensured a r = ensured 𝓛 told.ended (told.clauses 𝓛 at_mem run) tt (a, tt) tt r
 
-  known-told : (a : Answered) (r : QuestionsAnswer)
-      → ent 𝓤 (Ensured a r) (fact 𝓤 (r ≡ questionsAnswer (answeredSays a)))
-  known-told a r =
+  known_told : (a : Answered) (r : QuestionsAnswer)
+      → ent 𝓤 (Ensured a r) (fact 𝓤 (r ≡ questions_answer (answered_says a)))
+  known_told a r =
       ex_e 𝓤 _ (λ ws. snd∗ 𝓤 (sem 𝓛 (lasts told.ended tt (a, tt) ws))
-      (fact 𝓤 (r ≡ questionsAnswer (answeredSays a))))
+      (fact 𝓤 (r ≡ questions_answer (answered_says a))))
 
   exits : (ys : List Question) (r : QuestionsAnswer) → length ys ≡ length xs → Promised r ys
       → Is R.the_row r (R'.lowered r ∷ [])
@@ -241,17 +241,17 @@ module _ {M : Type 1} {𝓤 : Ura M} (𝓛 : Logic 𝓤) (at_mem : Memory → SP
         land ! (from ! (stop !)) (init ! 6 refl ((EL.lawful S.the_type S'.the_laws 𝓛 tt).typed a _ is).0) $
         rewrite ! 6 (λ (w : Val). ‵ (fat full_share S'.mir l₇ 0 w))
         (ap only (EL.tells S.the_type S'.the_laws a _ is)) refl $
-        use1 𝓛 (raw ((Told 𝓛 at_mem run).pre (to-told a)) ⊛ Tokens)
-        (lent-told a (subst (Is S.the_row a) (EL.tells S.the_type S'.the_laws a _ is) is)) $
+        use1 𝓛 (raw ((Told 𝓛 at_mem run).pre (to_told a)) ⊛ Tokens)
+        (lent_told a (subst (Is S.the_row a) (EL.tells S.the_type S'.the_laws a _ is) is)) $
         split ! $
         -- [what `of_questions` asks; the tokens; the records' last list; _9 at 3; _8; _7 at 7; …]
-        calls_at ! fm (Told 𝓛 at_mem run) known' (to-told a)
+        calls_at ! fm (Told 𝓛 at_mem run) known' (to_told a)
         (and_then ! (load ! (from ! (stop !)) (look ! 7 refl)) (no_more !)) (λ u'.
         use1 𝓛 (later (some (λ (r : QuestionsAnswer). (‵ ftrue ⊛ ‵ ((R.the_row).own_val r (u' ∷ []))) ⊛ raw (Ensured a r))))
         (id⊢ 𝓤 _) $
         await ! tt $ pick ! (λ r. split ! $ move ! (1 ∷ []) $
-        use1 𝓛 (raw (fact 𝓤 (r ≡ questionsAnswer (answeredSays a)))) (known-told a r) $
-        heard ! (r ≡ questionsAnswer (answeredSays a)) (λ f. split ! $ drop ! $
+        use1 𝓛 (raw (fact 𝓤 (r ≡ questions_answer (answered_says a)))) (known_told a r) $
+        heard ! (r ≡ questions_answer (answered_says a)) (λ f. split ! $ drop ! $
         peeks ! R.the_row (Is R.the_row) (shows 𝓛 R.the_row) r (u' ∷ []) (λ is'. drop ! $
         land ! (from ! (stop !)) (init ! 20 refl ((LL.lawful R.the_type R'.the_laws 𝓛).typed r _ is').0) $
         rewrite ! 20 (λ (w : Val). ‵ (fat full_share R'.mir l₀ 0 w))
@@ -263,7 +263,7 @@ module _ {M : Type 1} {𝓤 : Ura M} (𝓛 : Logic 𝓤) (at_mem : Memory → SP
         move ! (16 ∷ 17 ∷ []) $ free1 ! $ move ! (14 ∷ 15 ∷ []) $ free1 ! $
         move ! (12 ∷ 13 ∷ []) $ free1 ! $ move ! (10 ∷ 11 ∷ []) $ free1 ! $ move ! (8 ∷ 9 ∷ []) $ free1 ! $
         move ! (6 ∷ 7 ∷ []) $ free1 ! $ move ! (4 ∷ 5 ∷ []) $ free1 ! $ move ! (2 ∷ 3 ∷ []) $ free1 ! $ free0 ! $
-        by ! (exits (left ws) r (length-left _ _ _ _ _ e) (promised a r (left ws) e f)
+        by ! (exits (left ws) r (length_left _ _ _ _ _ e) (promised a r (left ws) e f)
         (subst (Is R.the_row r) (LL.tells R.the_type R'.the_laws r _ is') is')))))))))))))))))))))
 
 module _ {M : Type 1} {𝓤 : Ura M} (𝓛 : Logic 𝓤) (mem : Memory → SProp 𝓤)
@@ -271,8 +271,8 @@ module _ {M : Type 1} {𝓤 : Ura M} (𝓛 : Logic 𝓤) (mem : Memory → SProp
     (known' : Triple 𝓤 (𝓣.C #export-questions·answers·of-questions) (Told 𝓛 mem run)) where
   open 𝓛 use {H}
 
-  host-walks : Walks 𝓛 host.ended stayed (WpFn 𝓤 H 𝓣.C 𝓣.Λ code.function) (host.clauses 𝓛 mem run)
-  host-walks =
+  host_walks : Walks 𝓛 host.ended stayed (WpFn 𝓤 H 𝓣.C 𝓣.Λ code.function) (host.clauses 𝓛 mem run)
+  host_walks =
       walked 𝓛 host.ended stayed (host.clauses 𝓛 mem run) (WpFn 𝓤 H 𝓣.C 𝓣.Λ code.function)
       (λ κs. (uint_vals w32, (shr_slice_vals, (shr_slice_vals, (shr_slice_vals, (shr_slice_vals, (shr_slice_vals, tt)))))))
       (λ κs. (
@@ -315,18 +315,18 @@ module _ {M : Type 1} {𝓤 : Ura M} (𝓛 : Logic 𝓤) (mem : Memory → SProp
     ),
   )
 
-  host-meets : Meets 𝓛 host.signature (WpFn 𝓤 H 𝓣.C 𝓣.Λ code.function) (host.spec 𝓛 mem run)
-  host-meets =
+  host_meets : Meets 𝓛 host.signature (WpFn 𝓤 H 𝓣.C 𝓣.Λ code.function) (host.spec 𝓛 mem run)
+  host_meets =
       walk_Meets 𝓛 host.ended stayed goes (host.clauses 𝓛 mem run)
-      (WpFn 𝓤 H 𝓣.C 𝓣.Λ code.function) (WpFn-mono 𝓤 H 𝓛.laws 𝓣 code.function) host-walks
+      (WpFn 𝓤 H 𝓣.C 𝓣.Λ code.function) (WpFn-mono 𝓤 H 𝓛.laws 𝓣 code.function) host_walks
 
-pub zibewoka-questions-spec : {M : Type 1} → stated.statement M
+pub zibewoka_questions_spec : {M : Type 1} → stated.statement M
 unfolding code.routine tables_of
-zibewoka-questions-spec 𝓤 𝓛 𝓜 𝓡 =
+zibewoka_questions_spec 𝓤 𝓛 𝓜 𝓡 =
     entered 𝓤 𝓛.H (triple_of 𝓛 host.signature (host.spec 𝓛 𝓜.mem 𝓡.run))
     (tables 𝓤 𝓛.H 𝓜 𝓡 code.env).C (tables 𝓤 𝓛.H 𝓜 𝓡 code.env).Λ #export-questions·zibewoka-questions code.function
     (code.unfolded 𝓤 𝓛.H 𝓜 𝓡)
-    (host-meets 𝓛 𝓜.mem 𝓡.run (tables_of 𝓤 𝓛.H 𝓜 (tables 𝓤 𝓛.H 𝓜 𝓡 code.env))
+    (host_meets 𝓛 𝓜.mem 𝓡.run (tables_of 𝓤 𝓛.H 𝓜 (tables 𝓤 𝓛.H 𝓜 𝓡 code.env))
     (cited 𝓤 𝓛.H (Ans 𝓛 𝓜.mem 𝓡.run) 𝓜 𝓡 code.env #questions·answer ans-def.routine
     code.calls-questions::answer (ans-thm.met 𝓤 𝓛 𝓜 𝓡))
     (cited 𝓤 𝓛.H (Told 𝓛 𝓜.mem 𝓡.run) 𝓜 𝓡 code.env #export-questions·answers·of-questions told-def.routine

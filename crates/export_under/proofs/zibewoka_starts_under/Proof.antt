@@ -1,7 +1,7 @@
 -- `zibewoka_starts_under` meets its contract: the library's promise, as an answer.
 use borrow.Author.Rules.{rules}
 use mathlib.Core.Path.{ap, ◌∙◌}
-use Rattle.export_under.specs.Answers.{underAnswer}
+use Rattle.export_under.specs.Answers.{under_answer}
 use Rattle.export_under.proofs.zibewoka_starts_under.Statement.{statement}
 use Rattle.export_under.proofs.zibewoka_starts_under.Tie as tie
 
@@ -12,7 +12,7 @@ of-under-requires : tie.Need-of-under-requires
 of-under-requires c κs = search rules
 
 returns : tie.Need-returns
-returns c = c.of-under.ensures ∙ ap (underAnswer) c.before.under.ensures
+returns c = c.of-under.ensures ∙ ap (under_answer) c.before.under.ensures
 
-pub zibewoka-starts-under-spec : {M : Type 1} → statement M
-zibewoka-starts-under-spec = tie.close (tie.spec under-requires of-under-requires returns)
+pub zibewoka_starts_under_spec : {M : Type 1} → statement M
+zibewoka_starts_under_spec = tie.close (tie.spec under-requires of-under-requires returns)

@@ -1,7 +1,7 @@
 -- `zibewoka_find` meets its contract: the library's promise, as an answer.
 use borrow.Author.Rules.{rules}
 use mathlib.Core.Path.{ap, ◌∙◌}
-use Rattle.export_walks.specs.Answers.{findAnswer}
+use Rattle.export_walks.specs.Answers.{find_answer}
 use Rattle.export_walks.proofs.zibewoka_find.Statement.{statement}
 use Rattle.export_walks.proofs.zibewoka_find.Tie as tie
 
@@ -12,7 +12,7 @@ of-find-requires : tie.Need-of-find-requires
 of-find-requires c κs = search rules
 
 returns : tie.Need-returns
-returns c = c.of-find.ensures ∙ ap (findAnswer _) c.before.find.ensures
+returns c = c.of-find.ensures ∙ ap (find_answer _) c.before.find.ensures
 
-pub zibewoka-find-spec : {M : Type 1} → statement M
-zibewoka-find-spec = tie.close (tie.spec find-requires of-find-requires returns)
+pub zibewoka_find_spec : {M : Type 1} → statement M
+zibewoka_find_spec = tie.close (tie.spec find-requires of-find-requires returns)

@@ -1,7 +1,7 @@
 -- `zibewoka_inverse` meets its contract: the library's promise, as an answer.
 use borrow.Author.Rules.{rules}
 use mathlib.Core.Path.{ap, ◌∙◌}
-use Rattle.export_walks.specs.Answers.{inverseAnswer}
+use Rattle.export_walks.specs.Answers.{inverse_answer}
 use Rattle.export_walks.proofs.zibewoka_inverse.Statement.{statement}
 use Rattle.export_walks.proofs.zibewoka_inverse.Tie as tie
 
@@ -12,7 +12,7 @@ of-inverse-requires : tie.Need-of-inverse-requires
 of-inverse-requires c κs = search rules
 
 returns : tie.Need-returns
-returns c = c.of-inverse.ensures ∙ ap (inverseAnswer) c.before.inverse.ensures
+returns c = c.of-inverse.ensures ∙ ap (inverse_answer) c.before.inverse.ensures
 
-pub zibewoka-inverse-spec : {M : Type 1} → statement M
-zibewoka-inverse-spec = tie.close (tie.spec inverse-requires of-inverse-requires returns)
+pub zibewoka_inverse_spec : {M : Type 1} → statement M
+zibewoka_inverse_spec = tie.close (tie.spec inverse-requires of-inverse-requires returns)

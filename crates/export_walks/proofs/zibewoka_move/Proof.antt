@@ -1,7 +1,7 @@
 -- `zibewoka_move` meets its contract: the answer of a repeated move, whose count fits.
 use borrow.Author.Rules.{rules}
 use native.Mathlib.Omega.{arith}
-use Rattle.export_walks.proofs.Answering.{move-answer-narrow, move-answer-count}
+use Rattle.export_walks.proofs.Answering.{move_answer_narrow, move_answer_count}
 use Rattle.export_walks.proofs.zibewoka_move.Statement.{statement}
 use Rattle.export_walks.proofs.zibewoka_move.Tie as tie
 
@@ -14,12 +14,12 @@ of-moves-requires c κs = search rules
 cast-t10 : tie.Need-overflow-cast-t10
 cast-t10 c =
     let e = c.before in
-    omega (arith, move-answer-count _ _ _ _ _ _ e.of-moves.ensures e.before.move-query.ensures)
+    omega (arith, move_answer_count _ _ _ _ _ _ e.of-moves.ensures e.before.move-query.ensures)
 
 returns : tie.Need-returns
 returns c =
     let e = c.before in
-    move-answer-narrow _ _ _ e.of-moves.ensures e.before.move-query.ensures
+    move_answer_narrow _ _ _ e.of-moves.ensures e.before.move-query.ensures
 
-pub zibewoka-move-spec : {M : Type 1} → statement M
-zibewoka-move-spec = tie.close (tie.spec move-query-requires of-moves-requires cast-t10 returns)
+pub zibewoka_move_spec : {M : Type 1} → statement M
+zibewoka_move_spec = tie.close (tie.spec move-query-requires of-moves-requires cast-t10 returns)

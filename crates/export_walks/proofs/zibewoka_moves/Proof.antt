@@ -1,7 +1,7 @@
 -- `zibewoka_moves` meets its contract: the library's promise, as an answer.
 use borrow.Author.Rules.{rules}
 use mathlib.Core.Path.{ap, ◌∙◌}
-use Rattle.export_walks.specs.Answers.{movesAnswer}
+use Rattle.export_walks.specs.Answers.{moves_answer}
 use Rattle.export_walks.proofs.zibewoka_moves.Statement.{statement}
 use Rattle.export_walks.proofs.zibewoka_moves.Tie as tie
 
@@ -12,7 +12,7 @@ of-moves-requires : tie.Need-of-moves-requires
 of-moves-requires c κs = search rules
 
 returns : tie.Need-returns
-returns c = c.of-moves.ensures ∙ ap (movesAnswer) c.before.repeated-moves.ensures
+returns c = c.of-moves.ensures ∙ ap (moves_answer) c.before.repeated-moves.ensures
 
-pub zibewoka-moves-spec : {M : Type 1} → statement M
-zibewoka-moves-spec = tie.close (tie.spec repeated-moves-requires of-moves-requires returns)
+pub zibewoka_moves_spec : {M : Type 1} → statement M
+zibewoka_moves_spec = tie.close (tie.spec repeated-moves-requires of-moves-requires returns)

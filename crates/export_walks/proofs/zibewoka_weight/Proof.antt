@@ -1,7 +1,7 @@
 -- `zibewoka_weight` meets its contract: the library's promise, as an answer.
 use borrow.Author.Rules.{rules}
 use mathlib.Core.Path.{ap, ◌∙◌}
-use Rattle.export_walks.specs.Answers.{weightAnswer}
+use Rattle.export_walks.specs.Answers.{weight_answer}
 use Rattle.export_walks.proofs.zibewoka_weight.Statement.{statement}
 use Rattle.export_walks.proofs.zibewoka_weight.Tie as tie
 
@@ -12,7 +12,7 @@ of-weight-requires : tie.Need-of-weight-requires
 of-weight-requires c κs = search rules
 
 returns : tie.Need-returns
-returns c = c.of-weight.ensures ∙ ap (weightAnswer) c.before.weight.ensures
+returns c = c.of-weight.ensures ∙ ap (weight_answer) c.before.weight.ensures
 
-pub zibewoka-weight-spec : {M : Type 1} → statement M
-zibewoka-weight-spec = tie.close (tie.spec weight-requires of-weight-requires returns)
+pub zibewoka_weight_spec : {M : Type 1} → statement M
+zibewoka_weight_spec = tie.close (tie.spec weight-requires of-weight-requires returns)

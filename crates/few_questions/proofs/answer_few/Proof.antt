@@ -18,11 +18,11 @@ returns c =
 lend-requires-2 : tie.Need-lend-requires-2
 lend-requires-2 c κs = omega arith
 
-returns-2 : tie.Need-returns-2
-returns-2 c =
+returns_2 : tie.Need-returns-2
+returns_2 c =
     let k = c.before.before.before.before.before.before.args.count in
     let e : min k 8 ≡ k = min-eq_left (omega arith) in
     rw e c.lend2.ensures
 
-pub answer-few-spec : {M : Type 1} → statement M
-answer-few-spec = tie.close (tie.spec lend-requires returns lend-requires-2 returns-2)
+pub answer_few_spec : {M : Type 1} → statement M
+answer_few_spec = tie.close (tie.spec lend-requires returns lend-requires-2 returns_2)

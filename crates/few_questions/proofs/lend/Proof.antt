@@ -47,12 +47,12 @@ use denote.Triple.Table.{entered, cited}
 use denote.Triple.Walked.{says, needs, Stays, stay_dropped, walk_of, AllGo, Goes-dropped, Walks, ends_at}
 use denote.Triple.Walked.{walked, walk_Meets}
 use denote.Exit.{yes}
-use Rattle.tables.specs.Tables.{tables as tablesIn}
+use Rattle.tables.specs.Tables.{tables as tables_in}
 use Rattle.questions.specs.Questions.{Answers}
 use Rattle.questions.specs.declared.Question.{Question}
 use Rattle.questions.specs.declared.Answered.{Answered}
 use Rattle.tables.proofs.Held.{Xs, v, Number, Slice, num, list₁, list₂, list₃, list₄}
-use Rattle.questions.proofs.Handing.{Ans, length-left}
+use Rattle.questions.proofs.Handing.{Ans, length_left}
 use Rattle.questions.specs.contracts.Question as T
 use Rattle.questions.specs.contracts.Answered as S
 use Rattle.questions.proofs.Answered.TheLaws as S'
@@ -62,7 +62,7 @@ use Rattle.questions.proofs.answer.Symbol.{name as #questions·answer}
 use Rattle.questions.proofs.answer.Met as ans-thm
 use Rattle.few_questions.specs.Few.{AnswersFew}
 use Rattle.few_questions.specs.declared.Few.{Few}
-use Rattle.few_questions.proofs.Eight.{Eight, vals, val, tells, as-field, room, lawful}
+use Rattle.few_questions.proofs.Eight.{Eight, vals, val, tells, as_field, room, lawful}
 use Rattle.few_questions.proofs.Eight.{Whole, Front, Rest, Back, apart, whole}
 use Rattle.few_questions.specs.contracts.Few as N
 use Rattle.few_questions.proofs.Few.TheLaws as N'
@@ -145,18 +145,18 @@ module _ {M : Type 1} {𝓤 : Ura M} (𝓛 : Logic 𝓤) (at_mem : Memory → SP
   abbrev front : List Question
   front = take k h
 
-  front-count : length front ≡ k
-  front-count = length-take-le k h (subst (λ (m : ℕ). k ≤ m) (sym eight) k-most)
+  front_count : length front ≡ k
+  front_count = length-take-le k h (subst (λ (m : ℕ). k ≤ m) (sym eight) k-most)
 
   abbrev Said : Answered → List Question → Type 0
-  Said a w = Answers n (tablesIn s₁.now s₂.now s₃.now s₄.now) front a w
+  Said a w = Answers n (tables_in s₁.now s₂.now s₃.now s₄.now) front a w
 
   abbrev Promised : Answered → List Question → Type 0
-  Promised a left = AnswersFew n (tablesIn s₁.now s₂.now s₃.now s₄.now) k h a left
+  Promised a left = AnswersFew n (tables_in s₁.now s₂.now s₃.now s₄.now) k h a left
 
   promised : (a : Answered) (w : List Question) → Said a w → Promised a (w ++ rest k h)
   promised a w e =
-      let same = length-left _ _ _ _ _ e ∙ front-count in
+      let same = length_left _ _ _ _ _ e ∙ front_count in
       record { asked = subst (Said a) (sym (take_at w (rest k h) k same)) e; kept = drop_at w (rest k h) k same }
 
   abbrev Post : Val → SProp 𝓤
@@ -222,15 +222,15 @@ module _ {M : Type 1} {𝓤 : Ura M} (𝓛 : Logic 𝓤) (at_mem : Memory → SP
   abbrev made_val : Answered → List Question → Val
   made_val a ys = vstruct (of_list (EL.val S.the_type S'.the_laws a ∷ val ys ∷ []))
 
-  made-is : (a : Answered) (ys : List Question) (u : Val) → Is S.the_row a (u ∷ []) → Is Eight ys (val ys ∷ [])
+  made_is : (a : Answered) (ys : List Question) (u : Val) → Is S.the_row a (u ∷ []) → Is Eight ys (val ys ∷ [])
       → Is N.the_row (made a ys) (made_val a ys ∷ [])
-  made-is a ys u a-is ys-is = (
+  made_is a ys u a_is ys-is = (
     (EL.vals S.the_type S'.the_laws a, (vals ys, tt)),
     (
       refl,
       (
-        EL.owes S.the_type S'.the_laws a (EL.owed S.the_type S'.the_laws a _ a-is),
-        (as-field ys ys-is, tt),
+        EL.owes S.the_type S'.the_laws a (EL.owed S.the_type S'.the_laws a _ a_is),
+        (as_field ys ys-is, tt),
       ),
     ),
   )
@@ -285,7 +285,7 @@ module _ {M : Type 1} {𝓤 : Ura M} (𝓛 : Logic 𝓤) (at_mem : Memory → SP
         (init ! 2 refl (tt, (tt, (record { fits = k-fits }, tt)))) $
         rewrite ! 2
         (λ (m : ℕ). ‵ (fat full_share (slice_ty (ty_ref erased mut (pointee (T.the_row).written))) l₁₁ 0
-        (slice_val (l₈, 0) m))) (sym front-count) refl $
+        (slice_val (l₈, 0) m))) (sym front_count) refl $
         -- the first records are lent for a lifetime ν of the call
         move ! (8 ∷ []) $ use1 𝓛 (‵ (Front l₈ k h) ⊛ ‵ (Rest l₈ k h)) (apart l₈ 𝓛 k h was) $ split ! $
         lft_new ! tt (λ ν. move ! (1 ∷ []) $
@@ -338,7 +338,7 @@ module _ {M : Type 1} {𝓤 : Ura M} (𝓛 : Logic 𝓤) (at_mem : Memory → SP
         (init ! 3 refl ((lawful 𝓛).typed ys _ ys-is).0) $
         assigns ! (agg ! (and_then ! (load ! (from ! (stop !)) (look ! 9 refl))
         (and_then ! (load ! (from ! (stop !)) (look ! 3 refl)) (no_more !)))) (from ! (stop !))
-        (init ! 26 refl ((LL.lawful N.the_type N'.the_laws 𝓛).typed (made a ys) _ (made-is a ys u is ys-is)).0) $
+        (init ! 26 refl ((LL.lawful N.the_type N'.the_laws 𝓛).typed (made a ys) _ (made_is a ys u is ys-is)).0) $
         returns ! (look ! 26 refl) $ forget ! 1 refl $ forget ! 3 refl $ forget ! 5 refl $ forget ! 7 refl $
         forget ! 9 refl $ forget ! 12 refl $ forget ! 14 refl $ forget ! 16 refl $ forget ! 18 refl $
         forget ! 20 refl $ forget ! 22 refl $ forget ! 24 refl $ forget ! 26 refl $
@@ -348,16 +348,16 @@ module _ {M : Type 1} {𝓤 : Ura M} (𝓛 : Logic 𝓤) (at_mem : Memory → SP
         move ! (12 ∷ 13 ∷ []) $ free1 ! $ move ! (1 ∷ 11 ∷ []) $ free1 ! $ move ! (8 ∷ 9 ∷ []) $ free1 ! $
         move ! (6 ∷ 7 ∷ []) $ free1 ! $ move ! (4 ∷ 5 ∷ []) $ free1 ! $ move ! (2 ∷ 3 ∷ []) $ free1 ! $ free0 ! $
         keep ! (0 ∷ []) $
-        by ! (exits (made a ys) (made_val a ys) (promised a w e) (made-is a ys u is ys-is))))))))))))))))))))))))
+        by ! (exits (made a ys) (made_val a ys) (promised a w e) (made_is a ys u is ys-is))))))))))))))))))))))))
 
 module _ {M : Type 1} {𝓤 : Ura M} (𝓛 : Logic 𝓤) (mem : Memory → SProp 𝓤)
     (run : Routine → Fun 𝓤) where
   open 𝓛 use {H}
 
-  few-walks : (C : Calls 𝓤 H) (Λ : Loops 𝓤 H) → FmC 𝓤 H 𝓛.laws C
+  few_walks : (C : Calls 𝓤 H) (Λ : Loops 𝓤 H) → FmC 𝓤 H 𝓛.laws C
       → Triple 𝓤 (C #questions·answer) (Ans 𝓛 mem run)
       → Walks 𝓛 few.ended stayed (WpFn 𝓤 H C Λ code.function) (few.clauses 𝓛 mem run)
-  few-walks C Λ fm known =
+  few_walks C Λ fm known =
       walked 𝓛 few.ended stayed (few.clauses 𝓛 mem run) (WpFn 𝓤 H C Λ code.function)
       (λ κs. (uint_vals w32, (shr_slice_vals, (shr_slice_vals, (shr_slice_vals, (shr_slice_vals, (vals, (uint_vals w64, tt))))))))
       (λ κs. (
@@ -400,20 +400,20 @@ module _ {M : Type 1} {𝓤 : Ura M} (𝓛 : Logic 𝓤) (mem : Memory → SProp
     ),
   )
 
-few-meets : {M : Type 1} {𝓤 : Ura M} (𝓛 : Logic 𝓤) →
+few_meets : {M : Type 1} {𝓤 : Ura M} (𝓛 : Logic 𝓤) →
     (mem : Memory → SProp 𝓤) (run : Routine → Fun 𝓤) (𝓣 : Tables 𝓤 𝓛.H)
     → Triple 𝓤 (𝓣.C #questions·answer) (Ans 𝓛 mem run)
     → Meets 𝓛 few.signature (WpFn 𝓤 𝓛.H 𝓣.C 𝓣.Λ code.function) (few.spec 𝓛 mem run)
-few-meets {𝓤 = 𝓤} 𝓛 mem run 𝓣 known =
+few_meets {𝓤 = 𝓤} 𝓛 mem run 𝓣 known =
     walk_Meets 𝓛 few.ended stayed (goes 𝓛 mem run) (few.clauses 𝓛 mem run)
     (WpFn 𝓤 𝓛.H 𝓣.C 𝓣.Λ code.function) (WpFn-mono 𝓤 𝓛.H 𝓛.laws 𝓣 code.function)
-    (few-walks 𝓛 mem run 𝓣.C 𝓣.Λ (fm_of 𝓤 𝓛.H 𝓛.laws 𝓣) known)
+    (few_walks 𝓛 mem run 𝓣.C 𝓣.Λ (fm_of 𝓤 𝓛.H 𝓛.laws 𝓣) known)
 
 pub lend_spec : {M : Type 1} → stated.statement M
 unfolding code.routine tables_of
 lend_spec 𝓤 𝓛 𝓜 𝓡 =
     entered 𝓤 𝓛.H (triple_of 𝓛 few.signature (few.spec 𝓛 𝓜.mem 𝓡.run))
     (tables 𝓤 𝓛.H 𝓜 𝓡 code.env).C (tables 𝓤 𝓛.H 𝓜 𝓡 code.env).Λ #few-questions·lend code.function (code.unfolded 𝓤 𝓛.H 𝓜 𝓡)
-    (few-meets 𝓛 𝓜.mem 𝓡.run (tables_of 𝓤 𝓛.H 𝓜 (tables 𝓤 𝓛.H 𝓜 𝓡 code.env))
+    (few_meets 𝓛 𝓜.mem 𝓡.run (tables_of 𝓤 𝓛.H 𝓜 (tables 𝓤 𝓛.H 𝓜 𝓡 code.env))
     (cited 𝓤 𝓛.H (Ans 𝓛 𝓜.mem 𝓡.run) 𝓜 𝓡 code.env #questions·answer ans-def.routine
     code.calls-questions::answer (ans-thm.met 𝓤 𝓛 𝓜 𝓡)))

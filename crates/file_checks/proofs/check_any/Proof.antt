@@ -23,13 +23,13 @@ slice-aggregate-check-list-2 c = sym (length-take-le _ _ c.before.before.before.
 check-list-requires : tie.Need-check-list-requires
 check-list-requires c κs =
     let l = c.before.before.before.before.requires in
-    (l, record { long = l.long; starts-room = length-take-le _ _ l.few; images-room = length-take-le _ _ l.few })
+    (l, record { long = l.long; starts_room = length-take-le _ _ l.few; images_room = length-take-le _ _ l.few })
 
 returns : tie.Need-returns
 returns c = search rules
 
-pub check-any-spec : {M : Type 1} → statement M
-check-any-spec =
+pub check_any_spec : {M : Type 1} → statement M
+check_any_spec =
     tie.close
     (tie.spec
     cast-k

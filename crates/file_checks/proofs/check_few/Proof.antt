@@ -30,7 +30,7 @@ check-list-by-requires : tie.Need-check-list-by-requires
 check-list-by-requires c κs =
     let l = c.before.before.before.before.before.before.requires in (
       l.0,
-      record { long = l.0.long; starts-room = length-take-le _ _ l.1; images-room = length-take-le _ _ l.1 },
+      record { long = l.0.long; starts_room = length-take-le _ _ l.1; images_room = length-take-le _ _ l.1 },
       l.1,
       l.1,
     )
@@ -38,8 +38,8 @@ check-list-by-requires c κs =
 returns : tie.Need-returns
 returns c = search rules
 
-pub check-few-spec : {M : Type 1} → statement M
-check-few-spec =
+pub check_few_spec : {M : Type 1} → statement M
+check_few_spec =
     tie.close
     (tie.spec
     cast-k

@@ -23,19 +23,19 @@ slice-aggregate-check-list-2 c = sym (length-take-le _ _ c.before.before.before.
 check-list-requires : tie.Need-check-list-requires
 check-list-requires c κs =
     let l = c.before.before.before.before.before.before.requires in
-    (l.0, record { long = l.0.long; starts-room = length-take-le _ _ l.1.0; images-room = length-take-le _ _ l.1.1.0 })
+    (l.0, record { long = l.0.long; starts_room = length-take-le _ _ l.1.0; images_room = length-take-le _ _ l.1.1.0 })
 
 same_length : tie.Need-same-length
 same_length c = search rules
 
-same-length-2 : tie.Need-same-length-2
-same-length-2 c = search rules
+same_length_2 : tie.Need-same-length-2
+same_length_2 c = search rules
 
 returns : tie.Need-returns
 returns c = search rules
 
-pub check-in-spec : {M : Type 1} → statement M
-check-in-spec =
+pub check_in_spec : {M : Type 1} → statement M
+check_in_spec =
     tie.close
     (tie.spec
     cast-k
@@ -45,5 +45,5 @@ check-in-spec =
     slice-aggregate-check-list-2
     check-list-requires
     same_length
-    same-length-2
+    same_length_2
     returns)

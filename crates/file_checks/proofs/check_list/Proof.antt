@@ -1,7 +1,7 @@
 -- `check_list` meets its contract: the tests of the list that was read are the body's (`body_is`).
 use mathlib.Core.Path.{◌∙◌}
 use native.Mathlib.Omega.{arith}
-use Rattle.runs.specs.Check.{maxRuns}
+use Rattle.runs.specs.Check.{max_runs}
 use Rattle.files.proofs.Bodies.{body_is}
 use borrow.Author.Rules.{rules}
 use Rattle.file_checks.proofs.check_list.Statement.{statement}
@@ -22,8 +22,8 @@ then-degree-requires c κs = search rules
 same_length : tie.Need-same-length
 same_length c = search rules
 
-same-length-2 : tie.Need-same-length-2
-same-length-2 c = search rules
+same_length_2 : tie.Need-same-length-2
+same_length_2 c = search rules
 
 returns : tie.Need-returns
 returns c =
@@ -31,10 +31,10 @@ returns c =
     let l = k.before.before.before.before.before.before.before in
     let a = l.before.before.before.before.before.before.before in
     c.then-degree.ensures _ k.check.ensures
-    ∙ body_is maxRuns _ a.args.h a.requires.0 (omega arith) _ l.read-list.ensures
+    ∙ body_is max_runs _ a.args.h a.requires.0 (omega arith) _ l.read-list.ensures
 
-pub check-list-spec : {M : Type 1} → statement M
-check-list-spec =
+pub check_list_spec : {M : Type 1} → statement M
+check_list_spec =
     tie.close
     (tie.spec
     cast-read-list
@@ -42,5 +42,5 @@ check-list-spec =
     check-requires
     then-degree-requires
     same_length
-    same-length-2
+    same_length_2
     returns)

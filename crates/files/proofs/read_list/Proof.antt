@@ -15,23 +15,23 @@ read-words-requires-2 c κs = search rules
 same_length : tie.Need-same-length
 same_length c = search rules
 
-same-length-2 : tie.Need-same-length-2
-same-length-2 c = search rules
+same_length_2 : tie.Need-same-length-2
+same_length_2 c = search rules
 
 returns : tie.Need-returns
 returns c =
     let v = c.before.before in
     let u = v.before.before.before.before in
     let a = u.before.before.before.before.before in
-    rw (u.read-words.ensures, v.read-words2.ensures, a.requires.starts-room, a.requires.images-room)
+    rw (u.read-words.ensures, v.read-words2.ensures, a.requires.starts_room, a.requires.images_room)
 
-pub read-list-spec : {M : Type 1} → statement M
-read-list-spec =
+pub read_list_spec : {M : Type 1} → statement M
+read_list_spec =
     tie.close
     (tie.spec
     read-words-requires
     add-read-words
     read-words-requires-2
     same_length
-    same-length-2
+    same_length_2
     returns)

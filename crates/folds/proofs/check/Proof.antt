@@ -18,11 +18,11 @@ returns c = search rules
 check-requires : tie.Need-check-requires
 check-requires c κs = search rules
 
-returns-2 : tie.Need-returns-2
-returns-2 c = search rules
+returns_2 : tie.Need-returns-2
+returns_2 c = search rules
 
-pub check-spec : {M : Type 1} → statement M
-check-spec =
+pub check_spec : {M : Type 1} → statement M
+check_spec =
     tie.close
     (tie.spec
     slice-aggregate-check-order
@@ -30,4 +30,4 @@ check-spec =
     check-order-requires
     returns
     check-requires
-    returns-2)
+    returns_2)

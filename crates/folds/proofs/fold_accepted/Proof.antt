@@ -2,10 +2,10 @@
 use mathlib.Core.Path.{refl}
 use native.Mathlib.Omega.{arith}
 use Rattle.runs.specs.Runs.{runs}
-use Rattle.runs.specs.Written.{writtenSays}
-use Rattle.runs.proofs.WritesList.{starts-short, images-short}
-use Rattle.folds.proofs.Heads.{folded-no-more}
-use Rattle.folds.proofs.Outcomes.{fold-written}
+use Rattle.runs.specs.Written.{written_says}
+use Rattle.runs.proofs.WritesList.{starts_short, images_short}
+use Rattle.folds.proofs.Heads.{folded_no_more}
+use Rattle.folds.proofs.Outcomes.{fold_written}
 use borrow.Author.Rules.{rules}
 use Rattle.folds.proofs.fold_accepted.Statement.{statement}
 use Rattle.folds.proofs.fold_accepted.Tie as tie
@@ -14,10 +14,10 @@ cast-needed : tie.Need-overflow-cast-needed
 cast-needed c = omega (arith, c.before.before.before.before.requires.1)
 
 returns : tie.Need-returns
-returns c = starts-short _ _ _ _ writtenSays _ _ refl (omega arith)
+returns c = starts_short _ _ _ _ written_says _ _ refl (omega arith)
 
-returns-2 : tie.Need-returns-2
-returns-2 c = images-short _ _ _ _ writtenSays _ _ refl (omega arith) (omega arith)
+returns_2 : tie.Need-returns-2
+returns_2 c = images_short _ _ _ _ written_says _ _ refl (omega arith) (omega arith)
 
 write-folded-requires : tie.Need-write-folded-requires
 write-folded-requires c κs =
@@ -30,28 +30,28 @@ cast-size c =
     omega (
       arith,
       e.write-folded.ensures.counted,
-      folded-no-more (runs a.args.starts.now a.args.images.now),
+      folded_no_more (runs a.args.starts.now a.args.images.now),
       a.requires.1,
     )
 
 same_length : tie.Need-same-length
 same_length c = search rules
 
-same-length-2 : tie.Need-same-length-2
-same-length-2 c = search rules
+same_length_2 : tie.Need-same-length-2
+same_length_2 c = search rules
 
 returns-3 : tie.Need-returns-3
-returns-3 c = fold-written _ _ _ (omega arith) (omega arith) _ _ _ c.before.before.before.before.write-folded.ensures
+returns-3 c = fold_written _ _ _ (omega arith) (omega arith) _ _ _ c.before.before.before.before.write-folded.ensures
 
-pub fold-accepted-spec : {M : Type 1} → statement M
-fold-accepted-spec =
+pub fold_accepted_spec : {M : Type 1} → statement M
+fold_accepted_spec =
     tie.close
     (tie.spec
     cast-needed
     returns
-    returns-2
+    returns_2
     write-folded-requires
     cast-size
     same_length
-    same-length-2
+    same_length_2
     returns-3)

@@ -5,7 +5,7 @@ use mathlib.Core.Logic.{⊎_elim}
 use native.Mathlib.Omega.{arith}
 use lib.ListN.{length}
 use Rattle.runs.specs.Runs.{runs}
-use Rattle.folds.proofs.Heads.{Heading, heading-start, heading-few, heading-lengths, heading-past, heading-next, heading-end}
+use Rattle.folds.proofs.Heads.{Heading, heading_start, heading_few, heading_lengths, heading_past, heading_next, heading_end}
 use Rattle.folds.proofs.write_folded.Statement.{statement}
 use Rattle.folds.proofs.write_folded.Tie as tie
 
@@ -17,15 +17,15 @@ abbrev decreases-loop : tie.decreases-loop
 decreases-loop starts images to-starts₀ to-images₀ m₀ x₀ to-starts to-images m x = length starts - x
 
 loop-holds : tie.Need-loop-init invariant-loop decreases-loop
-loop-holds c = heading-start _ _ _ c.before.before.before.before.requires.1
+loop-holds c = heading_start _ _ _ c.before.before.before.before.requires.1
 
 few : (c : tie.At-loop invariant-loop decreases-loop) → c.loop.m ≤ c.loop.x
-few c = heading-few _ _ _ _ _ _ _ c.loop.invariant
+few c = heading_few _ _ _ _ _ _ _ c.loop.invariant
 
 lengths : (c : tie.At-loop invariant-loop decreases-loop) → let a = c.before.before.before.before.before.args in
     (length c.loop.to-starts ≡ length a.to-starts.now)
     × (length c.loop.to-images ≡ length a.to-images.now)
-lengths c = heading-lengths _ _ _ _ _ _ _ c.loop.invariant
+lengths c = heading_lengths _ _ _ _ _ _ _ c.loop.invariant
 
 is-head-requires : tie.Need-is-head-requires invariant-loop decreases-loop
 is-head-requires c κs = (omega arith, c.before.before.before.before.before.before.requires.0)
@@ -74,23 +74,23 @@ loop-again c =
     let h = c.before.is-head.ensures in
     let l = c.before.before.loop-test.true in
     ⊎_elim
-    (λ w. heading-next _ _ _ _ _ _ _ a.loop.invariant l _ h _ _ _
+    (λ w. heading_next _ _ _ _ _ _ _ a.loop.invariant l _ h _ _ _
     w.0.taken w.3 w.4 w.5)
-    (λ w. heading-past _ _ _ _ _ _ _ a.loop.invariant l _ h _ _ _
+    (λ w. heading_past _ _ _ _ _ _ _ a.loop.invariant l _ h _ _ _
     w.0.left w.1 w.2 w.3)
     c.if1.branch
 
 same_length : tie.Need-same-length invariant-loop decreases-loop
 same_length c = (lengths c.before).0
 
-same-length-2 : tie.Need-same-length-2 invariant-loop decreases-loop
-same-length-2 c = (lengths c.before).1
+same_length_2 : tie.Need-same-length-2 invariant-loop decreases-loop
+same_length_2 c = (lengths c.before).1
 
 returns : tie.Need-returns invariant-loop decreases-loop
-returns c = heading-end _ _ _ _ _ _ _ c.before.loop.invariant (omega arith)
+returns c = heading_end _ _ _ _ _ _ _ c.before.loop.invariant (omega arith)
 
-pub write-folded-spec : {M : Type 1} → statement M
-write-folded-spec =
+pub write_folded_spec : {M : Type 1} → statement M
+write_folded_spec =
     tie.close
     (tie.spec
     invariant-loop
@@ -110,5 +110,5 @@ write-folded-spec =
     loop-less
     loop-again
     same_length
-    same-length-2
+    same_length_2
     returns)

@@ -5,11 +5,11 @@ use Prim.Native.Nat.{◌+◌, ◌<◌}
 use native.Mathlib.Omega.{arith}
 use lib.ListN.{length}
 use Rattle.runs.specs.Runs.{Runs, runs}
-use Rattle.plans.specs.Plan.{noLimit, Plans, CutsFound}
+use Rattle.plans.specs.Plan.{no_limit, Plans, CutsFound}
 use Rattle.plans.specs.declared.Planned.{Planned}
 use Rattle.plans.proofs.Outcomes.{clearable}
-use Rattle.forecasts.proofs.Outcomes.{forecast-refused, forecast-few, forecast-sized}
-use Rattle.plans.proofs.Fitted.{found-planned}
+use Rattle.forecasts.proofs.Outcomes.{forecast_refused, forecast_few, forecast_sized}
+use Rattle.plans.proofs.Fitted.{found_planned}
 use Rattle.forecasts.proofs.forecast.Statement.{statement}
 use Rattle.forecasts.proofs.forecast.Tie as tie
 
@@ -28,14 +28,14 @@ list_of a = runs a.args.starts.now a.args.images.now
 
 -- what a plan promises, where it is known which
 promised : (c : tie.After-plan) (p : Planned) → c.plan.result ≡ p → let a = start c in
-    Plans a.args.n (list_of a) noLimit a.args.d a.args.working.now c.plan.new.1.1.1.1.1.0 p
+    Plans a.args.n (list_of a) no_limit a.args.d a.args.working.now c.plan.new.1.1.1.1.1.0 p
 promised c p e = let a = start c in
-    subst (λ (q : Planned). Plans a.args.n (list_of a) noLimit a.args.d a.args.working.now
+    subst (λ (q : Planned). Plans a.args.n (list_of a) no_limit a.args.d a.args.working.now
     c.plan.new.1.1.1.1.1.0 q) e c.plan.ensures
 
 -- the cuts that were found
 found : (c : tie.After-known-told2) → let a = start (plan-of c) in
-    CutsFound a.args.n (list_of a) noLimit a.args.d a.args.working.now (plan-of c).plan.new.1.1.1.1.1.0
+    CutsFound a.args.n (list_of a) no_limit a.args.d a.args.working.now (plan-of c).plan.new.1.1.1.1.1.0
     c.before.planned2.given.0.0
 found c = promised (plan-of c) _ c.before.planned2.given.1
 
@@ -53,12 +53,12 @@ clear-requires c κs =
     let k = c.before in
     let g = plan-of k in
     let a = start g in
-    clearable _ (list_of a) _ _ (found-planned _ (list_of a) _ _ _ _ (found k)) _ g.plan.kept.1.1.1.1.1.0
+    clearable _ (list_of a) _ _ (found_planned _ (list_of a) _ _ _ _ (found k)) _ g.plan.kept.1.1.1.1.1.0
 
 -- K fits in 32 bits
 small : (k : tie.After-known-told2) → let a = start (plan-of k) in
     length a.args.starts.now + k.before.planned2.given.0.0.cuts < 4294967296
-small k = let a = start (plan-of k) in forecast-few _ (list_of a) _ _ _ _ (found k)
+small k = let a = start (plan-of k) in forecast_few _ (list_of a) _ _ _ _ (found k)
 
 add-t16 : tie.Need-overflow-add-t16
 add-t16 c = omega (arith, small c.before.before.before.before.before)
@@ -76,19 +76,19 @@ returns : tie.Need-returns
 returns c =
     let g = planned c.before.before.before in
     let p = promised g _ c.before.planned.given.1 in
-    forecast-refused _ (list_of (start g)) _ _ _ _ p.0 p.1
+    forecast_refused _ (list_of (start g)) _ _ _ _ p.0 p.1
 
-same-length-2 : tie.Need-same-length-2
-same-length-2 c = search rules
+same_length_2 : tie.Need-same-length-2
+same_length_2 c = search rules
 
-returns-2 : tie.Need-returns-2
-returns-2 c =
+returns_2 : tie.Need-returns-2
+returns_2 c =
     let w = c.before.before.before.before in
     let k = w.before.before in
-    forecast-sized _ (list_of (start (plan-of k))) _ _ _ _ (found k) _ w.clear.ensures
+    forecast_sized _ (list_of (start (plan-of k))) _ _ _ _ (found k) _ w.clear.ensures
 
-pub forecast-spec : {M : Type 1} → statement M
-forecast-spec =
+pub forecast_spec : {M : Type 1} → statement M
+forecast_spec =
     tie.close
     (tie.spec
     plan-requires
@@ -100,5 +100,5 @@ forecast-spec =
     cast-t18
     same_length
     returns
-    same-length-2
-    returns-2)
+    same_length_2
+    returns_2)

@@ -8,7 +8,7 @@ use Rattle.runs.specs.Runs.{Runs, runs}
 use Rattle.plans.specs.Plan.{Plans, CutsFound}
 use Rattle.plans.specs.declared.Planned.{Planned}
 use Rattle.plans.proofs.Outcomes.{clearable}
-use Rattle.forecasts.proofs.Outcomes.{seek-refused, seek-few, seek_found, seek-planned}
+use Rattle.forecasts.proofs.Outcomes.{seek_refused, seek_few, seek_found, seek_planned}
 use Rattle.forecasts.proofs.least_degree.Statement.{statement}
 use Rattle.forecasts.proofs.least_degree.Tie as tie
 
@@ -52,12 +52,12 @@ clear-requires c κs =
     let k = c.before in
     let g = plan-of k in
     let a = start g in
-    clearable _ (list_of a) _ _ (seek-planned _ (list_of a) _ _ _ _ (found k)) _ g.plan.kept.1.1.1.1.1.0
+    clearable _ (list_of a) _ _ (seek_planned _ (list_of a) _ _ _ _ (found k)) _ g.plan.kept.1.1.1.1.1.0
 
 -- K fits in 32 bits
 small : (k : tie.After-known-told2) → let a = start (plan-of k) in
     length a.args.starts.now + k.before.planned2.given.0.0.cuts < 4294967296
-small k = let a = start (plan-of k) in seek-few _ (list_of a) _ _ _ _ (found k)
+small k = let a = start (plan-of k) in seek_few _ (list_of a) _ _ _ _ (found k)
 
 add-t16 : tie.Need-overflow-add-t16
 add-t16 c = omega (arith, small c.before.before.before.before.before)
@@ -72,19 +72,19 @@ returns : tie.Need-returns
 returns c =
     let g = planned c.before.before.before in
     let p = promised g _ c.before.planned.given.1 in
-    seek-refused _ (list_of (start g)) _ _ _ _ p.0 p.1
+    seek_refused _ (list_of (start g)) _ _ _ _ p.0 p.1
 
-same-length-2 : tie.Need-same-length-2
-same-length-2 c = search rules
+same_length_2 : tie.Need-same-length-2
+same_length_2 c = search rules
 
-returns-2 : tie.Need-returns-2
-returns-2 c =
+returns_2 : tie.Need-returns-2
+returns_2 c =
     let w = c.before.before.before in
     let k = w.before.before in
     seek_found _ (list_of (start (plan-of k))) _ _ _ _ (found k) _ w.clear.ensures
 
-pub least-degree-spec : {M : Type 1} → statement M
-least-degree-spec =
+pub least_degree_spec : {M : Type 1} → statement M
+least_degree_spec =
     tie.close
     (tie.spec
     plan-requires
@@ -95,5 +95,5 @@ least-degree-spec =
     cast-t17
     same_length
     returns
-    same-length-2
-    returns-2)
+    same_length_2
+    returns_2)

@@ -1,6 +1,6 @@
--- `holder_up_to` meets its contract: a run near `top` is the one (`not-below-found`), or all starts are counted.
+-- `holder_up_to` meets its contract: a run near `top` is the one (`not_below_found`), or all starts are counted.
 use borrow.Author.Rules.{rules}
-use Rattle.holders.proofs.Holding.{not-below-found}
+use Rattle.holders.proofs.Holding.{not_below_found}
 use Rattle.holders.proofs.holder_up_to.Statement.{statement}
 use Rattle.holders.proofs.holder_up_to.Tie as tie
 
@@ -20,7 +20,7 @@ shared-slice-read-if1 : tie.Need-shared-slice-read-if1
 shared-slice-read-if1 c = search rules
 
 returns : tie.Need-returns
-returns c = not-below-found _ _ _ c.before.before.lower3.ensures c.if1.true
+returns c = not_below_found _ _ _ c.before.before.lower3.ensures c.if1.true
 
 add-count-below : tie.Need-overflow-add-count-below
 add-count-below c = search rules
@@ -31,11 +31,11 @@ count-below-requires c κs = search rules
 sub-result : tie.Need-overflow-sub-result
 sub-result c = search rules
 
-returns-2 : tie.Need-returns-2
-returns-2 c = search rules
+returns_2 : tie.Need-returns-2
+returns_2 c = search rules
 
-pub holder-up-to-spec : {M : Type 1} → statement M
-holder-up-to-spec =
+pub holder_up_to_spec : {M : Type 1} → statement M
+holder_up_to_spec =
     tie.close
     (tie.spec
     lower-requires
@@ -47,4 +47,4 @@ holder-up-to-spec =
     add-count-below
     count-below-requires
     sub-result
-    returns-2)
+    returns_2)

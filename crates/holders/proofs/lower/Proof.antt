@@ -1,8 +1,8 @@
--- `lower` meets its contract: `not-below-lower`.
+-- `lower` meets its contract: `not_below_lower`.
 use borrow.Author.Rules.{rules}
 use Prim.Native.Nat.{◌-◌, ◌<◌}
 use Rattle.holders.specs.Parts.{NotBelow}
-use Rattle.holders.proofs.Holding.{not-below-lower}
+use Rattle.holders.proofs.Holding.{not_below_lower}
 use Rattle.holders.proofs.lower.Statement.{statement}
 use Rattle.holders.proofs.lower.Tie as tie
 
@@ -14,7 +14,7 @@ shared-slice-read-if1 c = search rules
 
 -- on the arm where the run at `top` starts above the place
 passed : (c : tie.Then1) → let a = c.before.before.args in (0 < a.top) × NotBelow a.starts.now a.p (a.top - 1)
-passed c = let a = c.before.before in not-below-lower _ _ _ a.requires c.if1.true
+passed c = let a = c.before.before in not_below_lower _ _ _ a.requires c.if1.true
 
 sub-result : tie.Need-overflow-sub-result
 sub-result c = (passed c).0
@@ -22,8 +22,8 @@ sub-result c = (passed c).0
 returns : tie.Need-returns
 returns c = (passed c).1
 
-returns-2 : tie.Need-returns-2
-returns-2 c = search rules
+returns_2 : tie.Need-returns-2
+returns_2 c = search rules
 
 pub lower_spec : {M : Type 1} → statement M
-lower_spec = tie.close (tie.spec mul-if1 shared-slice-read-if1 sub-result returns returns-2)
+lower_spec = tie.close (tie.spec mul-if1 shared-slice-read-if1 sub-result returns returns_2)

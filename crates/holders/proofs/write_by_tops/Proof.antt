@@ -4,13 +4,13 @@ use mathlib.Core.Path.{◌≡◌, sym, subst, ◌∙◌}
 use mathlib.Core.List.{map}
 use native.Mathlib.Omega.{arith}
 use lib.ListN.{length, get_or, length-map}
-use Rattle.order.proofs.Filling.{Filling, filling-none, filling-length, filling-next, filling-all}
-use Rattle.order.proofs.Laws.{count-le-length, get_d_map}
+use Rattle.order.proofs.Filling.{Filling, filling_none, filling_length, filling_next, filling_all}
+use Rattle.order.proofs.Laws.{count_le_length, get_d_map}
 use Rattle.runs.specs.Runs.{Runs, runs, run_at}
-use Rattle.runs.proofs.Legality.{image-below}
-use Rattle.holders.specs.Buckets.{bucketOf}
+use Rattle.runs.proofs.Legality.{image_below}
+use Rattle.holders.specs.Buckets.{bucket_of}
 use Rattle.holders.specs.Parts.{NotBelow}
-use Rattle.holders.proofs.Holding.{runs-below, holder-counted, tops_above}
+use Rattle.holders.proofs.Holding.{runs_below, holder_counted, tops_above}
 use Rattle.holders.proofs.write_by_tops.Statement.{statement}
 use Rattle.holders.proofs.write_by_tops.Tie as tie
 
@@ -30,33 +30,33 @@ turn c = c.before.before.before.before
 abbrev list_of : tie.Start invariant-loop decreases-loop → Runs
 list_of a = runs a.args.starts.now a.args.images.now
 
-abbrev holderOf : tie.Start invariant-loop decreases-loop → ℕ → ℕ
-holderOf a = run_at a.args.n (list_of a)
+abbrev holder_of : tie.Start invariant-loop decreases-loop → ℕ → ℕ
+holder_of a = run_at a.args.n (list_of a)
 
 -- the image of a turn
-abbrev imageAt : tie.In-loop invariant-loop decreases-loop → ℕ
-imageAt e = get_or (start e.before).args.images.now e.before.loop.x 0
+abbrev image_at : tie.In-loop invariant-loop decreases-loop → ℕ
+image_at e = get_or (start e.before).args.images.now e.before.loop.x 0
 
 within : (e : tie.In-loop invariant-loop decreases-loop) → e.before.loop.x < length (start e.before).args.starts.now
 within e = omega (arith, e.loop-test.true, (start e.before).pre.0.paired)
 
 -- its bucket has an entry
 bucketed : (e : tie.In-loop invariant-loop decreases-loop) → let a = (start e.before).args in
-    bucketOf a.scale (imageAt e) < length a.tops.now
+    bucket_of a.scale (image_at e) < length a.tops.now
 bucketed e = let a = start e.before in
-    a.pre.1.scaled.inside (imageAt e) (image-below a.args.n (list_of a) a.pre.0 e.before.loop.x (within e))
+    a.pre.1.scaled.inside (image_at e) (image_below a.args.n (list_of a) a.pre.0 e.before.loop.x (within e))
 
 -- what is found is its holder
 found : (c : tie.After-holder-up-to invariant-loop decreases-loop)
-    → c.holder-up-to.result ≡ holderOf (start (turn c).before) (imageAt (turn c))
+    → c.holder-up-to.result ≡ holder_of (start (turn c).before) (image_at (turn c))
 found c =
     let e = turn c in
     let a = start e.before in
-    omega (arith, c.holder-up-to.ensures, holder-counted a.args.n (list_of a) a.pre.0 e.before.loop.x (within e))
+    omega (arith, c.holder-up-to.ensures, holder_counted a.args.n (list_of a) a.pre.0 e.before.loop.x (within e))
 
 loop-holds : tie.Need-loop-init invariant-loop decreases-loop
 loop-holds c = let a = c.before.before.before.before in
-    filling-none _ _ (omega (arith, length-map a.args.images.now (holderOf a), a.requires.0.paired, a.requires.2))
+    filling_none _ _ (omega (arith, length-map a.args.images.now (holder_of a), a.requires.0.paired, a.requires.2))
 
 mul-p : tie.Need-overflow-mul-p invariant-loop decreases-loop
 mul-p c = omega arith
@@ -86,8 +86,8 @@ holder-up-to-requires c κs =
     let x = e.before.loop.x in
     let tops = a.args.tops.now in
     let top = tops_above a.args.n (list_of a) a.pre.0 _ tops a.pre.1 x (within e) in (
-      subst (λ (u : ℕ). NotBelow a.args.starts.now (imageAt e) (get_or tops u 0)) (sym b.bucket-of.ensures) top,
-      omega (arith, image-below a.args.n (list_of a) a.pre.0 x (within e)),
+      subst (λ (u : ℕ). NotBelow a.args.starts.now (image_at e) (get_or tops u 0)) (sym b.bucket-of.ensures) top,
+      omega (arith, image_below a.args.n (list_of a) a.pre.0 x (within e)),
     )
 
 cast-to : tie.Need-overflow-cast-to invariant-loop decreases-loop
@@ -97,8 +97,8 @@ cast-to c =
     omega (
       arith,
       c.holder-up-to.ensures,
-      count-le-length (imageAt e + 1) a.args.starts.now,
-      runs-below a.args.n (list_of a) a.pre.0,
+      count_le_length (image_at e + 1) a.args.starts.now,
+      runs_below a.args.n (list_of a) a.pre.0,
     )
 
 mul-to : tie.Need-overflow-mul-to invariant-loop decreases-loop
@@ -109,7 +109,7 @@ slice-write-to : tie.Need-slice-write-to invariant-loop decreases-loop
 slice-write-to c =
     let e = turn c in
     let l = e.before.loop in
-    omega (arith, (start e.before).pre.2, within e, filling-length _ _ l.to l.x l.inv)
+    omega (arith, (start e.before).pre.2, within e, filling_length _ _ l.to l.x l.inv)
 
 add-x : tie.Need-overflow-add-x invariant-loop decreases-loop
 add-x c = omega arith
@@ -122,18 +122,18 @@ loop-again c =
     let e = turn c in
     let a = start e.before in
     let l = e.before.loop in
-    filling-next _ _ _ _ l.inv (omega (arith, length-map a.args.images.now (holderOf a))) _
-    (found c ∙ sym (get_d_map (holderOf a) a.args.images.now l.x 0 e.loop-test.taken))
+    filling_next _ _ _ _ l.inv (omega (arith, length-map a.args.images.now (holder_of a))) _
+    (found c ∙ sym (get_d_map (holder_of a) a.args.images.now l.x 0 e.loop-test.taken))
 
 same_length : tie.Need-same-length invariant-loop decreases-loop
-same_length c = filling-length _ _ _ _ c.before.loop.invariant
+same_length c = filling_length _ _ _ _ c.before.loop.invariant
 
 returns : tie.Need-returns invariant-loop decreases-loop
 returns c = let a = start c.before in
-    filling-all _ _ _ _ c.before.loop.invariant (omega (arith, length-map a.args.images.now (holderOf a)))
+    filling_all _ _ _ _ c.before.loop.invariant (omega (arith, length-map a.args.images.now (holder_of a)))
 
-pub write-by-tops-spec : {M : Type 1} → statement M
-write-by-tops-spec =
+pub write_by_tops_spec : {M : Type 1} → statement M
+write_by_tops_spec =
     tie.close
     (tie.spec
     invariant-loop

@@ -1,7 +1,7 @@
 -- `write_holders` meets its contract: the buckets are noted in the room, and the holders written by them.
 use borrow.Author.Rules.{rules}
 use Rattle.runs.specs.Runs.{runs}
-use Rattle.holders.proofs.Holding.{runs-below}
+use Rattle.holders.proofs.Holding.{runs_below}
 use Rattle.holders.proofs.write_holders.Statement.{statement}
 use Rattle.holders.proofs.write_holders.Tie as tie
 
@@ -11,7 +11,7 @@ note-tops-requires c κs =
     let legal = a.requires.0 in
     record {
       some = legal.some;
-      few = runs-below a.args.n (runs a.args.starts.now a.args.images.now) legal;
+      few = runs_below a.args.n (runs a.args.starts.now a.args.images.now) legal;
       below = legal.below;
       fits = a.requires.2;
     }
@@ -22,12 +22,12 @@ write-by-tops-requires c κs = search rules
 same_length : tie.Need-same-length
 same_length c = search rules
 
-same-length-2 : tie.Need-same-length-2
-same-length-2 c = search rules
+same_length_2 : tie.Need-same-length-2
+same_length_2 c = search rules
 
 returns : tie.Need-returns
 returns c = search rules
 
-pub write-holders-spec : {M : Type 1} → statement M
-write-holders-spec =
-    tie.close (tie.spec note-tops-requires write-by-tops-requires same_length same-length-2 returns)
+pub write_holders_spec : {M : Type 1} → statement M
+write_holders_spec =
+    tie.close (tie.spec note-tops-requires write-by-tops-requires same_length same_length_2 returns)

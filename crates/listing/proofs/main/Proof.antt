@@ -1,7 +1,7 @@
 -- `main` meets its contract: the bytes that `list_file` counts stand in the text.
 use mathlib.Core.Path.{sym}
 use lib.Seq.{length-take-le}
-use Rattle.listings.proofs.Listings.{listed-within}
+use Rattle.listings.proofs.Listings.{listed_within}
 use borrow.Author.Rules.{rules}
 use Rattle.listing.proofs.main.Statement.{statement}
 use Rattle.listing.proofs.main.Tie as tie
@@ -25,10 +25,10 @@ list-file-requires : tie.Need-list-file-requires
 list-file-requires c κs = search rules
 
 array-share-prefix-text : tie.Need-array-share-prefix-text
-array-share-prefix-text c = listed-within _ _ _ _ c.before.list-file.ensures
+array-share-prefix-text c = listed_within _ _ _ _ c.before.list-file.ensures
 
 slice-aggregate-write-all : tie.Need-slice-aggregate-write-all
-slice-aggregate-write-all c = sym (length-take-le _ _ (listed-within _ _ _ _ c.before.before.list-file.ensures))
+slice-aggregate-write-all c = sym (length-take-le _ _ (listed_within _ _ _ _ c.before.before.list-file.ensures))
 
 write-all-requires : tie.Need-write-all-requires
 write-all-requires c κs = search rules

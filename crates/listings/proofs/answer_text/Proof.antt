@@ -1,5 +1,5 @@
 -- `answer_text` meets its contract: it is the definition's two cases.
-use Rattle.listings.specs.Parts.{answerText}
+use Rattle.listings.specs.Parts.{answer_text}
 use borrow.Author.Rules.{rules}
 use Rattle.listings.proofs.answer_text.Statement.{statement}
 use Rattle.listings.proofs.answer_text.Tie as tie
@@ -23,22 +23,22 @@ same_length : tie.Need-same-length
 same_length c = search rules
 
 returns : tie.Need-returns
-unfolding answerText
+unfolding answer_text
 returns c =
     let f = c.before.before in
     rw f.before.before.before.answer.given.1 f.refusal-line.ensures
 
-same-length-2 : tie.Need-same-length-2
-same-length-2 c = search rules
+same_length_2 : tie.Need-same-length-2
+same_length_2 c = search rules
 
-returns-2 : tie.Need-returns-2
-unfolding answerText
-returns-2 c =
+returns_2 : tie.Need-returns-2
+unfolding answer_text
+returns_2 c =
     let f = c.before.before in
     rw f.before.before.before.answer2.given.1 f.table.ensures
 
-pub answer-text-spec : {M : Type 1} → statement M
-answer-text-spec =
+pub answer_text_spec : {M : Type 1} → statement M
+answer_text_spec =
     tie.close
     (tie.spec
     enum-known-answer
@@ -47,5 +47,5 @@ answer-text-spec =
     table-requires
     same_length
     returns
-    same-length-2
-    returns-2)
+    same_length_2
+    returns_2)

@@ -24,7 +24,7 @@ list-read-requires : tie.Need-list-read-requires
 list-read-requires c κs =
     let a = c.before.before.before.before.before.before in
     let l = a.requires.0 in
-    (l, record { long = l.long; starts-room = length-take-le _ _ l.few; images-room = length-take-le _ _ l.few }, a.requires.1)
+    (l, record { long = l.long; starts_room = length-take-le _ _ l.few; images_room = length-take-le _ _ l.few }, a.requires.1)
 
 same_length : tie.Need-same-length
 same_length c = search rules
@@ -32,8 +32,8 @@ same_length c = search rules
 returns : tie.Need-returns
 returns c = search rules
 
-pub list-body-spec : {M : Type 1} → statement M
-list-body-spec =
+pub list_body_spec : {M : Type 1} → statement M
+list_body_spec =
     tie.close
     (tie.spec
     cast-k

@@ -4,7 +4,7 @@ use mathlib.Core.Path.{sym}
 use native.Mathlib.Omega.{arith}
 use lib.ListN.{length}
 use lib.Seq.{length-take-le}
-use Rattle.listings.proofs.Listings.{count-within, list_copied}
+use Rattle.listings.proofs.Listings.{count_within, list_copied}
 use borrow.Author.Rules.{rules}
 use Rattle.listings.proofs.list_by.Statement.{statement}
 use Rattle.listings.proofs.list_by.Tie as tie
@@ -18,10 +18,10 @@ start c = (listed c).before.before.before.before.before
 
 within : (c : tie.After-fitting)
     → (c.fitting.result ≤ (listed c).listing.result) × (c.fitting.result ≤ length (start c).args.text.now)
-within c = count-within _ (start c).args.text.now _ _ _ (listed c).listing.ensures _ c.fitting.ensures
+within c = count_within _ (start c).args.text.now _ _ _ (listed c).listing.ensures _ c.fitting.ensures
 
-on-page : (c : tie.After-fitting) → c.fitting.result ≤ length (listed c).listing.new.0
-on-page c = omega (arith, (within c).0, (listed c).listing.ensures.inside, (listed c).listing.auto.0)
+on_page : (c : tie.After-fitting) → c.fitting.result ≤ length (listed c).listing.new.0
+on_page c = omega (arith, (within c).0, (listed c).listing.ensures.inside, (listed c).listing.auto.0)
 
 listing-requires : tie.Need-listing-requires
 listing-requires c κs = search rules
@@ -30,21 +30,21 @@ fitting-requires : tie.Need-fitting-requires
 fitting-requires c κs = search rules
 
 slice-reshare-prefix-copy : tie.Need-slice-reshare-prefix-copy
-slice-reshare-prefix-copy c = on-page c
+slice-reshare-prefix-copy c = on_page c
 
 slice-aggregate-copy : tie.Need-slice-aggregate-copy
-slice-aggregate-copy c = sym (length-take-le _ _ (on-page c.before))
+slice-aggregate-copy c = sym (length-take-le _ _ (on_page c.before))
 
 copy-requires : tie.Need-copy-requires
 copy-requires c κs =
     let f = c.before.before in
-    omega (arith, (within f).1, length-take-le f.fitting.result (listed f).listing.new.0 (on-page f))
+    omega (arith, (within f).1, length-take-le f.fitting.result (listed f).listing.new.0 (on_page f))
 
 same_length : tie.Need-same-length
 same_length c = search rules
 
-same-length-2 : tie.Need-same-length-2
-same-length-2 c = search rules
+same_length_2 : tie.Need-same-length-2
+same_length_2 c = search rules
 
 returns : tie.Need-returns
 returns c =
@@ -52,8 +52,8 @@ returns c =
     let f = p.before.before.before in
     list_copied _ (start f).args.text.now _ _ _ (listed f).listing.ensures _ f.fitting.ensures _ _ p.copy.ensures.0 p.copy.ensures.1
 
-pub list-by-spec : {M : Type 1} → statement M
-list-by-spec =
+pub list_by_spec : {M : Type 1} → statement M
+list_by_spec =
     tie.close
     (tie.spec
     listing-requires
@@ -62,5 +62,5 @@ list-by-spec =
     slice-aggregate-copy
     copy-requires
     same_length
-    same-length-2
+    same_length_2
     returns)

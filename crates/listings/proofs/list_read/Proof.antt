@@ -1,5 +1,5 @@
--- `list_read` meets its contract: the list that was read is the file's (`listing-body`).
-use Rattle.listings.proofs.Listings.{listing-body}
+-- `list_read` meets its contract: the list that was read is the file's (`listing_body`).
+use Rattle.listings.proofs.Listings.{listing_body}
 use borrow.Author.Rules.{rules}
 use Rattle.listings.proofs.list_read.Statement.{statement}
 use Rattle.listings.proofs.list_read.Tie as tie
@@ -16,8 +16,8 @@ list-runs-requires c κs = search rules
 same_length : tie.Need-same-length
 same_length c = search rules
 
-same-length-2 : tie.Need-same-length-2
-same-length-2 c = search rules
+same_length_2 : tie.Need-same-length-2
+same_length_2 c = search rules
 
 same-length-3 : tie.Need-same-length-3
 same-length-3 c = search rules
@@ -27,16 +27,16 @@ returns c =
     let f = c.before.before in
     let l = f.before.before.before.before.before.before.before.before in
     let a = l.before.before.before.before.before.before.before.before in
-    rw (← listing-body _ a.args.h a.requires.0 _ l.read-list.ensures) f.list-runs.ensures
+    rw (← listing_body _ a.args.h a.requires.0 _ l.read-list.ensures) f.list-runs.ensures
 
-pub list-read-spec : {M : Type 1} → statement M
-list-read-spec =
+pub list_read_spec : {M : Type 1} → statement M
+list_read_spec =
     tie.close
     (tie.spec
     cast-read-list
     read-list-requires
     list-runs-requires
     same_length
-    same-length-2
+    same_length_2
     same-length-3
     returns)

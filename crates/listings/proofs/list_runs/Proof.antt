@@ -1,6 +1,6 @@
--- `list_runs` meets its contract: what balancing answers makes the text (`answer-is`).
+-- `list_runs` meets its contract: what balancing answers makes the text (`answer_is`).
 use native.Mathlib.Omega.{arith}
-use Rattle.listings.proofs.Answering.{answered, answer-is}
+use Rattle.listings.proofs.Answering.{answered, answer_is}
 use borrow.Author.Rules.{rules}
 use Rattle.listings.proofs.list_runs.Statement.{statement}
 use Rattle.listings.proofs.list_runs.Tie as tie
@@ -55,12 +55,12 @@ returns c =
     let f = c.before.before in
     let b = f.before.before.before.before.before.before.before.before.before.before.before in
     rw
-    (answer-is (start b).args.h _ (start b).requires.0 _ _ _ b.balance.ensures
+    (answer_is (start b).args.h _ (start b).requires.0 _ _ _ b.balance.ensures
     (omega arith, (omega arith, (omega arith, (omega arith, (omega arith, tt))))))
     f.answer-text.ensures
 
-pub list-runs-spec : {M : Type 1} → statement M
-list-runs-spec =
+pub list_runs_spec : {M : Type 1} → statement M
+list_runs_spec =
     tie.close
     (tie.spec
     slice-aggregate-balance

@@ -1,6 +1,6 @@
 -- `refusal_line` meets its contract: the line has room on the page.
 use native.Mathlib.Omega.{arith}
-use Rattle.text.proofs.Lines.{refusal-length}
+use Rattle.text.proofs.Lines.{refusal_length}
 use borrow.Author.Rules.{rules}
 use Rattle.listings.proofs.refusal_line.Statement.{statement}
 use Rattle.listings.proofs.refusal_line.Tie as tie
@@ -13,7 +13,7 @@ place-requires c κs = search rules
 
 refusal-requires : tie.Need-refusal-requires
 refusal-requires c κs =
-    let l = refusal-length c.before.number.result c.place.result (omega arith) (omega arith) in
+    let l = refusal_length c.before.number.result c.place.result (omega arith) (omega arith) in
     record { room = omega arith }
 
 same_length : tie.Need-same-length
@@ -24,5 +24,5 @@ returns c =
     let f = c.before.before in
     rw (f.before.before.number.ensures, f.before.place.ensures) at f.refusal.ensures
 
-pub refusal-line-spec : {M : Type 1} → statement M
-refusal-line-spec = tie.close (tie.spec number-requires place-requires refusal-requires same_length returns)
+pub refusal_line_spec : {M : Type 1} → statement M
+refusal_line_spec = tie.close (tie.spec number-requires place-requires refusal-requires same_length returns)

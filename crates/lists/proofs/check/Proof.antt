@@ -25,8 +25,8 @@ slice-aggregate-check-order-4 c = search rules
 check-order-requires-2 : tie.Need-check-order-requires-2
 check-order-requires-2 c κs = search rules
 
-returns-2 : tie.Need-returns-2
-returns-2 c = search rules
+returns_2 : tie.Need-returns-2
+returns_2 c = search rules
 
 slice-aggregate-with-room : tie.Need-slice-aggregate-with-room
 slice-aggregate-with-room c = search rules
@@ -40,8 +40,8 @@ with-room-requires c κs = search rules
 returns-3 : tie.Need-returns-3
 returns-3 c = c.before.before.with-room.ensures.checked refl
 
-pub check-spec : {M : Type 1} → statement M
-check-spec =
+pub check_spec : {M : Type 1} → statement M
+check_spec =
     tie.close
     (tie.spec
     slice-aggregate-check-order
@@ -51,7 +51,7 @@ check-spec =
     slice-aggregate-check-order-3
     slice-aggregate-check-order-4
     check-order-requires-2
-    returns-2
+    returns_2
     slice-aggregate-with-room
     slice-aggregate-with-room-2
     with-room-requires

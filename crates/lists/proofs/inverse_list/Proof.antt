@@ -10,11 +10,11 @@ with-room-requires c κs = search rules
 same_length : tie.Need-same-length
 same_length c = search rules
 
-same-length-2 : tie.Need-same-length-2
-same-length-2 c = search rules
+same_length_2 : tie.Need-same-length-2
+same_length_2 c = search rules
 
 returns : tie.Need-returns
 returns c = c.before.before.before.before.with-room.ensures.inverted refl
 
-pub inverse-list-spec : {M : Type 1} → statement M
-inverse-list-spec = tie.close (tie.spec with-room-requires same_length same-length-2 returns)
+pub inverse_list_spec : {M : Type 1} → statement M
+inverse_list_spec = tie.close (tie.spec with-room-requires same_length same_length_2 returns)

@@ -1,7 +1,7 @@
 -- `shift` meets its contract: both numbers are of 32 bits, so their difference is one of 64.
 use native.Mathlib.Omega.{arith}
 use borrow.Author.Rules.{rules}
-use Rattle.lists.proofs.Shifting.{minus-fits, minus-exact}
+use Rattle.lists.proofs.Shifting.{minus_fits, minus_exact}
 use Rattle.lists.proofs.shift.Statement.{statement}
 use Rattle.lists.proofs.shift.Tie as tie
 
@@ -12,10 +12,10 @@ cast-result-2 : tie.Need-overflow-cast-result-2
 cast-result-2 c = search rules
 
 sub-result : tie.Need-overflow-sub-result
-sub-result c = minus-fits c.args.image c.args.start (omega arith) (omega arith)
+sub-result c = minus_fits c.args.image c.args.start (omega arith) (omega arith)
 
 returns : tie.Need-returns
-returns c = minus-exact c.args.image c.args.start (omega arith) (omega arith)
+returns c = minus_exact c.args.image c.args.start (omega arith) (omega arith)
 
-pub shift-spec : {M : Type 1} → statement M
-shift-spec = tie.close (tie.spec cast-result cast-result-2 sub-result returns)
+pub shift_spec : {M : Type 1} → statement M
+shift_spec = tie.close (tie.spec cast-result cast-result-2 sub-result returns)

@@ -2,7 +2,7 @@
 use borrow.Author.Rules.{rules}
 use mathlib.Core.Path.{◌∙◌}
 use native.Mathlib.Omega.{arith}
-use Rattle.merging.proofs.Merged.{at-start, at_cut}
+use Rattle.merging.proofs.Merged.{at_start, at_cut}
 use Rattle.merging.proofs.entry_at.Statement.{statement}
 use Rattle.merging.proofs.entry_at.Tie as tie
 
@@ -18,11 +18,11 @@ returns c = c.before.entry-or2.ensures
     c.before.before.before.before.before.requires.1
     (omega (arith, c.before.before.entry-or.ensures, c.before.entry-or2.ensures, c.if1.true))
 
-returns-2 : tie.Need-returns-2
-returns-2 c = c.before.before.entry-or.ensures
-    ∙ at-start _ _ _ c.before.before.before.before.before.requires.0 _ _
+returns_2 : tie.Need-returns-2
+returns_2 c = c.before.before.entry-or.ensures
+    ∙ at_start _ _ _ c.before.before.before.before.before.requires.0 _ _
     c.before.before.before.before.before.requires.1
     (omega (arith, c.before.before.entry-or.ensures, c.before.entry-or2.ensures, c.if1.false))
 
-pub entry-at-spec : {M : Type 1} → statement M
-entry-at-spec = tie.close (tie.spec entry-or-requires entry-or-requires-2 returns returns-2)
+pub entry_at_spec : {M : Type 1} → statement M
+entry_at_spec = tie.close (tie.spec entry-or-requires entry-or-requires-2 returns returns_2)

@@ -2,7 +2,7 @@
 use borrow.Author.Rules.{rules}
 use mathlib.Core.Path.{◌∙◌}
 use native.Mathlib.Omega.{arith}
-use Rattle.merging.proofs.Merged.{merged-length, at-start, at_cut, next_start, next-cut}
+use Rattle.merging.proofs.Merged.{merged_length, at_start, at_cut, next_start, next_cut}
 use Rattle.merging.proofs.step.Statement.{statement}
 use Rattle.merging.proofs.step.Tie as tie
 
@@ -18,30 +18,30 @@ entry-or-requires-2 c κs = search rules
 
 add-t10 : tie.Need-overflow-add-t10
 add-t10 c = let a = start c.before.before in
-    omega (arith, a.pre.1.within, a.good, merged-length a.args.starts.now a.args.cuts.now)
+    omega (arith, a.pre.1.within, a.good, merged_length a.args.starts.now a.args.cuts.now)
 
 returns : tie.Need-returns
 returns c =
     let r = c.before.before in
     let a = start r in
     record {
-      entry-is = r.entry-or2.ensures ∙ at_cut _ _ _ a.pre.0 _ _ a.pre.1 (omega (arith, r.before.entry-or.ensures, r.entry-or2.ensures, c.before.if1.true));
-      behind = λ h. next-cut _ _ _ a.pre.0 _ _ a.pre.1 h (omega (arith, r.before.entry-or.ensures, r.entry-or2.ensures, c.before.if1.true));
+      entry_is = r.entry-or2.ensures ∙ at_cut _ _ _ a.pre.0 _ _ a.pre.1 (omega (arith, r.before.entry-or.ensures, r.entry-or2.ensures, c.before.if1.true));
+      behind = λ h. next_cut _ _ _ a.pre.0 _ _ a.pre.1 h (omega (arith, r.before.entry-or.ensures, r.entry-or2.ensures, c.before.if1.true));
     }
 
 add-t11 : tie.Need-overflow-add-t11
 add-t11 c = let a = start c.before.before in
-    omega (arith, a.pre.1.within, a.good, merged-length a.args.starts.now a.args.cuts.now)
+    omega (arith, a.pre.1.within, a.good, merged_length a.args.starts.now a.args.cuts.now)
 
-returns-2 : tie.Need-returns-2
-returns-2 c =
+returns_2 : tie.Need-returns-2
+returns_2 c =
     let r = c.before.before in
     let a = start r in
     record {
-      entry-is = r.before.entry-or.ensures ∙ at-start _ _ _ a.pre.0 _ _ a.pre.1 (omega (arith, r.before.entry-or.ensures, r.entry-or2.ensures, c.before.if1.false));
+      entry_is = r.before.entry-or.ensures ∙ at_start _ _ _ a.pre.0 _ _ a.pre.1 (omega (arith, r.before.entry-or.ensures, r.entry-or2.ensures, c.before.if1.false));
       behind = λ h. next_start _ _ _ a.pre.0 _ _ a.pre.1 h (omega (arith, r.before.entry-or.ensures, r.entry-or2.ensures, c.before.if1.false));
     }
 
 pub step_spec : {M : Type 1} → statement M
 step_spec =
-    tie.close (tie.spec entry-or-requires entry-or-requires-2 add-t10 returns add-t11 returns-2)
+    tie.close (tie.spec entry-or-requires entry-or-requires-2 add-t10 returns add-t11 returns_2)

@@ -5,19 +5,19 @@ use mathlib.Core.Bool.{not}
 use mathlib.Core.Logic.{◌⊎◌, inl, inr}
 use lib.Dec.{ltb, leb}
 use borrow.Author.Tests.{lt-ltb, le-ltb, lt-leb, le-leb}
-use Rattle.order.proofs.Laws.{lt-or-le}
+use Rattle.order.proofs.Laws.{lt_or_le}
 use Rattle.outcomes.proofs.is_degree.Statement.{statement}
 use Rattle.outcomes.proofs.is_degree.Tie as tie
 
 returns : tie.Need-returns
 returns c = rw (lt-ltb c.before.args.d 2 c.if1.true)
 
-returns-2 : tie.Need-returns-2
-returns-2 c = rw (le-ltb c.before.args.d 2 c.if1.false) (go (lt-or-le 64 c.before.args.d))
+returns_2 : tie.Need-returns-2
+returns_2 c = rw (le-ltb c.before.args.d 2 c.if1.false) (go (lt_or_le 64 c.before.args.d))
   where
     go : (64 < c.before.args.d) ⊎ (c.before.args.d ≤ 64) → leb c.before.args.d 64 ≡ not (ltb 64 c.before.args.d)
     go (inl h) = rw (lt-leb c.before.args.d 64 h, lt-ltb 64 c.before.args.d h)
     go (inr h) = rw (le-leb c.before.args.d 64 h, le-ltb 64 c.before.args.d h)
 
-pub is-degree-spec : {M : Type 1} → statement M
-is-degree-spec = tie.close (tie.spec returns returns-2)
+pub is_degree_spec : {M : Type 1} → statement M
+is_degree_spec = tie.close (tie.spec returns returns_2)

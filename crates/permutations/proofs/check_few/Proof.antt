@@ -15,6 +15,6 @@ check-order-requires c κs = search rules
 returns : tie.Need-returns
 returns c = search rules
 
-pub check-few-spec : {M : Type 1} → statement M
-check-few-spec =
+pub check_few_spec : {M : Type 1} → statement M
+check_few_spec =
     tie.close (tie.spec slice-aggregate-check-order slice-aggregate-check-order-2 check-order-requires returns)

@@ -1,8 +1,8 @@
 -- `write_next` meets its contract: where the values ascent, the next ones stand in `changed`, and `folds` writes their list.
 use native.Mathlib.Omega.{arith}
-use Rattle.permutations.proofs.Ascents.{ascent-few, change}
-use Rattle.permutations.proofs.Writing.{places-size, written_last, written-few, written_next}
-use Rattle.permutations.proofs.Writing.{Ready, ready, after-size, single-asked}
+use Rattle.permutations.proofs.Ascents.{ascent_few, change}
+use Rattle.permutations.proofs.Writing.{places_size, written_last, written_few, written_next}
+use Rattle.permutations.proofs.Writing.{Ready, ready, after_size, single_asked}
 use borrow.Author.Rules.{rules}
 use Rattle.permutations.proofs.write_next.Statement.{statement}
 use Rattle.permutations.proofs.write_next.Tie as tie
@@ -28,10 +28,10 @@ sub-last-above c = search rules
 
 mul-last-above : tie.Need-overflow-mul-last-above
 mul-last-above c =
-    let e = c.before in omega (arith, ascent-few _ _ e.last-ascent.ensures, e.before.before.before.before.requires.few)
+    let e = c.before in omega (arith, ascent_few _ _ e.last-ascent.ensures, e.before.before.before.before.requires.few)
 
 shared-slice-read-last-above : tie.Need-shared-slice-read-last-above
-shared-slice-read-last-above c = omega (arith, ascent-few _ _ c.before.before.last-ascent.ensures)
+shared-slice-read-last-above c = omega (arith, ascent_few _ _ c.before.before.last-ascent.ensures)
 
 last-above-requires : tie.Need-last-above-requires
 last-above-requires c κs = search rules
@@ -45,35 +45,35 @@ array-share-prefix-places : tie.Need-array-share-prefix-places
 array-share-prefix-places c = search rules
 
 slice-aggregate-write-folded : tie.Need-slice-aggregate-write-folded
-slice-aggregate-write-folded c = places-size _ c.before.before.before.before.before.before.before.before.before.requires.few
+slice-aggregate-write-folded c = places_size _ c.before.before.before.before.before.before.before.before.before.requires.few
 
 array-share-prefix-changed : tie.Need-array-share-prefix-changed
 array-share-prefix-changed c = search rules
 
 slice-aggregate-write-folded-2 : tie.Need-slice-aggregate-write-folded-2
-slice-aggregate-write-folded-2 c = after-size _ _ _ _ (known c.before.before)
+slice-aggregate-write-folded-2 c = after_size _ _ _ _ (known c.before.before)
 
 write-folded-requires : tie.Need-write-folded-requires
-write-folded-requires c κs = single-asked _ _ _ _ (known c.before.before.before.before)
+write-folded-requires c κs = single_asked _ _ _ _ (known c.before.before.before.before)
 
 cast-size : tie.Need-overflow-cast-size
 cast-size c =
     let e = c.before.before.before.before in
-    omega (arith, written-few _ _ _ _ (known e.before.before.before.before.before) _ _ _ e.write-folded.ensures)
+    omega (arith, written_few _ _ _ _ (known e.before.before.before.before.before) _ _ _ e.write-folded.ensures)
 
 same_length : tie.Need-same-length
 same_length c = search rules
 
-same-length-2 : tie.Need-same-length-2
-same-length-2 c = search rules
+same_length_2 : tie.Need-same-length-2
+same_length_2 c = search rules
 
-returns-2 : tie.Need-returns-2
-returns-2 c =
+returns_2 : tie.Need-returns-2
+returns_2 c =
     let e = c.before.before.before.before in
     written_next _ _ _ _ (known e.before.before.before.before.before) _ _ _ e.write-folded.ensures
 
-pub write-next-spec : {M : Type 1} → statement M
-write-next-spec =
+pub write_next_spec : {M : Type 1} → statement M
+write_next_spec =
     tie.close
     (tie.spec
     last-ascent-requires
@@ -90,5 +90,5 @@ write-next-spec =
     write-folded-requires
     cast-size
     same_length
-    same-length-2
-    returns-2)
+    same_length_2
+    returns_2)

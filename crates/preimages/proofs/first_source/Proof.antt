@@ -3,19 +3,19 @@ use Prim.Native.Nat.{◌-◌}
 use mathlib.Core.Path.{sym, ◌∙◌}
 use native.Mathlib.Omega.{arith}
 use lib.ListN.{length}
-use Rattle.outcomes.proofs.Searching.{Searched, searched-none, searched-hit, searched-next, searched-end}
-use Rattle.preimages.specs.Parts.{imageHas}
+use Rattle.outcomes.proofs.Searching.{Searched, searched_none, searched_hit, searched_next, searched_end}
+use Rattle.preimages.specs.Parts.{image_has}
 use Rattle.preimages.proofs.first_source.Statement.{statement}
 use Rattle.preimages.proofs.first_source.Tie as tie
 
 abbrev invariant-loop : tie.invariant-loop
-invariant-loop images lengths j x₀ x = Searched (imageHas images lengths j) (length images) x
+invariant-loop images lengths j x₀ x = Searched (image_has images lengths j) (length images) x
 
 abbrev decreases-loop : tie.decreases-loop
 decreases-loop images lengths j x₀ x = length images - x
 
 loop-holds : tie.Need-loop-init invariant-loop decreases-loop
-loop-holds c = searched-none _ _
+loop-holds c = searched_none _ _
 
 is-source-requires : tie.Need-is-source-requires invariant-loop decreases-loop
 is-source-requires c κs = omega arith
@@ -23,7 +23,7 @@ is-source-requires c κs = omega arith
 returns : tie.Need-returns invariant-loop decreases-loop
 returns c =
     let l = c.before.before.before in
-    searched-hit _ _ _ l.loop.invariant (omega arith) (sym c.before.is-source.ensures ∙ c.if1.true)
+    searched_hit _ _ _ l.loop.invariant (omega arith) (sym c.before.is-source.ensures ∙ c.if1.true)
 
 add-x : tie.Need-overflow-add-x invariant-loop decreases-loop
 add-x c = omega arith
@@ -34,13 +34,13 @@ loop-less c = omega arith
 loop-again : tie.Need-loop-preserved invariant-loop decreases-loop
 loop-again c =
     let l = c.before.before.before in
-    searched-next _ _ _ l.loop.invariant (omega arith) (sym c.before.is-source.ensures ∙ c.if1.false)
+    searched_next _ _ _ l.loop.invariant (omega arith) (sym c.before.is-source.ensures ∙ c.if1.false)
 
-returns-2 : tie.Need-returns-2 invariant-loop decreases-loop
-returns-2 c = searched-end _ _ _ c.before.loop.invariant (omega arith)
+returns_2 : tie.Need-returns-2 invariant-loop decreases-loop
+returns_2 c = searched_end _ _ _ c.before.loop.invariant (omega arith)
 
-pub first-source-spec : {M : Type 1} → statement M
-first-source-spec =
+pub first_source_spec : {M : Type 1} → statement M
+first_source_spec =
     tie.close
     (tie.spec
     invariant-loop
@@ -51,4 +51,4 @@ first-source-spec =
     add-x
     loop-less
     loop-again
-    returns-2)
+    returns_2)

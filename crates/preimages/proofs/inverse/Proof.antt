@@ -5,9 +5,9 @@ use borrow.Author.Rules.{rules}
 use Rattle.tables.specs.Tables.{Tables, tables}
 use Rattle.tables.specs.Parts.{Shaped, Measured}
 use Rattle.tables.proofs.Passing.{shaped}
-use Rattle.tables.proofs.Lengths.{none-wrong}
+use Rattle.tables.proofs.Lengths.{none_wrong}
 use Rattle.preimages.specs.Inverse.{source_of}
-use Rattle.preimages.proofs.Sources.{source_is, source-sends, source-below, inverse-shape, inverse-length, inverse-far, inverse-none, inverse-from}
+use Rattle.preimages.proofs.Sources.{source_is, source_sends, source_below, inverse_shape, inverse_length, inverse_far, inverse_none, inverse_from}
 use Rattle.preimages.proofs.inverse.Statement.{statement}
 use Rattle.preimages.proofs.inverse.Tie as tie
 
@@ -34,7 +34,7 @@ shape c = shaped _ _ _ c.before.is-misshapen.ensures c.if1.false
 right : (c : tie.Else2) → Measured (call (measured c)).args.n (handed (measured c))
 right c =
     let l = c.before.first-wrong-length in
-    none-wrong _ (handed (measured c)) l.result l.ensures c.if2.false
+    none_wrong _ (handed (measured c)) l.result l.ensures c.if2.false
 
 source : (c : tie.After-first-source) → let e = measured (sought c) in
     c.first-source.result ≡ source_of (handed e) (call e).args.j
@@ -46,7 +46,7 @@ is-misshapen-requires : tie.Need-is-misshapen-requires
 is-misshapen-requires c κs = search rules
 
 returns : tie.Need-returns
-returns c = inverse-shape _ _ _ _ c.before.is-misshapen.ensures c.if1.true
+returns c = inverse_shape _ _ _ _ c.before.is-misshapen.ensures c.if1.true
 
 first-wrong-length-requires : tie.Need-first-wrong-length-requires
 first-wrong-length-requires c κs = let s = shape c in (s.linked.some, s.decreases)
@@ -54,11 +54,11 @@ first-wrong-length-requires c κs = let s = shape c in (s.linked.some, s.decreas
 cast-t13 : tie.Need-overflow-cast-t13
 cast-t13 c = omega (arith, (shape c.before.before).linked.few)
 
-returns-2 : tie.Need-returns-2
-returns-2 c = inverse-length _ _ _ (shape c.before.before) _ c.before.first-wrong-length.ensures (omega arith)
+returns_2 : tie.Need-returns-2
+returns_2 c = inverse_length _ _ _ (shape c.before.before) _ c.before.first-wrong-length.ensures (omega arith)
 
 returns-3 : tie.Need-returns-3
-returns-3 c = let e = c.before in inverse-far _ _ _ (shape (measured e)) (right e) (omega arith)
+returns-3 c = let e = c.before in inverse_far _ _ _ (shape (measured e)) (right e) (omega arith)
 
 first-source-requires : tie.Need-first-source-requires
 first-source-requires c κs = let s = shape (measured c.before) in omega arith
@@ -66,7 +66,7 @@ first-source-requires c κs = let s = shape (measured c.before) in omega arith
 returns-4 : tie.Need-returns-4
 returns-4 c =
     let e = sought c.before in
-    inverse-none _ _ _ (shape (measured e)) (right e) (omega arith) _ (source c.before) (omega arith)
+    inverse_none _ _ _ (shape (measured e)) (right e) (omega arith) _ (source c.before) (omega arith)
 
 mul-t11 : tie.Need-overflow-mul-t11
 mul-t11 c = search rules
@@ -81,12 +81,12 @@ shared-slice-read-t21 : tie.Need-shared-slice-read-t21
 shared-slice-read-t21 c = let s = shape (measured (sought c.before.before.before)) in omega arith
 
 sub-t22 : tie.Need-overflow-sub-t22
-sub-t22 c = let h = source-sends _ _ _ (source c.before.before.before) (omega arith) in omega arith
+sub-t22 c = let h = source_sends _ _ _ (source c.before.before.before) (omega arith) in omega arith
 
 add-t23 : tie.Need-overflow-add-t23
 add-t23 c =
     let f = c.before.before.before in
-    let h = source-below _ _ _ _ (right (sought f)) (source f) (omega arith) in
+    let h = source_below _ _ _ _ (right (sought f)) (source f) (omega arith) in
     omega arith
 
 cast-t24 : tie.Need-overflow-cast-t24
@@ -96,17 +96,17 @@ returns-5 : tie.Need-returns-5
 returns-5 c =
     let f = c.before.before.before in
     let e = sought f in
-    inverse-from _ _ _ (shape (measured e)) (right e) (omega arith) _ (source f) (omega arith)
+    inverse_from _ _ _ (shape (measured e)) (right e) (omega arith) _ (source f) (omega arith)
 
-pub inverse-spec : {M : Type 1} → statement M
-inverse-spec =
+pub inverse_spec : {M : Type 1} → statement M
+inverse_spec =
     tie.close
     (tie.spec
     is-misshapen-requires
     returns
     first-wrong-length-requires
     cast-t13
-    returns-2
+    returns_2
     returns-3
     first-source-requires
     returns-4

@@ -1,5 +1,5 @@
--- `is_source` meets its contract: its two tests are those of `imageHas`.
-use Rattle.preimages.specs.Parts.{imageHas}
+-- `is_source` meets its contract: its two tests are those of `image_has`.
+use Rattle.preimages.specs.Parts.{image_has}
 use borrow.Author.Tests.{le-leb, lt-leb}
 use borrow.Author.Rules.{rules}
 use Rattle.preimages.proofs.is_source.Statement.{statement}
@@ -12,7 +12,7 @@ shared-slice-read-image : tie.Need-shared-slice-read-image
 shared-slice-read-image c = search rules
 
 returns : tie.Need-returns
-unfolding imageHas
+unfolding image_has
 returns c = simp (lt-leb _ _ c.if1.true)
 
 mul-result : tie.Need-overflow-mul-result
@@ -21,12 +21,12 @@ mul-result c = search rules
 shared-slice-read-result : tie.Need-shared-slice-read-result
 shared-slice-read-result c = search rules
 
-returns-2 : tie.Need-returns-2
-unfolding imageHas
-returns-2 c = simp (le-leb _ _ c.before.if1.false)
+returns_2 : tie.Need-returns-2
+unfolding image_has
+returns_2 c = simp (le-leb _ _ c.before.if1.false)
 
-pub is-source-spec : {M : Type 1} → statement M
-is-source-spec =
+pub is_source_spec : {M : Type 1} → statement M
+is_source_spec =
     tie.close
     (tie.spec
     mul-image
@@ -34,4 +34,4 @@ is-source-spec =
     returns
     mul-result
     shared-slice-read-result
-    returns-2)
+    returns_2)

@@ -63,14 +63,14 @@ use denote.Triple.Table.{entered, cited}
 use denote.Triple.Walked.{says, Stays, stay_slice, stay_dropped, walk_of, AllGo, Goes-slice, Goes-dropped, Walks}
 use denote.Triple.Walked.{ends_at, walked, walk_Meets}
 use denote.Exit.{yes}
-use Rattle.tables.specs.Tables.{tables as tablesIn}
+use Rattle.tables.specs.Tables.{tables as tables_in}
 use Rattle.tables.proofs.Held.{Xs, v, Slice, num, list₁, list₂, list₃, list₄}
 use Rattle.tables.specs.Tables as TablesModule
 use Rattle.questions.specs.Questions.{Answers}
-use Rattle.questions.specs.Turns.{begunOf, judgedOf, verdictOf, filledOf, Ready, Fillable}
-use Rattle.questions.proofs.Standings.{blank, judgedAt, verdictAt, judged-first, judged-next, ready}
-use Rattle.questions.proofs.Fillings.{up_to, up_none, length_up, at_up, set-up, set_same, fromAt, fillable}
-use Rattle.questions.proofs.Fillings.{answers-hold}
+use Rattle.questions.specs.Turns.{begun_of, judged_of, verdict_of, filled_of, Ready, Fillable}
+use Rattle.questions.proofs.Standings.{blank, judged_at, verdict_at, judged_first, judged_next, ready}
+use Rattle.questions.proofs.Fillings.{up_to, up_none, length_up, at_up, set_up, set_same, from_at, fillable}
+use Rattle.questions.proofs.Fillings.{answers_hold}
 use Rattle.questions.specs.declared.Question.{Question}
 use Rattle.questions.specs.declared.Answered.{Answered}
 use Rattle.questions.specs.declared.judging.Judging.{Judging}
@@ -126,8 +126,8 @@ records = slice_ty (ty_ref (named 4) mut (pointee (T.the_row).written))
 abbrev val : Answered → Val
 val = EL.val S.the_type S'.the_laws
 
-abbrev stateVal : Judging → Val
-stateVal = LL.val Z.the_type Z'.the_laws
+abbrev state_val : Judging → Val
+state_val = LL.val Z.the_type Z'.the_laws
 
 -- the bytes of a record
 abbrev size : ℕ
@@ -226,7 +226,7 @@ module _ {M : Type 1} {𝓤 : Ura M} (𝓛 : Logic 𝓤) (at_mem : Memory → SP
   Kept = Os ⊛ ‵ (flft κ₄ q₄)
 
   abbrev tab : TablesModule.Tables
-  tab = tablesIn s₁.now s₂.now s₃.now s₄.now
+  tab = tables_in s₁.now s₂.now s₃.now s₄.now
 
   abbrev Post : Val → SProp 𝓤
   Post = (walk_of 𝓛 all.ended stayed (all.clauses 𝓛 at_mem run)).post ((κs, qs, tt, x, at), tt)
@@ -260,18 +260,18 @@ module _ {M : Type 1} {𝓤 : Ura M} (𝓛 : Logic 𝓤) (at_mem : Memory → SP
   abbrev κs₄ : Lfts 4
   κs₄ = (κ₁, (κ₂, (κ₃, (κ₄, tt))))
 
-  abbrev given-b : ℕ × (Xs × (Xs × (Xs × (Xs × Unit {0}))))
-  given-b = (n, lists (s₄, tt))
+  abbrev given_b : ℕ × (Xs × (Xs × (Xs × (Xs × Unit {0}))))
+  given_b = (n, lists (s₄, tt))
 
-  abbrev to-b : (Beg 𝓛 at_mem run).Ghost
-  to-b = ((κs₄, (q₁, (q₂, (q₃, (q₄, tt)))), tt, given-b, (vint w32 n ∷ [], values (v s₄ ∷ [], tt))), tt)
+  abbrev to_b : (Beg 𝓛 at_mem run).Ghost
+  to_b = ((κs₄, (q₁, (q₂, (q₃, (q₄, tt)))), tt, given_b, (vint w32 n ∷ [], values (v s₄ ∷ [], tt))), tt)
 
   -- `begin` borrows the token of the lengths too, and is given what they own for good
   abbrev AllToks : Item 𝓤
   AllToks = ‵ (flft κ₁ q₁) ⊛ ‵ (flft κ₂ q₂) ⊛ ‵ (flft κ₃ q₃) ⊛ ‵ (flft κ₄ q₄) ⊛ ‵ ftrue
 
-  lent-b : ent 𝓤 (⋆ 𝓛 (AllToks ∷ Os ∷ ‵ O₄ ∷ [])) (⋆ 𝓛 (raw ((Beg 𝓛 at_mem run).pre to-b) ∷ Os ∷ []))
-  lent-b =
+  lent_b : ent 𝓤 (⋆ 𝓛 (AllToks ∷ Os ∷ ‵ O₄ ∷ [])) (⋆ 𝓛 (raw ((Beg 𝓛 at_mem run).pre to_b) ∷ Os ∷ []))
+  lent_b =
       qed 𝓛 (AllToks ∷ Os ∷ ‵ O₄ ∷ []) ∵ move ! (1 ∷ []) $ use1 𝓛 (Os ⊛ Os) twice $ split ! $ split3 ! $
       -- [O₁; O₂; O₃; Os; the tokens; O₄]
       nothing ! $ move ! (6 ∷ 0 ∷ []) $ fjoin ! $
@@ -291,13 +291,13 @@ module _ {M : Type 1} {𝓤 : Ura M} (𝓛 : Logic 𝓤) (at_mem : Memory → SP
       move ! (2 ∷ 1 ∷ []) $ join ! $ move ! (1 ∷ 0 ∷ []) $ done !
 
   abbrev Ensured-b : Judging → SProp 𝓤
-  Ensured-b r = ensured 𝓛 beg.ended (beg.clauses 𝓛 at_mem run) κs₄ given-b tt r
+  Ensured-b r = ensured 𝓛 beg.ended (beg.clauses 𝓛 at_mem run) κs₄ given_b tt r
 
-  known-b : (r : Judging) → ent 𝓤 (Ensured-b r) (fact 𝓤 (r ≡ begunOf n tab))
-  known-b r = ex_e 𝓤 _ (λ ws. snd∗ 𝓤 (sem 𝓛 (lasts beg.ended κs₄ given-b ws)) (fact 𝓤 (r ≡ begunOf n tab)))
+  known_b : (r : Judging) → ent 𝓤 (Ensured-b r) (fact 𝓤 (r ≡ begun_of n tab))
+  known_b r = ex_e 𝓤 _ (λ ws. snd∗ 𝓤 (sem 𝓛 (lasts beg.ended κs₄ given_b ws)) (fact 𝓤 (r ≡ begun_of n tab)))
 
-  abbrev given-j : Judging → Question → ℕ → ℕ × (Xs × (Xs × (Xs × (Judging × (Question × (ℕ × Unit {0}))))))
-  given-j s y i = (n, lists (s, (y, (i, tt))))
+  abbrev given_j : Judging → Question → ℕ → ℕ × (Xs × (Xs × (Xs × (Judging × (Question × (ℕ × Unit {0}))))))
+  given_j s y i = (n, lists (s, (y, (i, tt))))
 
   abbrev to_j : Judging → Question → ℕ → (Jud 𝓛 at_mem run).Ghost
   to_j s y i = (
@@ -305,11 +305,11 @@ module _ {M : Type 1} {𝓤 : Ura M} (𝓛 : Logic 𝓤) (at_mem : Memory → SP
       κs₃,
       qs₃,
       tt,
-      given-j s y i,
+      given_j s y i,
       (
         vint w32 n ∷ [],
         values (
-          stateVal s ∷ [],
+          state_val s ∷ [],
           (
             T'.lowered y ∷ [],
             (
@@ -323,10 +323,10 @@ module _ {M : Type 1} {𝓤 : Ura M} (𝓛 : Logic 𝓤) (at_mem : Memory → SP
     tt,
   )
 
-  lent-j : (s : Judging) (y : Question) (i : ℕ) → Is Z.the_row s (stateVal s ∷ [])
+  lent_j : (s : Judging) (y : Question) (i : ℕ) → Is Z.the_row s (state_val s ∷ [])
       → Is T.the_row y (T'.lowered y ∷ []) → i < 2 ^ 64 → Ready tab.links s
       → ent 𝓤 (⋆ 𝓛 (Toks ∷ Kept ∷ [])) (⋆ 𝓛 (raw ((Jud 𝓛 at_mem run).pre (to_j s y i)) ∷ Kept ∷ []))
-  lent-j s y i s-is y-is i-fits asked =
+  lent_j s y i s-is y-is i-fits asked =
       qed 𝓛 (Toks ∷ Kept ∷ []) ∵ move ! (1 ∷ []) $ use1 𝓛 (Os ⊛ Kept) spared $ split ! $ split3 ! $
       -- [O₁; O₂; O₃; what is kept; Toks]
       nothing ! $ owned ! usize (Is usize) (uint_Makes 𝓛 w64) i _ (refl, i-fits) $ fjoin ! $
@@ -340,19 +340,19 @@ module _ {M : Type 1} {𝓤 : Ura M} (𝓛 : Logic 𝓤) (at_mem : Memory → SP
       frame ! $ done !
 
   abbrev Ensured-j : Judging → Question → ℕ → Judging → SProp 𝓤
-  Ensured-j s y i r = ensured 𝓛 jud.ended (jud.clauses 𝓛 at_mem run) κs₃ (given-j s y i) tt r
+  Ensured-j s y i r = ensured 𝓛 jud.ended (jud.clauses 𝓛 at_mem run) κs₃ (given_j s y i) tt r
 
-  known-j : (s : Judging) (y : Question) (i : ℕ) (r : Judging)
-      → ent 𝓤 (Ensured-j s y i r) (fact 𝓤 (r ≡ judgedOf n tab.links s y i))
-  known-j s y i r =
-      ex_e 𝓤 _ (λ ws. snd∗ 𝓤 (sem 𝓛 (lasts jud.ended κs₃ (given-j s y i) ws)) (fact 𝓤 (r ≡ judgedOf n tab.links s y i)))
+  known_j : (s : Judging) (y : Question) (i : ℕ) (r : Judging)
+      → ent 𝓤 (Ensured-j s y i r) (fact 𝓤 (r ≡ judged_of n tab.links s y i))
+  known_j s y i r =
+      ex_e 𝓤 _ (λ ws. snd∗ 𝓤 (sem 𝓛 (lasts jud.ended κs₃ (given_j s y i) ws)) (fact 𝓤 (r ≡ judged_of n tab.links s y i)))
 
-  abbrev to-v : Judging → (Ver 𝓛 at_mem run).Ghost
-  to-v s = ((tt, tt, tt, (s, tt), (stateVal s ∷ [], tt)), tt)
+  abbrev to_v : Judging → (Ver 𝓛 at_mem run).Ghost
+  to_v s = ((tt, tt, tt, (s, tt), (state_val s ∷ [], tt)), tt)
 
-  lent-v : (s : Judging) → Is Z.the_row s (stateVal s ∷ [])
-      → ent 𝓤 (⋆ 𝓛 (Toks ∷ [])) (⋆ 𝓛 (raw ((Ver 𝓛 at_mem run).pre (to-v s)) ∷ Toks ∷ []))
-  lent-v s s-is =
+  lent_v : (s : Judging) → Is Z.the_row s (state_val s ∷ [])
+      → ent 𝓤 (⋆ 𝓛 (Toks ∷ [])) (⋆ 𝓛 (raw ((Ver 𝓛 at_mem run).pre (to_v s)) ∷ Toks ∷ []))
+  lent_v s s-is =
       qed 𝓛 (Toks ∷ []) ∵
       nothing ! $ owned ! Z.the_row (Is Z.the_row) (LL.makes Z.the_type Z'.the_plain 𝓛) s _ s-is $ fjoin ! $
       nothing ! $ join ! $ nothing ! $ move ! (1 ∷ 0 ∷ []) $ join ! $ frame ! $ done !
@@ -360,24 +360,24 @@ module _ {M : Type 1} {𝓤 : Ura M} (𝓛 : Logic 𝓤) (at_mem : Memory → SP
   abbrev Ensured-v : Judging → Answered → SProp 𝓤
   Ensured-v s r = ensured 𝓛 ver.ended (ver.clauses 𝓛 at_mem run) tt (s, tt) tt r
 
-  known-v : (s : Judging) (r : Answered) → ent 𝓤 (Ensured-v s r) (fact 𝓤 (r ≡ verdictOf s.standing s.interval s.fallen))
-  known-v s r =
-      ex_e 𝓤 _ (λ ws. snd∗ 𝓤 (sem 𝓛 (lasts ver.ended tt (s, tt) ws)) (fact 𝓤 (r ≡ verdictOf s.standing s.interval s.fallen)))
+  known_v : (s : Judging) (r : Answered) → ent 𝓤 (Ensured-v s r) (fact 𝓤 (r ≡ verdict_of s.standing s.interval s.fallen))
+  known_v s r =
+      ex_e 𝓤 _ (λ ws. snd∗ 𝓤 (sem 𝓛 (lasts ver.ended tt (s, tt) ws)) (fact 𝓤 (r ≡ verdict_of s.standing s.interval s.fallen)))
 
-  abbrev given-f : Question → Answered → ℕ → Xs × (Xs × (Xs × (Question × (Answered × (ℕ × Unit {0})))))
-  given-f y a f = lists (y, (a, (f, tt)))
+  abbrev given_f : Question → Answered → ℕ → Xs × (Xs × (Xs × (Question × (Answered × (ℕ × Unit {0})))))
+  given_f y a f = lists (y, (a, (f, tt)))
 
-  abbrev to-f : Question → Answered → ℕ → (Fil 𝓛 at_mem run).Ghost
-  to-f y a f = ((κs₃, qs₃, tt, given-f y a f, values (T'.lowered y ∷ [], (val a ∷ [], (vint w32 f ∷ [], tt)))), tt)
+  abbrev to_f : Question → Answered → ℕ → (Fil 𝓛 at_mem run).Ghost
+  to_f y a f = ((κs₃, qs₃, tt, given_f y a f, values (T'.lowered y ∷ [], (val a ∷ [], (vint w32 f ∷ [], tt)))), tt)
 
-  lent-f : (y : Question) (a : Answered) (f : ℕ) → Is T.the_row y (T'.lowered y ∷ []) → Is S.the_row a (val a ∷ [])
+  lent_f : (y : Question) (a : Answered) (f : ℕ) → Is T.the_row y (T'.lowered y ∷ []) → Is S.the_row a (val a ∷ [])
       → f < 2 ^ 32 → Fillable tab.links y a f
-      → ent 𝓤 (⋆ 𝓛 (Toks ∷ Kept ∷ [])) (⋆ 𝓛 (raw ((Fil 𝓛 at_mem run).pre (to-f y a f)) ∷ Kept ∷ []))
-  lent-f y a f y-is a-is f-fits asked =
+      → ent 𝓤 (⋆ 𝓛 (Toks ∷ Kept ∷ [])) (⋆ 𝓛 (raw ((Fil 𝓛 at_mem run).pre (to_f y a f)) ∷ Kept ∷ []))
+  lent_f y a f y-is a_is f-fits asked =
       qed 𝓛 (Toks ∷ Kept ∷ []) ∵ move ! (1 ∷ []) $ use1 𝓛 (Os ⊛ Kept) spared $ split ! $ split3 ! $
       -- [O₁; O₂; O₃; what is kept; Toks]
       nothing ! $ owned ! u32 (Is u32) (uint_Makes 𝓛 w32) f _ (refl, f-fits) $ fjoin ! $
-      owned ! S.the_row (Is S.the_row) (EL.makes S.the_type S'.the_plain 𝓛) a _ a-is $ fjoin ! $
+      owned ! S.the_row (Is S.the_row) (EL.makes S.the_type S'.the_plain 𝓛) a _ a_is $ fjoin ! $
       owned ! T.the_row (Is T.the_row) (LL.makes T.the_type T'.the_plain 𝓛) y _ y-is $ fjoin ! $
       move ! (3 ∷ 0 ∷ []) $ fjoin ! $ move ! (2 ∷ 0 ∷ []) $ fjoin ! $ move ! (1 ∷ 0 ∷ []) $ fjoin ! $
       -- [what is owned; what is kept; Toks]
@@ -386,28 +386,28 @@ module _ {M : Type 1} {𝓤 : Ura M} (𝓛 : Logic 𝓤) (at_mem : Memory → SP
       join ! $ frame ! $ done !
 
   abbrev Ensured-f : Question → Answered → ℕ → Question → SProp 𝓤
-  Ensured-f y a f r = ensured 𝓛 fil.ended (fil.clauses 𝓛 at_mem run) κs₃ (given-f y a f) tt r
+  Ensured-f y a f r = ensured 𝓛 fil.ended (fil.clauses 𝓛 at_mem run) κs₃ (given_f y a f) tt r
 
-  known-f : (y : Question) (a : Answered) (f : ℕ) (r : Question)
-      → ent 𝓤 (Ensured-f y a f r) (fact 𝓤 (r ≡ filledOf tab.links y a))
-  known-f y a f r =
-      ex_e 𝓤 _ (λ ws. snd∗ 𝓤 (sem 𝓛 (lasts fil.ended κs₃ (given-f y a f) ws)) (fact 𝓤 (r ≡ filledOf tab.links y a)))
+  known_f : (y : Question) (a : Answered) (f : ℕ) (r : Question)
+      → ent 𝓤 (Ensured-f y a f r) (fact 𝓤 (r ≡ filled_of tab.links y a))
+  known_f y a f r =
+      ex_e 𝓤 _ (λ ws. snd∗ 𝓤 (sem 𝓛 (lasts fil.ended κs₃ (given_f y a f) ws)) (fact 𝓤 (r ≡ filled_of tab.links y a)))
 
   -- THE STATES: what is known after i records, the answer, and the records and the interval after j are filled in
   abbrev st : ℕ → Judging
-  st i = judgedAt n tab xs i
+  st i = judged_at n tab xs i
 
   abbrev ans : Answered
-  ans = verdictAt n tab xs len
+  ans = verdict_at n tab xs len
 
   abbrev F : Question → Question
-  F y = filledOf tab.links y ans
+  F y = filled_of tab.links y ans
 
   abbrev list : ℕ → List Question
   list j = up_to F j xs
 
   abbrev on : ℕ → ℕ
-  on j = fromAt tab.links ans xs j
+  on j = from_at tab.links ans xs j
 
   -- the exit
   abbrev Left : List Question → List (Item 𝓤)
@@ -447,7 +447,7 @@ module _ {M : Type 1} {𝓤 : Ura M} (𝓛 : Logic 𝓤) (at_mem : Memory → SP
 
   -- of the loop that judges, the value of its state; of the one that fills in, that its interval has 32 bits
   abbrev Judged : ℕ → Type 0
-  Judged i = Is Z.the_row (st i) (stateVal (st i) ∷ [])
+  Judged i = Is Z.the_row (st i) (state_val (st i) ∷ [])
 
   abbrev Filled : ℕ → Type 0
   Filled j = on j < 2 ^ 32
@@ -463,11 +463,11 @@ module _ {M : Type 1} {𝓤 : Ura M} (𝓛 : Logic 𝓤) (at_mem : Memory → SP
     next_fits : Holds (ltb i len) → Fits w64 (i + 1)
     next_fits less = record { fits = omega (arith, small less, g.0) }
 
-    index-fits : Holds (ltb i len) → i < 2 ^ 64
-    index-fits less = omega (arith, small less, g.0)
+    index_fits : Holds (ltb i len) → i < 2 ^ 64
+    index_fits less = omega (arith, small less, g.0)
 
-    place-fits : Holds (ltb i len) → Fits w64 (i * size)
-    place-fits less = record { fits = omega (arith, small less, g.1) }
+    place_fits : Holds (ltb i len) → Fits w64 (i * size)
+    place_fits less = record { fits = omega (arith, small less, g.1) }
 
   module _ (𝓣 : Tables 𝓤 H) (fm : FmC 𝓤 H 𝓛.laws 𝓣.C) (k-b : Triple 𝓤 (𝓣.C #begin) (Beg 𝓛 at_mem run))
       (k-j : Triple 𝓤 (𝓣.C #judge) (Jud 𝓛 at_mem run)) (k-v : Triple 𝓤 (𝓣.C #verdict) (Ver 𝓛 at_mem run))
@@ -510,7 +510,7 @@ module _ {M : Type 1} {𝓤 : Ura M} (𝓛 : Logic 𝓤) (at_mem : Memory → SP
         ‵ (froom S'.mir l₀ 0) ∷ ‵ (fdies S'.mir l₀) ∷ Γ
 
     -- FILLING
-    module _ (ans-is : Is S.the_row ans (val ans ∷ [])) where
+    module _ (ans_is : Is S.the_row ans (val ans ∷ [])) where
       abbrev At' : Upto Filled → List (Item 𝓤)
       At' j =
           ‵ (row T.the_row full_share (list j.0) b o) ∷ ‵ (fobor κ q (Held T.the_row len b o γ)) ∷ ‵ (fobs γ
@@ -532,7 +532,7 @@ module _ {M : Type 1} {𝓤 : Ura M} (𝓛 : Logic 𝓤) (at_mem : Memory → SP
       closing : (i : Upto Filled) → i.0 ≡ len → Sq 𝓛 (At' i) (runs C Λ En code-mir.t-8 (at_ret En Post))
       closing i end =
           assigns ! (of_opd ! (load ! (from ! (stop !)) (look ! 30 refl)))
-          (from ! (stop !)) (init ! 48 refl ((EL.lawful S.the_type S'.the_laws 𝓛 tt).typed ans _ ans-is).0) $
+          (from ! (stop !)) (init ! 48 refl ((EL.lawful S.the_type S'.the_laws 𝓛 tt).typed ans _ ans_is).0) $
           closes_slice ! tt T.the_row xs (list i.0) (length_up F i.0 xs) b o $
           returns ! (look ! 47 refl) $ forget ! 25 refl $ forget ! 27 refl $ forget ! 29 refl $ forget ! 35 refl $
           forget ! 37 refl $ forget ! 39 refl $ forget ! 41 refl $ forget ! 43 refl $ forget ! 45 refl $
@@ -561,7 +561,7 @@ module _ {M : Type 1} {𝓤 : Ura M} (𝓛 : Logic 𝓤) (at_mem : Memory → SP
           move ! (5 ∷ 6 ∷ []) $ free1 ! $
           free0 ! $ keep ! (0 ∷ 1 ∷ 2 ∷ 3 ∷ 4 ∷ []) $
           by ! (ends (list i.0) ans (length_up F i.0 xs)
-          (subst (λ (k : ℕ). Answers n tab xs ans (list k)) (sym end) (answers-hold n tab xs)) ans-is)
+          (subst (λ (k : ℕ). Answers n tab xs ans (list k)) (sym end) (answers_hold n tab xs)) ans_is)
 
       -- a turn: record j is taken out, filled in and put back
       turns' : (i : Upto Filled) → Sq 𝓛 (At' i) (runs C Λ En code-mir.turn-2 (any_q (Turned' i)))
@@ -573,8 +573,8 @@ module _ {M : Type 1} {𝓤 : Ura M} (𝓛 : Logic 𝓤) (at_mem : Memory → SP
           tt) (from ! (stop !)) (init ! 12 refl (tt, tt)) $
           tests ! (load ! (from ! (stop !)) (look ! 12 refl))
           (λ less.
-          assigns ! (bin ! (load ! (from ! (stop !)) (look ! 26 refl)) (lit ! tt) (place-fits i.0 i.1 less))
-          (from ! (stop !)) (store ! 14 refl (tt, (place-fits i.0 i.1 less))) $
+          assigns ! (bin ! (load ! (from ! (stop !)) (look ! 26 refl)) (lit ! tt) (place_fits i.0 i.1 less))
+          (from ! (stop !)) (store ! 14 refl (tt, (place_fits i.0 i.1 less))) $
           assigns ! (bin ! (load ! (from ! (fld ! refl (stop !))) (look_in ! 36 (sub ! 0 refl (whole !)))) (load !
           (from ! (stop !)) (look ! 14 refl)) tt) (from ! (stop !)) (init ! 10 refl (tt, tt)) $
           rewrite ! 10 (λ (p : ℕ). ‵ (fat full_share ty_ptr l₁₉ 0 (vptr b p))) (sym (place_is size o i.0)) refl $
@@ -584,9 +584,9 @@ module _ {M : Type 1} {𝓤 : Ura M} (𝓛 : Logic 𝓤) (at_mem : Memory → SP
           assigns ! (of_opd ! (load !
           (from ! (hop ! (look ! 11 refl) (stop !))) (look_raw ! 0 refl)))
           (from ! (stop !)) (init ! 9 refl ((LL.lawful T.the_type T'.the_laws 𝓛).typed elem _ was).0) $
-          move ! (5 ∷ 6 ∷ []) $ use2 𝓛 (raw ((Fil 𝓛 at_mem run).pre (to-f elem ans (on i.0))) ⊛ Kept)
-          (lent-f elem ans (on i.0) was ans-is i.2 (asked less)) $ split ! $
-          calls_at ! fm (Fil 𝓛 at_mem run) k-f (to-f elem ans (on i.0))
+          move ! (5 ∷ 6 ∷ []) $ use2 𝓛 (raw ((Fil 𝓛 at_mem run).pre (to_f elem ans (on i.0))) ⊛ Kept)
+          (lent_f elem ans (on i.0) was ans_is i.2 (asked less)) $ split ! $
+          calls_at ! fm (Fil 𝓛 at_mem run) k-f (to_f elem ans (on i.0))
           (and_then ! (load ! (from ! (stop !)) (look ! 45 refl))
           (and_then ! (load ! (from ! (stop !)) (look ! 43 refl))
           (and_then ! (load ! (from ! (stop !)) (look ! 41 refl))
@@ -596,14 +596,14 @@ module _ {M : Type 1} {𝓤 : Ura M} (𝓛 : Logic 𝓤) (at_mem : Memory → SP
           (no_more !))))))) (λ u.
           use1 𝓛 (later (some (λ (r : Question). (Toks ⊛ ‵ ((T.the_row).own_val r (u ∷ []))) ⊛ raw (Ensured-f elem ans (on
           i.0) r)))) (id⊢ 𝓤 _) $ await ! tt $ pick ! (λ r.
-          split ! $ move ! (1 ∷ []) $ use1 𝓛 (raw (fact 𝓤 (r ≡ F elem))) (known-f elem ans (on i.0) r) $
+          split ! $ move ! (1 ∷ []) $ use1 𝓛 (raw (fact 𝓤 (r ≡ F elem))) (known_f elem ans (on i.0) r) $
           heard ! (r ≡ F elem) (λ e. split ! $ move ! (1 ∷ []) $
           peeks ! T.the_row (Is T.the_row) (shows 𝓛 T.the_row) r (u ∷ []) (λ is. drop ! $
           land ! (from ! (stop !)) (init ! 25 refl ((LL.lawful T.the_type T'.the_laws 𝓛).typed r _ is).0) $
           rewrite ! 25 (λ (w : Val). ‵ (fat full_share T'.mir l₁₂ 0 w)) (ap only (LL.tells T.the_type T'.the_laws r _
           is)) refl $
-          assigns ! (bin ! (load ! (from ! (stop !)) (look ! 27 refl)) (lit ! tt) (place-fits i.0 i.1 less))
-          (from ! (stop !)) (store ! 15 refl (tt, (place-fits i.0 i.1 less))) $
+          assigns ! (bin ! (load ! (from ! (stop !)) (look ! 27 refl)) (lit ! tt) (place_fits i.0 i.1 less))
+          (from ! (stop !)) (store ! 15 refl (tt, (place_fits i.0 i.1 less))) $
           assigns ! (bin ! (load ! (from ! (fld ! refl (stop !))) (look_in ! 37 (sub ! 0 refl (whole !)))) (load !
           (from ! (stop !)) (look ! 15 refl)) tt) (from ! (stop !)) (init ! 7 refl (tt, tt)) $
           rewrite ! 7 (λ (p : ℕ). ‵ (fat full_share ty_ptr l₂₁ 0 (vptr b p))) (sym (place_is size o i.0)) refl $
@@ -629,15 +629,15 @@ module _ {M : Type 1} {𝓤 : Ura M} (𝓛 : Logic 𝓤) (at_mem : Memory → SP
           elem : Question
           elem = get_or (list i.0) i.0 blank
 
-          is-record : elem ≡ get_or xs i.0 blank
-          is-record = at_up F i.0 xs
+          is_record : elem ≡ get_or xs i.0 blank
+          is_record = at_up F i.0 xs
 
           within : Holds (ltb i.0 len) → i.0 < length (list i.0)
           within less = subst (λ (k : ℕ). i.0 < k) (sym (length_up F i.0 xs)) (small i.0 i.1 less)
 
           asked : Holds (ltb i.0 len) → Fillable tab.links elem ans (on i.0)
           asked less =
-              subst (λ (y : Question). Fillable tab.links y ans (on i.0)) (sym is-record) (fillable n tab xs n-fits i.0 (small i.0 i.1 less))
+              subst (λ (y : Question). Fillable tab.links y ans (on i.0)) (sym is_record) (fillable n tab xs n-fits i.0 (small i.0 i.1 less))
 
           lowers : (r : Question) (u : Val) → Is T.the_row r (u ∷ []) → Is T.the_row r (T'.lowered r ∷ [])
           lowers r u is = subst (Is T.the_row r) (LL.tells T.the_type T'.the_laws r _ is) is
@@ -645,16 +645,16 @@ module _ {M : Type 1} {𝓤 : Ura M} (𝓛 : Logic 𝓤) (at_mem : Memory → SP
           x_fits : (r : Question) (u : Val) → Is T.the_row r (u ∷ []) → r.interval < 2 ^ 32
           x_fits r u is = (LL.owed T.the_type T'.the_laws r _ is).1.0.1
 
-          of-record : (r : Question) → r ≡ F elem → r ≡ F (get_or xs i.0 blank)
-          of-record r e = e ∙ ap F is-record
+          of_record : (r : Question) → r ≡ F elem → r ≡ F (get_or xs i.0 blank)
+          of_record r e = e ∙ ap F is_record
 
           listed : Holds (ltb i.0 len) → (r : Question) → r ≡ F elem → set (list i.0) i.0 r ≡ list (i.0 + 1)
           listed less r e =
-              ap (set (list i.0) i.0) (of-record r e) ∙ (set-up F i.0 xs
+              ap (set (list i.0) i.0) (of_record r e) ∙ (set_up F i.0 xs
               (small i.0 i.1 less) ∙ ap list (sym (add-one i.0)))
 
           gone : (r : Question) → r ≡ F elem → r.interval ≡ on (i.0 + 1)
-          gone r e = ap (λ (y : Question). y.interval) (of-record r e) ∙ ap on (sym (add-one i.0))
+          gone r e = ap (λ (y : Question). y.interval) (of_record r e) ∙ ap on (sym (add-one i.0))
 
           next : Holds (ltb i.0 len) → (r : Question) → r.interval < 2 ^ 32 → r ≡ F elem → Upto Filled
           next less r fits e =
@@ -674,7 +674,7 @@ module _ {M : Type 1} {𝓤 : Ura M} (𝓛 : Logic 𝓤) (at_mem : Memory → SP
         ‵ (froom (ty_int w32) l₁₀ 0) ∷ ‵ (fdies (ty_int w32) l₁₀) ∷
         ‵ (froom S'.mir l₉ 0) ∷ ‵ (fdies S'.mir l₉) ∷
         ‵ (fat full_share word l₈ 0 (vint w64 i.0)) ∷ ‵ (fdies word l₈) ∷
-        ‵ (fat full_share Z'.mir l₇ 0 (stateVal (st i.0))) ∷ ‵ (fdies Z'.mir l₇) ∷ Parameters [])
+        ‵ (fat full_share Z'.mir l₇ 0 (state_val (st i.0))) ∷ ‵ (fdies Z'.mir l₇) ∷ Parameters [])
 
     abbrev Turned : Upto Judged → Out → SProp 𝓤
     Turned i =
@@ -684,16 +684,16 @@ module _ {M : Type 1} {𝓤 : Ura M} (𝓛 : Logic 𝓤) (at_mem : Memory → SP
     -- after the last turn: the verdict
     settled : (i : Upto Judged) → i.0 ≡ len → Sq 𝓛 (At i) (runs C Λ En code-mir.t-4 (at_ret En Post))
     settled i end =
-        move ! (4 ∷ []) $ use1 𝓛 (raw ((Ver 𝓛 at_mem run).pre (to-v (st i.0))) ⊛ Toks)
-        (lent-v (st i.0) i.2) $ split ! $
-        calls_at ! fm (Ver 𝓛 at_mem run) k-v (to-v (st i.0))
+        move ! (4 ∷ []) $ use1 𝓛 (raw ((Ver 𝓛 at_mem run).pre (to_v (st i.0))) ⊛ Toks)
+        (lent_v (st i.0) i.2) $ split ! $
+        calls_at ! fm (Ver 𝓛 at_mem run) k-v (to_v (st i.0))
         (and_then ! (load ! (from ! (stop !)) (look ! 35 refl))
         (no_more !)) (λ u.
         use1 𝓛 (later (some (λ (r : Answered). (‵ ftrue ⊛ ‵ ((S.the_row).own_val r (u ∷ []))) ⊛ raw (Ensured-v (st i.0)
         r)))) (id⊢ 𝓤 _) $ await ! tt $ pick ! (λ r.
         split ! $ move ! (1 ∷ []) $
-        use1 𝓛 (raw (fact 𝓤 (r ≡ verdictAt n tab xs i.0))) (known-v (st i.0) r) $
-        heard ! (r ≡ verdictAt n tab xs i.0) (λ e. split ! $ drop ! $
+        use1 𝓛 (raw (fact 𝓤 (r ≡ verdict_at n tab xs i.0))) (known_v (st i.0) r) $
+        heard ! (r ≡ verdict_at n tab xs i.0) (λ e. split ! $ drop ! $
         peeks ! S.the_row (Is S.the_row) (shows 𝓛 S.the_row) r (u ∷ []) (λ is. drop ! $
         move ! (1 ∷ 2 ∷ 3 ∷ 4 ∷ 0 ∷ []) $
         land ! (from ! (stop !)) (init ! 30 refl ((EL.lawful S.the_type S'.the_laws 𝓛 tt).typed r _ is).0) $
@@ -702,17 +702,17 @@ module _ {M : Type 1} {𝓤 : Ura M} (𝓛 : Logic 𝓤) (at_mem : Memory → SP
         assigns ! (of_opd ! (lit ! tt)) (from ! (stop !)) (init ! 26 refl (tt, record { fits = lit< tt })) $
         forget ! 34 refl $ forget ! 32 refl $
         rewrite ! 0 (λ (zs : List Question). ‵ (row T.the_row full_share zs b o)) (sym (up_none F xs)) refl $
-        looped' (ans-is r u is e)))))
+        looped' (ans_is r u is e)))))
       where
-        same : (r : Answered) → r ≡ verdictAt n tab xs i.0 → r ≡ ans
-        same r e = e ∙ ap (λ (k : ℕ). verdictAt n tab xs k) end
+        same : (r : Answered) → r ≡ verdict_at n tab xs i.0 → r ≡ ans
+        same r e = e ∙ ap (λ (k : ℕ). verdict_at n tab xs k) end
 
-        told : (r : Answered) (u : Val) → Is S.the_row r (u ∷ []) → r ≡ verdictAt n tab xs i.0 → u ≡ val ans
+        told : (r : Answered) (u : Val) → Is S.the_row r (u ∷ []) → r ≡ verdict_at n tab xs i.0 → u ≡ val ans
         told r u is e = ap only (EL.tells S.the_type S'.the_laws r _ is) ∙ ap val (same r e)
 
-        ans-is : (r : Answered) (u : Val) → Is S.the_row r (u ∷ []) → r ≡ verdictAt n tab xs i.0
+        ans_is : (r : Answered) (u : Val) → Is S.the_row r (u ∷ []) → r ≡ verdict_at n tab xs i.0
             → Is S.the_row ans (val ans ∷ [])
-        ans-is r u is e =
+        ans_is r u is e =
             subst (λ (a : Answered). Is S.the_row a (val a ∷ [])) (same r e) (subst (Is S.the_row r) (EL.tells
             S.the_type S'.the_laws r _ is) is)
 
@@ -726,8 +726,8 @@ module _ {M : Type 1} {𝓤 : Ura M} (𝓛 : Logic 𝓤) (at_mem : Memory → SP
         (from ! (stop !)) (init ! 20 refl (tt, tt)) $
         tests ! (load ! (from ! (stop !)) (look ! 20 refl))
         (λ less.
-        assigns ! (bin ! (load ! (from ! (stop !)) (look ! 32 refl)) (lit ! tt) (place-fits i.0 i.1 less))
-        (from ! (stop !)) (store ! 22 refl (tt, (place-fits i.0 i.1 less))) $
+        assigns ! (bin ! (load ! (from ! (stop !)) (look ! 32 refl)) (lit ! tt) (place_fits i.0 i.1 less))
+        (from ! (stop !)) (store ! 22 refl (tt, (place_fits i.0 i.1 less))) $
         assigns ! (bin ! (load ! (from ! (fld ! refl (stop !))) (look_in ! 36 (sub ! 0 refl (whole !)))) (load !
         (from ! (stop !)) (look ! 22 refl)) tt) (from ! (stop !)) (init ! 18 refl (tt, tt)) $
         rewrite ! 18 (λ (p : ℕ). ‵ (fat full_share ty_ptr l₁₅ 0 (vptr b p))) (sym (place_is size o i.0)) refl $
@@ -738,7 +738,7 @@ module _ {M : Type 1} {𝓤 : Ura M} (𝓛 : Logic 𝓤) (at_mem : Memory → SP
         (from ! (hop ! (look ! 19 refl) (stop !))) (look_raw ! 0 refl)))
         (from ! (stop !)) (init ! 17 refl ((LL.lawful T.the_type T'.the_laws 𝓛).typed elem _ was).0) $
         move ! (5 ∷ 6 ∷ []) $ use2 𝓛 (raw ((Jud 𝓛 at_mem run).pre (to_j (st i.0) elem i.0)) ⊛ Kept)
-        (lent-j (st i.0) elem i.0 i.2 was (index-fits i.0 i.1 less) (ready n tab xs i.0)) $
+        (lent_j (st i.0) elem i.0 i.2 was (index_fits i.0 i.1 less) (ready n tab xs i.0)) $
         split ! $
         calls_at ! fm (Jud 𝓛 at_mem run) k-j (to_j (st i.0) elem i.0)
         (and_then ! (load ! (from ! (stop !)) (look ! 47 refl))
@@ -752,8 +752,8 @@ module _ {M : Type 1} {𝓤 : Ura M} (𝓛 : Logic 𝓤) (at_mem : Memory → SP
         use1 𝓛 (later (some (λ (r : Judging). (Toks ⊛ ‵ ((Z.the_row).own_val r (u ∷ []))) ⊛ raw (Ensured-j (st i.0)
         elem i.0 r)))) (id⊢ 𝓤 _) $ await ! tt $ pick ! (λ r.
         split ! $ move ! (1 ∷ []) $
-        use1 𝓛 (raw (fact 𝓤 (r ≡ judgedOf n tab.links (st i.0) elem i.0))) (known-j (st i.0) elem i.0 r) $
-        heard ! (r ≡ judgedOf n tab.links (st i.0) elem i.0) (λ e. split ! $ move ! (1 ∷ []) $
+        use1 𝓛 (raw (fact 𝓤 (r ≡ judged_of n tab.links (st i.0) elem i.0))) (known_j (st i.0) elem i.0 r) $
+        heard ! (r ≡ judged_of n tab.links (st i.0) elem i.0) (λ e. split ! $ move ! (1 ∷ []) $
         peeks ! Z.the_row (Is Z.the_row) (shows 𝓛 Z.the_row) r (u ∷ []) (λ is. drop ! $
         land ! (from ! (stop !)) (store ! 35 refl ((LL.lawful Z.the_type Z'.the_laws 𝓛).typed r _ is).0) $
         rewrite ! 35 (λ (w : Val). ‵ (fat full_share Z'.mir l₇ 0 w)) (told r u is e) refl $
@@ -771,20 +771,20 @@ module _ {M : Type 1} {𝓤 : Ura M} (𝓛 : Logic 𝓤) (at_mem : Memory → SP
         elem : Question
         elem = get_or xs i.0 blank
 
-        stepped : (r : Judging) → r ≡ judgedOf n tab.links (st i.0) elem i.0 → r ≡ st (i.0 + 1)
-        stepped r e = e ∙ (sym (judged-next n tab xs i.0) ∙ ap st (sym (add-one i.0)))
+        stepped : (r : Judging) → r ≡ judged_of n tab.links (st i.0) elem i.0 → r ≡ st (i.0 + 1)
+        stepped r e = e ∙ (sym (judged_next n tab xs i.0) ∙ ap st (sym (add-one i.0)))
 
-        told : (r : Judging) (u : Val) → Is Z.the_row r (u ∷ []) → r ≡ judgedOf n tab.links (st i.0) elem i.0
-            → u ≡ stateVal (st (i.0 + 1))
-        told r u is e = ap only (LL.tells Z.the_type Z'.the_laws r _ is) ∙ ap stateVal (stepped r e)
+        told : (r : Judging) (u : Val) → Is Z.the_row r (u ∷ []) → r ≡ judged_of n tab.links (st i.0) elem i.0
+            → u ≡ state_val (st (i.0 + 1))
+        told r u is e = ap only (LL.tells Z.the_type Z'.the_laws r _ is) ∙ ap state_val (stepped r e)
 
         next : Holds (ltb i.0 len) → (r : Judging) (u : Val) → Is Z.the_row r (u ∷ [])
-            → r ≡ judgedOf n tab.links (st i.0) elem i.0 → Upto Judged
+            → r ≡ judged_of n tab.links (st i.0) elem i.0 → Upto Judged
         next less r u is e = (
           i.0 + 1,
           add-one-le
               (small i.0 i.1 less),
-          subst (λ (s : Judging). Is Z.the_row s (stateVal s ∷ [])) (stepped r e)
+          subst (λ (s : Judging). Is Z.the_row s (state_val s ∷ [])) (stepped r e)
               (subst (Is Z.the_row r) (LL.tells Z.the_type Z'.the_laws r _ is) is),
         )
 
@@ -805,8 +805,8 @@ module _ {M : Type 1} {𝓤 : Ura M} (𝓛 : Logic 𝓤) (at_mem : Memory → SP
 
     began : Sq 𝓛 Begun (runs C Λ En code-mir.t-1 (at_ret En Post))
     began =
-        move ! (47 ∷ 48 ∷ 49 ∷ []) $ use3 𝓛 (raw ((Beg 𝓛 at_mem run).pre to-b) ⊛ Os) lent-b $ split ! $
-        calls_at ! fm (Beg 𝓛 at_mem run) k-b to-b
+        move ! (47 ∷ 48 ∷ 49 ∷ []) $ use3 𝓛 (raw ((Beg 𝓛 at_mem run).pre to_b) ⊛ Os) lent_b $ split ! $
+        calls_at ! fm (Beg 𝓛 at_mem run) k-b to_b
         (and_then ! (load ! (from ! (stop !)) (look ! 42 refl))
         (and_then ! (load ! (from ! (stop !)) (look ! 40 refl))
         (and_then ! (load ! (from ! (stop !)) (look ! 38 refl))
@@ -815,25 +815,25 @@ module _ {M : Type 1} {𝓤 : Ura M} (𝓛 : Logic 𝓤) (at_mem : Memory → SP
         (no_more !)))))) (λ u.
         use1 𝓛 (later (some (λ (r : Judging). (AllToks ⊛ ‵ ((Z.the_row).own_val r (u ∷ []))) ⊛ raw (Ensured-b r)))) (id⊢ 𝓤 _)
         $ await ! tt $ pick ! (λ r.
-        split ! $ move ! (1 ∷ []) $ use1 𝓛 (raw (fact 𝓤 (r ≡ begunOf n tab))) (known-b r) $
-        heard ! (r ≡ begunOf n tab) (λ e. split ! $ move ! (1 ∷ []) $
+        split ! $ move ! (1 ∷ []) $ use1 𝓛 (raw (fact 𝓤 (r ≡ begun_of n tab))) (known_b r) $
+        heard ! (r ≡ begun_of n tab) (λ e. split ! $ move ! (1 ∷ []) $
         peeks ! Z.the_row (Is Z.the_row) (shows 𝓛 Z.the_row) r (u ∷ []) (λ is. drop ! $
         use2 𝓛 (Toks ⊛ Kept) apart $ split ! $
         land ! (from ! (stop !)) (init ! 30 refl ((LL.lawful Z.the_type Z'.the_laws 𝓛).typed r _ is).0) $
         rewrite ! 30 (λ (w : Val). ‵ (fat full_share Z'.mir l₇ 0 w)) (told r u is e) refl $
         assigns ! (of_opd ! (lit ! tt)) (from ! (stop !)) (init ! 28 refl (tt, record { fits = lit< tt })) $
-        move ! (46 ∷ 47 ∷ 48 ∷ []) $ opens_slice ! tt T.the_row xs b o $ looped (0, zero-le, now-is r u is e)))))
+        move ! (46 ∷ 47 ∷ 48 ∷ []) $ opens_slice ! tt T.the_row xs b o $ looped (0, zero-le, now_is r u is e)))))
       where
-        same : (r : Judging) → r ≡ begunOf n tab → r ≡ st 0
-        same r e = e ∙ sym (judged-first n tab xs)
+        same : (r : Judging) → r ≡ begun_of n tab → r ≡ st 0
+        same r e = e ∙ sym (judged_first n tab xs)
 
-        told : (r : Judging) (u : Val) → Is Z.the_row r (u ∷ []) → r ≡ begunOf n tab → u ≡ stateVal (st 0)
-        told r u is e = ap only (LL.tells Z.the_type Z'.the_laws r _ is) ∙ ap stateVal (same r e)
+        told : (r : Judging) (u : Val) → Is Z.the_row r (u ∷ []) → r ≡ begun_of n tab → u ≡ state_val (st 0)
+        told r u is e = ap only (LL.tells Z.the_type Z'.the_laws r _ is) ∙ ap state_val (same r e)
 
-        now-is : (r : Judging) (u : Val) → Is Z.the_row r (u ∷ []) → r ≡ begunOf n tab
-            → Is Z.the_row (st 0) (stateVal (st 0) ∷ [])
-        now-is r u is e =
-            subst (λ (s : Judging). Is Z.the_row s (stateVal s ∷ [])) (same r e) (subst (Is Z.the_row r) (LL.tells
+        now_is : (r : Judging) (u : Val) → Is Z.the_row r (u ∷ []) → r ≡ begun_of n tab
+            → Is Z.the_row (st 0) (state_val (st 0) ∷ [])
+        now_is r u is e =
+            subst (λ (s : Judging). Is Z.the_row s (state_val s ∷ [])) (same r e) (subst (Is Z.the_row r) (LL.tells
             Z.the_type Z'.the_laws r _ is) is)
 
   walk : (𝓣 : Tables 𝓤 H) → FmC 𝓤 H 𝓛.laws 𝓣.C → Triple 𝓤 (𝓣.C #begin) (Beg 𝓛 at_mem run)
@@ -879,8 +879,8 @@ module _ {M : Type 1} {𝓤 : Ura M} (𝓛 : Logic 𝓤) (mem : Memory → SProp
     (Fil 𝓛 mem run)) where
   open 𝓛 use {H}
 
-  answer-walks : Walks 𝓛 all.ended stayed (WpFn 𝓤 H 𝓣.C 𝓣.Λ code.function) (all.clauses 𝓛 mem run)
-  answer-walks =
+  answer_walks : Walks 𝓛 all.ended stayed (WpFn 𝓤 H 𝓣.C 𝓣.Λ code.function) (all.clauses 𝓛 mem run)
+  answer_walks =
       walked 𝓛 all.ended stayed (all.clauses 𝓛 mem run) (WpFn 𝓤 H 𝓣.C 𝓣.Λ code.function) (λ κs.
       (uint_vals w32, (shr_slice_vals, (shr_slice_vals, (shr_slice_vals, (shr_slice_vals, (shr_slice_vals, tt)))))))
       (λ κs. (
@@ -920,17 +920,17 @@ module _ {M : Type 1} {𝓤 : Ura M} (𝓛 : Logic 𝓤) (mem : Memory → SProp
     ),
   )
 
-  answer-meets : Meets 𝓛 all.signature (WpFn 𝓤 H 𝓣.C 𝓣.Λ code.function) (all.spec 𝓛 mem run)
-  answer-meets =
+  answer_meets : Meets 𝓛 all.signature (WpFn 𝓤 H 𝓣.C 𝓣.Λ code.function) (all.spec 𝓛 mem run)
+  answer_meets =
       walk_Meets 𝓛 all.ended stayed goes (all.clauses 𝓛 mem run) (WpFn 𝓤 H 𝓣.C 𝓣.Λ code.function)
-      (WpFn-mono 𝓤 H 𝓛.laws 𝓣 code.function) answer-walks
+      (WpFn-mono 𝓤 H 𝓛.laws 𝓣 code.function) answer_walks
 
-pub answer-spec : {M : Type 1} → stated.statement M
+pub answer_spec : {M : Type 1} → stated.statement M
 unfolding code.routine tables_of
-answer-spec 𝓤 𝓛 𝓜 𝓡 =
+answer_spec 𝓤 𝓛 𝓜 𝓡 =
     entered 𝓤 𝓛.H (triple_of 𝓛 all.signature (all.spec 𝓛 𝓜.mem 𝓡.run))
     (tables 𝓤 𝓛.H 𝓜 𝓡 code.env).C (tables 𝓤 𝓛.H 𝓜 𝓡 code.env).Λ #answer code.function (code.unfolded 𝓤 𝓛.H 𝓜 𝓡)
-    (answer-meets 𝓛 𝓜.mem 𝓡.run (tables_of 𝓤 𝓛.H 𝓜 (tables 𝓤 𝓛.H 𝓜 𝓡 code.env))
+    (answer_meets 𝓛 𝓜.mem 𝓡.run (tables_of 𝓤 𝓛.H 𝓜 (tables 𝓤 𝓛.H 𝓜 𝓡 code.env))
     (cited 𝓤 𝓛.H (Beg 𝓛 𝓜.mem 𝓡.run) 𝓜 𝓡 code.env #begin beg-def.routine
     code.calls-questions::judging::begin (beg-thm.met 𝓤 𝓛 𝓜 𝓡))
     (cited 𝓤 𝓛.H (Jud 𝓛 𝓜.mem 𝓡.run) 𝓜 𝓡 code.env #judge jud-def.routine

@@ -5,7 +5,7 @@ use native.Mathlib.Omega.{arith}
 use borrow.Author.Rules.{rules}
 use Rattle.runs.specs.Runs.{Runs, runs}
 use Rattle.runs.specs.Check.{unmatched}
-use Rattle.runs.proofs.Checking.{refused-into, Begun, Rising, Within, matched, lasting, check-unmatched, check-too-many, check-first-start, check-unordered, check-out-of-range, check-overlap, check-accepts}
+use Rattle.runs.proofs.Checking.{refused_into, Begun, Rising, Within, matched, lasting, check_unmatched, check_too_many, check_first_start, check_unordered, check_out_of_range, check_overlap, check_accepts}
 use Rattle.runs.proofs.check_order.Statement.{statement}
 use Rattle.runs.proofs.check_order.Tie as tie
 
@@ -26,11 +26,11 @@ abbrev list_of : tie.Start → Runs
 list_of c = runs c.args.starts.now c.args.images.now
 
 -- what the tests show where they do not apply
-matched-here : (c : tie.Else1) → unmatched (start₁ c).args.n (list_of (start₁ c)) ≡ false
-matched-here c = sym c.before.is-unmatched.ensures ∙ c.if1.false
+matched_here : (c : tie.Else1) → unmatched (start₁ c).args.n (list_of (start₁ c)) ≡ false
+matched_here c = sym c.before.is-unmatched.ensures ∙ c.if1.false
 
 begun : (c : tie.Else3) → Begun (start₃ c).args.most (start₃ c).args.n (list_of (start₃ c))
-begun c = record { matched = matched-here c.before.before.before; few = omega arith; first = c.if3.false }
+begun c = record { matched = matched_here c.before.before.before; few = omega arith; first = c.if3.false }
 
 rising : (c : tie.Else4) → Rising (start₄ c).args.most (start₄ c).args.n (list_of (start₄ c))
 rising c = record {
@@ -48,18 +48,18 @@ is-unmatched-requires : tie.Need-is-unmatched-requires
 is-unmatched-requires c κs = search rules
 
 returns : tie.Need-returns
-returns c = refused-into _ _ _ _ _ (check-unmatched _ _ _ (sym c.before.is-unmatched.ensures ∙ c.if1.true))
+returns c = refused_into _ _ _ _ _ (check_unmatched _ _ _ (sym c.before.is-unmatched.ensures ∙ c.if1.true))
 
-returns-2 : tie.Need-returns-2
-returns-2 c = refused-into _ _ _ _ _ (check-too-many _ _ _ (matched-here c.before) c.if2.true)
+returns_2 : tie.Need-returns-2
+returns_2 c = refused_into _ _ _ _ _ (check_too_many _ _ _ (matched_here c.before) c.if2.true)
 
 shared-slice-read-if3 : tie.Need-shared-slice-read-if3
-shared-slice-read-if3 c = (matched _ _ (matched-here c.before.before)).some
+shared-slice-read-if3 c = (matched _ _ (matched_here c.before.before)).some
 
 returns-3 : tie.Need-returns-3
 returns-3 c =
-    refused-into _ _ _ _ _
-    (check-first-start _ _ _ (matched-here c.before.before.before) (omega arith) c.if3.true)
+    refused_into _ _ _ _ _
+    (check_first_start _ _ _ (matched_here c.before.before.before) (omega arith) c.if3.true)
 
 first-unordered-requires : tie.Need-first-unordered-requires
 first-unordered-requires c κs = search rules
@@ -69,8 +69,8 @@ cast-t19 c = search rules
 
 returns-4 : tie.Need-returns-4
 returns-4 c =
-    refused-into _ _ _ _ _
-    (check-unordered _ _ _ _ (omega arith) (begun c.before.before) c.before.first-unordered.ensures)
+    refused_into _ _ _ _ _
+    (check_unordered _ _ _ _ (omega arith) (begun c.before.before) c.before.first-unordered.ensures)
 
 first-out-of-range-requires : tie.Need-first-out-of-range-requires
 first-out-of-range-requires c κs = lasting _ _ _ (rising c)
@@ -80,8 +80,8 @@ cast-t21 c = search rules
 
 returns-5 : tie.Need-returns-5
 returns-5 c =
-    refused-into _ _ _ _ _
-    (check-out-of-range _ _ _ _ (omega arith) (rising c.before.before) c.before.first-out-of-range.ensures)
+    refused_into _ _ _ _ _
+    (check_out_of_range _ _ _ _ (omega arith) (rising c.before.before) c.before.first-out-of-range.ensures)
 
 first-overlap-requires : tie.Need-first-overlap-requires
 first-overlap-requires c κs =
@@ -94,14 +94,14 @@ cast-t27 c = search rules
 same_length : tie.Need-same-length
 same_length c = search rules
 
-same-length-2 : tie.Need-same-length-2
-same-length-2 c = search rules
+same_length_2 : tie.Need-same-length-2
+same_length_2 c = search rules
 
 returns-6 : tie.Need-returns-6
 returns-6 c =
     let o = c.before.before.before.before.before in
-    refused-into _ _ _ _ _
-    (check-overlap _ _ _ _ (omega arith) (within o.before.before.before) o.first-overlap.ensures.lowest)
+    refused_into _ _ _ _ _
+    (check_overlap _ _ _ _ (omega arith) (within o.before.before.before) o.first-overlap.ensures.lowest)
 
 same-length-3 : tie.Need-same-length-3
 same-length-3 c = search rules
@@ -113,17 +113,17 @@ returns-7 : tie.Need-returns-7
 returns-7 c =
     let o = c.before.before.before.before.before in
     record {
-      says = check-accepts _ _ _ (within o.before.before.before) (rw o.first-overlap.ensures.lowest at c.if6.false);
+      says = check_accepts _ _ _ (within o.before.before.before) (rw o.first-overlap.ensures.lowest at c.if6.false);
       ordered = λ e. o.first-overlap.ensures.ordered;
     }
 
-pub check-order-spec : {M : Type 1} → statement M
-check-order-spec =
+pub check_order_spec : {M : Type 1} → statement M
+check_order_spec =
     tie.close
     (tie.spec
     is-unmatched-requires
     returns
-    returns-2
+    returns_2
     shared-slice-read-if3
     returns-3
     first-unordered-requires
@@ -135,7 +135,7 @@ check-order-spec =
     first-overlap-requires
     cast-t27
     same_length
-    same-length-2
+    same_length_2
     returns-6
     same-length-3
     same-length-4

@@ -1,5 +1,5 @@
 -- `is_broken` meets its contract: its two branches are the alternatives of `broken`.
-use Rattle.tables.proofs.Passing.{broken-unheld, broken-held}
+use Rattle.tables.proofs.Passing.{broken_unheld, broken_held}
 use Rattle.std.proofs.Common.{sym, ◌∙◌, arith, rules}
 use Rattle.tables.proofs.is_broken.Statement.{statement}
 use Rattle.tables.proofs.is_broken.Tie as tie
@@ -8,7 +8,7 @@ is-unheld-requires : tie.Need-is-unheld-requires
 is-unheld-requires c κs = search rules
 
 returns : tie.Need-returns
-returns c = sym (broken-unheld _ _ _ _ (sym c.before.is-unheld.ensures ∙ c.if1.true))
+returns c = sym (broken_unheld _ _ _ _ (sym c.before.is-unheld.ensures ∙ c.if1.true))
 
 wide-requires : tie.Need-wide-requires
 wide-requires c κs = search rules
@@ -37,14 +37,14 @@ wide-requires-3 c κs = search rules
 add-result : tie.Need-overflow-add-result
 add-result c = search rules
 
-returns-2 : tie.Need-returns-2
-returns-2 c =
+returns_2 : tie.Need-returns-2
+returns_2 c =
     let e = c.before.before.before.before in
     let f = e.before in
-    broken-held _ _ _ _ (sym f.before.is-unheld.ensures ∙ f.if1.false) _ _ e.wide.ensures.0 (omega arith)
+    broken_held _ _ _ _ (sym f.before.is-unheld.ensures ∙ f.if1.false) _ _ e.wide.ensures.0 (omega arith)
 
-pub is-broken-spec : {M : Type 1} → statement M
-is-broken-spec =
+pub is_broken_spec : {M : Type 1} → statement M
+is_broken_spec =
     tie.close
     (tie.spec
     is-unheld-requires
@@ -58,4 +58,4 @@ is-broken-spec =
     sub_wide
     wide-requires-3
     add-result
-    returns-2)
+    returns_2)

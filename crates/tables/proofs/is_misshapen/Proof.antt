@@ -8,9 +8,9 @@ returns : tie.Need-returns
 unfolding misshapen
 returns c = simp (eq-eqb _ _ c.if1.true)
 
-returns-2 : tie.Need-returns-2
+returns_2 : tie.Need-returns-2
 unfolding misshapen
-returns-2 c = simp (ne_eqb _ _ c.before.if1.false, eq-eqb _ _ c.if2.true)
+returns_2 c = simp (ne_eqb _ _ c.before.if1.false, eq-eqb _ _ c.if2.true)
 
 returns-3 : tie.Need-returns-3
 unfolding misshapen
@@ -43,5 +43,5 @@ returns-6 c =
     let l = eq-eqb _ _ h.if4.false in
     simp (ne_eqb _ _ e.before.if1.false, ne_eqb _ _ e.if2.false, k, l, eq-eqb _ _ c.if5.false)
 
-pub is-misshapen-spec : {M : Type 1} → statement M
-is-misshapen-spec = tie.close (tie.spec returns returns-2 returns-3 returns-4 returns-5 returns-6)
+pub is_misshapen_spec : {M : Type 1} → statement M
+is_misshapen_spec = tie.close (tie.spec returns returns_2 returns-3 returns-4 returns-5 returns-6)

@@ -1,5 +1,5 @@
 -- `is_unheld` meets its contract: its two branches are the alternatives of `unheld`.
-use Rattle.tables.proofs.Passing.{unheld-index, unheld-start}
+use Rattle.tables.proofs.Passing.{unheld_index, unheld_start}
 use Rattle.std.proofs.Common.{sym, arith, rules}
 use Rattle.tables.proofs.is_unheld.Statement.{statement}
 use Rattle.tables.proofs.is_unheld.Tie as tie
@@ -14,7 +14,7 @@ cast-h : tie.Need-overflow-cast-h
 cast-h c = omega (arith, c.shared-slice-known.given c.before.args.x)
 
 returns : tie.Need-returns
-returns c = sym (unheld-index _ _ (omega arith))
+returns c = sym (unheld_index _ _ (omega arith))
 
 mul-result : tie.Need-overflow-mul-result
 mul-result c = search rules
@@ -28,11 +28,11 @@ mul-result-2 c = search rules
 shared-slice-read-result-2 : tie.Need-shared-slice-read-result-2
 shared-slice-read-result-2 c = search rules
 
-returns-2 : tie.Need-returns-2
-returns-2 c = sym (unheld-start _ _ (omega arith))
+returns_2 : tie.Need-returns-2
+returns_2 c = sym (unheld_start _ _ (omega arith))
 
-pub is-unheld-spec : {M : Type 1} → statement M
-is-unheld-spec =
+pub is_unheld_spec : {M : Type 1} → statement M
+is_unheld_spec =
     tie.close
     (tie.spec
     mul-h
@@ -43,4 +43,4 @@ is-unheld-spec =
     shared-slice-read-result
     mul-result-2
     shared-slice-read-result-2
-    returns-2)
+    returns_2)

@@ -1,5 +1,5 @@
 -- `is_wrong_length` meets its contract: the interval's numbers are handed on.
-use Rattle.order.proofs.Laws.{entry-after}
+use Rattle.order.proofs.Laws.{entry_after}
 use Rattle.tables.specs.Tables.{mismatch}
 use Rattle.std.proofs.Common.{get_or, ◌∙◌, rules}
 use Rattle.tables.proofs.is_wrong_length.Statement.{statement}
@@ -30,11 +30,11 @@ returns : tie.Need-returns
 returns c =
     let e = c.before.before in
     let a = e.before.before.before.before.args in
-    let end = e.entry-or.ensures ∙ entry-after a.starts.now a.x a.n in
+    let end = e.entry-or.ensures ∙ entry_after a.starts.now a.x a.n in
     c.differs.ensures ∙ (λ k. mismatch (get_or a.starts.now a.x 0) (end k) (get_or a.lengths.now a.x 0))
 
-pub is-wrong-length-spec : {M : Type 1} → statement M
-is-wrong-length-spec =
+pub is_wrong_length_spec : {M : Type 1} → statement M
+is_wrong_length_spec =
     tie.close
     (tie.spec
     mul-differs

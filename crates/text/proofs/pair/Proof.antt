@@ -1,16 +1,16 @@
 -- `pair` meets its contract: two fields, one after the other.
-use Rattle.text.proofs.Writing.{fits-first, fits-second, wrote-both}
+use Rattle.text.proofs.Writing.{fits_first, fits_second, wrote_both}
 use borrow.Author.Rules.{rules}
 use Rattle.text.proofs.pair.Statement.{statement}
 use Rattle.text.proofs.pair.Tie as tie
 
 field-requires : tie.Need-field-requires
-field-requires c κs = fits-first _ _ _ _ c.before.before.requires
+field-requires c κs = fits_first _ _ _ _ c.before.before.requires
 
 field-requires-2 : tie.Need-field-requires-2
 field-requires-2 c κs =
     let f = c.before.before.before in
-    fits-second _ _ _ _ f.before.before.before.requires _ _ f.field.ensures
+    fits_second _ _ _ _ f.before.before.before.requires _ _ f.field.ensures
 
 same_length : tie.Need-same-length
 same_length c = search rules
@@ -19,7 +19,7 @@ returns : tie.Need-returns
 returns c =
     let g = c.before.before in
     let f = g.before.before.before.before in
-    wrote-both _ _ _ _ f.before.before.before.requires _ _ f.field.ensures _ _ g.field2.ensures
+    wrote_both _ _ _ _ f.before.before.before.requires _ _ f.field.ensures _ _ g.field2.ensures
 
 pub pair_spec : {M : Type 1} → statement M
 pair_spec = tie.close (tie.spec field-requires field-requires-2 same_length returns)

@@ -41,8 +41,8 @@ marked-requires c κs = search rules
 returns : tie.Need-returns invariant-loop decreases-loop
 returns c = search rules
 
-pub advance-often-spec : {M : Type 1} → statement M
-advance-often-spec =
+pub advance_often_spec : {M : Type 1} → statement M
+advance_often_spec =
     tie.close
     (tie.spec
     invariant-loop

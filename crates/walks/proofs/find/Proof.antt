@@ -1,13 +1,13 @@
 -- `find` meets its contract: where all lengths are right the starts rise, and the number of those not above the place is one more
 -- than the interval found.
-use Rattle.walks.proofs.Steps.{findable-is, find-shape, find-length, find-out, find_at}
-use Rattle.walks.proofs.Finding.{found-counted}
+use Rattle.walks.proofs.Steps.{findable_is, find_shape, find_length, find_out, find_at}
+use Rattle.walks.proofs.Finding.{found_counted}
 use Rattle.walks.specs.Move.{found_at}
 use Rattle.tables.specs.Tables.{Tables, tables}
 use Rattle.tables.specs.Parts.{Shaped, Measured}
 use Rattle.tables.proofs.Passing.{shaped}
-use Rattle.tables.proofs.Lengths.{none-wrong, right-rise}
-use Rattle.order.proofs.Laws.{strict-sorted, count-le-length}
+use Rattle.tables.proofs.Lengths.{none_wrong, right_rise}
+use Rattle.order.proofs.Laws.{strict_sorted, count_le_length}
 use Prim.Native.Nat.{◌+◌, ◌-◌, ◌<◌}
 use native.Mathlib.Omega.{arith}
 use mathlib.Core.Path.{◌≡◌, sym, ◌∙◌}
@@ -19,7 +19,7 @@ is-misshapen-requires : tie.Need-is-misshapen-requires
 is-misshapen-requires c κs = search rules
 
 returns : tie.Need-returns
-returns c = find-shape _ _ _ _ c.before.is-misshapen.ensures c.if1.true
+returns c = find_shape _ _ _ _ c.before.is-misshapen.ensures c.if1.true
 
 first-wrong-length-requires : tie.Need-first-wrong-length-requires
 first-wrong-length-requires c κs =
@@ -32,11 +32,11 @@ cast-t12 c =
     let s = shaped _ _ _ e.before.is-misshapen.ensures e.if1.false in
     omega arith
 
-returns-2 : tie.Need-returns-2
-returns-2 c =
+returns_2 : tie.Need-returns-2
+returns_2 c =
     let e = c.before.before in
     let s = shaped _ _ _ e.before.is-misshapen.ensures e.if1.false in
-    find-length _ _ _ s _ c.before.first-wrong-length.ensures (omega arith)
+    find_length _ _ _ s _ c.before.first-wrong-length.ensures (omega arith)
 
 is-unfindable-requires : tie.Need-is-unfindable-requires
 is-unfindable-requires c κs =
@@ -55,16 +55,16 @@ shape : (w : tie.Else2) → Shaped (call w).args.n (given w)
 shape w = shaped _ (given w) _ w.before.before.before.is-misshapen.ensures w.before.before.if1.false
 
 right : (w : tie.Else2) → Measured (call w).args.n (given w)
-right w = none-wrong _ (given w) _ w.before.first-wrong-length.ensures w.if2.false
+right w = none_wrong _ (given w) _ w.before.first-wrong-length.ensures w.if2.false
 
 returns-3 : tie.Need-returns-3
 returns-3 c =
     let w = c.before.before in
-    find-out _ (given w) _ (shape w) (right w) (sym c.before.is-unfindable.ensures ∙ c.if3.true)
+    find_out _ (given w) _ (shape w) (right w) (sym c.before.is-unfindable.ensures ∙ c.if3.true)
 
 add-count-below : tie.Need-overflow-add-count-below
 add-count-below c =
-    let p = findable-is _ _ _ (sym c.before.is-unfindable.ensures ∙ c.if3.false) in
+    let p = findable_is _ _ _ (sym c.before.is-unfindable.ensures ∙ c.if3.false) in
     omega arith
 
 -- the search's answer
@@ -75,14 +75,14 @@ found c =
     let w = c.before.before.before in
     let f = sym c.before.before.is-unfindable.ensures ∙ c.before.if3.false in
     let k = (given w).links in
-    found-counted k (call w).args.i _ (right-rise (call w).args.n k.list.starts (given w).lengths (right w)) (shape w).linked.some
-    (findable-is (call w).args.n k.list.starts (call w).args.i f).1 c.count-below.ensures
+    found_counted k (call w).args.i _ (right_rise (call w).args.n k.list.starts (given w).lengths (right w)) (shape w).linked.some
+    (findable_is (call w).args.n k.list.starts (call w).args.i f).1 c.count-below.ensures
 
 count-below-requires : tie.Need-count-below-requires
 count-below-requires c κs =
     let w = c.before.before in
     let a = (call w).args in
-    strict-sorted a.starts.now (right-rise a.n a.starts.now a.lengths.now (right w))
+    strict_sorted a.starts.now (right_rise a.n a.starts.now a.lengths.now (right w))
 
 sub-t17 : tie.Need-overflow-sub-t17
 sub-t17 c = (found c).0
@@ -90,7 +90,7 @@ sub-t17 c = (found c).0
 cast-t18 : tie.Need-overflow-cast-t18
 cast-t18 c =
     let w = c.before.before.before in
-    omega (arith, (shape w).linked.few, count-le-length ((call w).args.i + 1) (call w).args.starts.now, c.count-below.ensures)
+    omega (arith, (shape w).linked.few, count_le_length ((call w).args.i + 1) (call w).args.starts.now, c.count-below.ensures)
 
 returns-4 : tie.Need-returns-4
 returns-4 c =
@@ -106,7 +106,7 @@ find_spec =
     returns
     first-wrong-length-requires
     cast-t12
-    returns-2
+    returns_2
     is-unfindable-requires
     returns-3
     add-count-below

@@ -11,8 +11,8 @@ returns c = sym (far _ _ _ c.if1.true)
 shared-slice-read-result : tie.Need-shared-slice-read-result
 shared-slice-read-result c = search rules
 
-returns-2 : tie.Need-returns-2
-returns-2 c = sym (near _ _ _ c.before.if1.false)
+returns_2 : tie.Need-returns-2
+returns_2 c = sym (near _ _ _ c.before.if1.false)
 
-pub is-unfindable-spec : {M : Type 1} → statement M
-is-unfindable-spec = tie.close (tie.spec returns shared-slice-read-result returns-2)
+pub is_unfindable_spec : {M : Type 1} → statement M
+is_unfindable_spec = tie.close (tie.spec returns shared-slice-read-result returns_2)

@@ -1,6 +1,6 @@
 -- `move_query` meets its contract: the tests before 12, and what is left of a move where they pass.
-use Rattle.walks.proofs.Steps.{located, move-refused, move-located}
-use Rattle.walks.specs.Move.{movedSays}
+use Rattle.walks.proofs.Steps.{located, move_refused, move_located}
+use Rattle.walks.specs.Move.{moved_says}
 use mathlib.Core.Path.{sym, ap, ◌∙◌}
 use borrow.Author.Rules.{rules}
 use Rattle.walks.proofs.move_query.Statement.{statement}
@@ -17,17 +17,17 @@ enum_told c = search rules
 
 advance-requires : tie.Need-advance-requires
 advance-requires c κs =
-    (located _ _ _ _ _ (ap movedSays (sym c.enum_told.given.1) ∙ c.before.before.locate.ensures)).stands.at
+    (located _ _ _ _ _ (ap moved_says (sym c.enum_told.given.1) ∙ c.before.before.locate.ensures)).stands.at
 
 returns : tie.Need-returns
 returns c =
-    move-refused _ _ _ _ _ _ (ap movedSays (sym c.before.r.given.1) ∙ c.before.before.before.locate.ensures)
+    move_refused _ _ _ _ _ _ (ap moved_says (sym c.before.r.given.1) ∙ c.before.before.before.locate.ensures)
 
-returns-2 : tie.Need-returns-2
-returns-2 c =
-    let e = ap movedSays (sym c.before.enum_told.given.1) ∙ c.before.before.before.locate.ensures in
-    c.advance.ensures ∙ sym (move-located _ _ _ _ (located _ _ _ _ _ e))
+returns_2 : tie.Need-returns-2
+returns_2 c =
+    let e = ap moved_says (sym c.before.enum_told.given.1) ∙ c.before.before.before.locate.ensures in
+    c.advance.ensures ∙ sym (move_located _ _ _ _ (located _ _ _ _ _ e))
 
-pub move-query-spec : {M : Type 1} → statement M
-move-query-spec =
-    tie.close (tie.spec locate-requires enum-known-r enum_told advance-requires returns returns-2)
+pub move_query_spec : {M : Type 1} → statement M
+move_query_spec =
+    tie.close (tie.spec locate-requires enum-known-r enum_told advance-requires returns returns_2)

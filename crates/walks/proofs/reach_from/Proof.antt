@@ -11,5 +11,5 @@ walk-from-requires c κs = search rules
 returns : tie.Need-returns
 returns c = ap (λ (w : Walked). w.interval) c.walk_from.ensures
 
-pub reach-from-spec : {M : Type 1} → statement M
-reach-from-spec = tie.close (tie.spec walk-from-requires returns)
+pub reach_from_spec : {M : Type 1} → statement M
+reach_from_spec = tie.close (tie.spec walk-from-requires returns)

@@ -1,7 +1,7 @@
 -- `repeated_moves` meets its contract: the tests before 12 once, and the moves where they pass.
-use Rattle.walks.proofs.Moves.{moves-refused}
+use Rattle.walks.proofs.Moves.{moves_refused}
 use Rattle.walks.proofs.Steps.{located}
-use Rattle.walks.specs.Move.{movedSays}
+use Rattle.walks.specs.Move.{moved_says}
 use native.Mathlib.Omega.{arith}
 use mathlib.Core.Path.{sym, ap, ◌∙◌}
 use borrow.Author.Rules.{rules}
@@ -19,17 +19,17 @@ enum_told c = search rules
 
 moves-from-requires : tie.Need-moves-from-requires
 moves-from-requires c κs =
-    located _ _ _ _ _ (ap movedSays (sym c.enum_told.given.1) ∙ c.before.before.locate.ensures)
+    located _ _ _ _ _ (ap moved_says (sym c.enum_told.given.1) ∙ c.before.before.locate.ensures)
 
 returns : tie.Need-returns
 returns c =
-    let e = ap movedSays (sym c.before.r.given.1) ∙ c.before.before.before.locate.ensures in
-    moves-refused _ _ 0 _ _ _ _ _ (omega arith) e
+    let e = ap moved_says (sym c.before.r.given.1) ∙ c.before.before.before.locate.ensures in
+    moves_refused _ _ 0 _ _ _ _ _ (omega arith) e
 
-returns-2 : tie.Need-returns-2
-returns-2 c = search rules
+returns_2 : tie.Need-returns-2
+returns_2 c = search rules
 
-pub repeated-moves-spec : {M : Type 1} → statement M
-repeated-moves-spec =
+pub repeated_moves_spec : {M : Type 1} → statement M
+repeated_moves_spec =
     tie.close
-    (tie.spec locate-requires enum-known-r enum_told moves-from-requires returns returns-2)
+    (tie.spec locate-requires enum-known-r enum_told moves-from-requires returns returns_2)

@@ -1,7 +1,7 @@
 -- `step_from` meets its contract: the holder that test 12 has let pass is where the walk begins, and the interval reached does
 -- not start above the place.
-use Rattle.walks.proofs.Steps.{step-index, step-low, step_by}
-use Rattle.tables.proofs.Passing.{held-is}
+use Rattle.walks.proofs.Steps.{step_index, step_low, step_by}
+use Rattle.tables.proofs.Passing.{held_is}
 use mathlib.Core.Path.{refl, ◌∙◌}
 use borrow.Author.Rules.{rules}
 use Rattle.walks.proofs.step_from.Statement.{statement}
@@ -34,19 +34,19 @@ shared-slice-read-walk-from c = search rules
 walk-from-requires : tie.Need-walk-from-requires
 walk-from-requires c κs =
     let s = c.before.before.before.before.before.before in
-    ((held-is _ _ s.requires.held).0, s.requires.few)
+    ((held_is _ _ s.requires.held).0, s.requires.few)
 
 stand-requires : tie.Need-stand-requires
 stand-requires c κs =
     let m = c.before.before.before.before.before.before.before.requires in
     let e = c.walk_from.ensures in
-    (step-index _ _ _ _ m e, step-low _ _ _ _ m e)
+    (step_index _ _ _ _ m e, step_low _ _ _ _ m e)
 
 returns : tie.Need-returns
 returns c = c.stand.ensures ∙ step_by _ _ _ _ _ refl c.before.walk_from.ensures
 
-pub step-from-spec : {M : Type 1} → statement M
-step-from-spec =
+pub step_from_spec : {M : Type 1} → statement M
+step_from_spec =
     tie.close
     (tie.spec
     mul-j

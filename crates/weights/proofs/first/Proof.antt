@@ -1,7 +1,7 @@
--- `first` meets its contract: the holder plus the number is `underFirst`. Test 12 has seen that the holder is an interval, and
+-- `first` meets its contract: the holder plus the number is `under_first`. Test 12 has seen that the holder is an interval, and
 -- starts at the image or below it.
-use Rattle.weights.proofs.Stretches.{first-is}
-use Rattle.tables.proofs.Passing.{held-is}
+use Rattle.weights.proofs.Stretches.{first_is}
+use Rattle.tables.proofs.Passing.{held_is}
 use borrow.Author.Rules.{rules}
 use Rattle.weights.proofs.first.Statement.{statement}
 use Rattle.weights.proofs.first.Tie as tie
@@ -17,13 +17,13 @@ shared-slice-read-h : tie.Need-shared-slice-read-h
 shared-slice-read-h c = search rules
 
 cast-h : tie.Need-overflow-cast-h
-cast-h c = let h = held-is _ _ (call c).requires.1 in search rules
+cast-h c = let h = held_is _ _ (call c).requires.1 in search rules
 
 mul-one-unless-equal : tie.Need-overflow-mul-one-unless-equal
-mul-one-unless-equal c = let h = held-is _ _ (call c).requires.1 in search rules
+mul-one-unless-equal c = let h = held_is _ _ (call c).requires.1 in search rules
 
 shared-slice-read-one-unless-equal : tie.Need-shared-slice-read-one-unless-equal
-shared-slice-read-one-unless-equal c = let h = held-is _ _ (call c.before).requires.1 in search rules
+shared-slice-read-one-unless-equal c = let h = held_is _ _ (call c.before).requires.1 in search rules
 
 mul-one-unless-equal-2 : tie.Need-overflow-mul-one-unless-equal-2
 mul-one-unless-equal-2 c = search rules
@@ -32,13 +32,13 @@ shared-slice-read-one-unless-equal-2 : tie.Need-shared-slice-read-one-unless-equ
 shared-slice-read-one-unless-equal-2 c = search rules
 
 one-unless-equal-requires : tie.Need-one-unless-equal-requires
-one-unless-equal-requires c κs = let h = held-is _ _ (call c.before.before).requires.1 in search rules
+one-unless-equal-requires c κs = let h = held_is _ _ (call c.before.before).requires.1 in search rules
 
 add-result : tie.Need-overflow-add-result
-add-result c = let h = held-is _ _ (call c.before.before.before).requires.1 in search rules
+add-result c = let h = held_is _ _ (call c.before.before.before).requires.1 in search rules
 
 returns : tie.Need-returns
-returns c = first-is _ _ _ c.one-unless-equal.ensures.0
+returns c = first_is _ _ _ c.one-unless-equal.ensures.0
 
 pub first_spec : {M : Type 1} → statement M
 first_spec =

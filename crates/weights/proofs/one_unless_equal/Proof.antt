@@ -7,14 +7,14 @@ use native.Mathlib.Omega.{arith}
 use lib.Dec.{eqb}
 use borrow.Author.Tests.{eq-eqb, ne_eqb}
 use borrow.Author.Rules.{rules}
-use Rattle.order.proofs.Laws.{lt-or-le}
+use Rattle.order.proofs.Laws.{lt_or_le}
 use Rattle.outcomes.specs.Outcome.{◌then◌else◌}
 use Rattle.weights.proofs.one_unless_equal.Statement.{statement}
 use Rattle.weights.proofs.one_unless_equal.Tie as tie
 
 -- a number that is 0 where two are equal, and 1 where the first is below the second
-one-unless : (a b r : ℕ) → a ≤ b → (a ≡ b → r ≡ 0) → (a < b → r ≡ 1) → r ≡ (eqb a b then 0 else 1)
-one-unless a b r h equal below = go (lt-or-le a b)
+one_unless : (a b r : ℕ) → a ≤ b → (a ≡ b → r ≡ 0) → (a < b → r ≡ 1) → r ≡ (eqb a b then 0 else 1)
+one_unless a b r h equal below = go (lt_or_le a b)
   where
     go : (a < b) ⊎ (b ≤ a) → r ≡ (eqb a b then 0 else 1)
     go (inl l) = simp (ne_eqb a b (λ e. absurd (omega arith))) (below l)
@@ -32,7 +32,7 @@ add-result c = search rules
 returns : tie.Need-returns
 returns c =
     let a = c.before.args in
-    (one-unless a.start a.image _ (omega arith) (λ e. omega arith) (λ l. omega arith), omega arith)
+    (one_unless a.start a.image _ (omega arith) (λ e. omega arith) (λ l. omega arith), omega arith)
 
-pub one-unless-equal-spec : {M : Type 1} → statement M
-one-unless-equal-spec = tie.close (tie.spec sub_wide wide-requires add-result returns)
+pub one_unless_equal_spec : {M : Type 1} → statement M
+one_unless_equal_spec = tie.close (tie.spec sub_wide wide-requires add-result returns)

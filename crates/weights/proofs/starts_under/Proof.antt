@@ -1,6 +1,6 @@
 -- `starts_under` meets its contract: the part has the entries that `under` names.
-use Rattle.weights.proofs.Stretches.{under-within, under-part, under-empty}
-use Rattle.weights.specs.Under.{stretchedSays}
+use Rattle.weights.proofs.Stretches.{under_within, under_part, under_empty}
+use Rattle.weights.specs.Under.{stretched_says}
 use native.Mathlib.Omega.{arith}
 use mathlib.Core.Path.{sym, ap, ◌∙◌}
 use borrow.Author.Rules.{rules}
@@ -34,14 +34,14 @@ cast-result c = search rules
 add-result : tie.Need-overflow-add-result
 add-result c =
     let f = c.before.before.before in
-    let e = ap stretchedSays (sym f.s.given.1) ∙ f.before.before.under.ensures in
-    omega (arith, under-within _ _ _ _ e)
+    let e = ap stretched_says (sym f.s.given.1) ∙ f.before.before.under.ensures in
+    omega (arith, under_within _ _ _ _ e)
 
 mul-result : tie.Need-overflow-mul-result
 mul-result c =
     let f = c.before.before.before in
-    let e = ap stretchedSays (sym f.s.given.1) ∙ f.before.before.under.ensures in
-    omega (arith, under-within _ _ _ _ e)
+    let e = ap stretched_says (sym f.s.given.1) ∙ f.before.before.under.ensures in
+    omega (arith, under_within _ _ _ _ e)
 
 sub-result-2 : tie.Need-overflow-sub-result-2
 sub-result-2 c = search rules
@@ -52,22 +52,22 @@ part-result-start-2 c = search rules
 part-result-end-2 : tie.Need-slice-bounds-result-end-2
 part-result-end-2 c =
     let f = c.before.before.before in
-    let e = ap stretchedSays (sym f.s.given.1) ∙ f.before.before.under.ensures in
-    under-within _ _ _ _ e
+    let e = ap stretched_says (sym f.s.given.1) ∙ f.before.before.under.ensures in
+    under_within _ _ _ _ e
 
 returns : tie.Need-returns
 returns c =
     let u = c.before.before.before in
-    under-empty _ _ _ _ _ (ap stretchedSays (sym c.before.enum_told.given.1) ∙ u.under.ensures)
+    under_empty _ _ _ _ _ (ap stretched_says (sym c.before.enum_told.given.1) ∙ u.under.ensures)
 
-returns-2 : tie.Need-returns-2
-returns-2 c =
+returns_2 : tie.Need-returns-2
+returns_2 c =
     let f = c.before.before.before.before in
-    let e = ap stretchedSays (sym f.s.given.1) ∙ f.before.before.under.ensures in
-    under-part _ _ _ _ e
+    let e = ap stretched_says (sym f.s.given.1) ∙ f.before.before.under.ensures in
+    under_part _ _ _ _ e
 
-pub starts-under-spec : {M : Type 1} → statement M
-starts-under-spec =
+pub starts_under_spec : {M : Type 1} → statement M
+starts_under_spec =
     tie.close
     (tie.spec
     under-requires
@@ -84,4 +84,4 @@ starts-under-spec =
     part-result-start-2
     part-result-end-2
     returns
-    returns-2)
+    returns_2)

@@ -1,6 +1,6 @@
 -- `under` meets its contract: the size that `weight` gives, and where the stretch begins, which fits as the table's size does.
-use Rattle.weights.proofs.Stretches.{weight-held, weight-entered, first_fits, under-done, under-unweighed}
-use Rattle.weights.specs.Under.{weighedSays}
+use Rattle.weights.proofs.Stretches.{weight_held, weight_entered, first_fits, under_done, under_unweighed}
+use Rattle.weights.specs.Under.{weighed_says}
 use native.Mathlib.Omega.{arith}
 use mathlib.Core.Path.{sym, ap, ◌∙◌}
 use borrow.Author.Rules.{rules}
@@ -18,27 +18,27 @@ enum-known-w c = search rules
 
 first-requires : tie.Need-first-requires
 first-requires c κs =
-    let e = ap weighedSays (sym c.before.w.given.1) ∙ c.before.before.before.weight.ensures in
-    (weight-entered _ _ _ _ e, weight-held _ _ _ _ e)
+    let e = ap weighed_says (sym c.before.w.given.1) ∙ c.before.before.before.weight.ensures in
+    (weight_entered _ _ _ _ e, weight_held _ _ _ _ e)
 
 cast-t12 : tie.Need-overflow-cast-t12
 cast-t12 c =
     let f = c.before.before in
-    let e = ap weighedSays (sym f.w.given.1) ∙ f.before.before.weight.ensures in
+    let e = ap weighed_says (sym f.w.given.1) ∙ f.before.before.weight.ensures in
     omega (arith, first_fits _ _ _ _ e _ c.first.ensures)
 
 returns : tie.Need-returns
 returns c =
     let w = c.before.before.before in
-    under-unweighed _ _ _ _ _ (ap weighedSays (sym c.before.r.given.1) ∙ w.weight.ensures)
+    under_unweighed _ _ _ _ _ (ap weighed_says (sym c.before.r.given.1) ∙ w.weight.ensures)
 
-returns-2 : tie.Need-returns-2
-returns-2 c =
+returns_2 : tie.Need-returns-2
+returns_2 c =
     let f = c.before.before in
-    let e = ap weighedSays (sym f.w.given.1) ∙ f.before.before.weight.ensures in
-    under-done _ _ _ _ e _ c.first.ensures
+    let e = ap weighed_says (sym f.w.given.1) ∙ f.before.before.weight.ensures in
+    under_done _ _ _ _ e _ c.first.ensures
 
 pub under_spec : {M : Type 1} → statement M
 under_spec =
     tie.close
-    (tie.spec weight-requires enum-known-r enum-known-w first-requires cast-t12 returns returns-2)
+    (tie.spec weight-requires enum-known-r enum-known-w first-requires cast-t12 returns returns_2)

@@ -5,7 +5,7 @@ use mathlib.Core.Path.{◌≡◌, ap, ◌∙◌}
 use native.Mathlib.Omega.{arith}
 use lib.ListN.{length, drop}
 use lib.Seq.{paste}
-use Rattle.balance.proofs.Copying.{Copying, copying-none, copying-length, copying-next}
+use Rattle.balance.proofs.Copying.{Copying, copying_none, copying_length, copying_next}
 use Rattle.balance.proofs.fill.copy_rest.Statement.{statement}
 use Rattle.balance.proofs.fill.copy_rest.Tie as tie
 
@@ -19,7 +19,7 @@ sub-count : tie.Need-overflow-sub-count invariant-loop decreases-loop
 sub-count c = search rules
 
 loop-holds : tie.Need-loop-init invariant-loop decreases-loop
-loop-holds c = copying-none _ _ _ _ c.requires.0 c.requires.1
+loop-holds c = copying_none _ _ _ _ c.requires.0 c.requires.1
 
 add-to : tie.Need-overflow-add-to invariant-loop decreases-loop
 add-to c = search rules
@@ -39,7 +39,7 @@ mul-to-2 c = search rules
 slice-write-to : tie.Need-slice-write-to invariant-loop decreases-loop
 slice-write-to c =
     let l = c.before.before.loop in
-    omega (arith, copying-length _ _ _ _ l.to l.i l.invariant, l.invariant)
+    omega (arith, copying_length _ _ _ _ l.to l.i l.invariant, l.invariant)
 
 add-i : tie.Need-overflow-add-i invariant-loop decreases-loop
 add-i c = search rules
@@ -48,10 +48,10 @@ loop-less : tie.Need-loop-smaller invariant-loop decreases-loop
 loop-less c = omega arith
 
 loop-again : tie.Need-loop-preserved invariant-loop decreases-loop
-loop-again c = copying-next _ _ _ _ _ _ c.before.before.loop.invariant (omega arith)
+loop-again c = copying_next _ _ _ _ _ _ c.before.before.loop.invariant (omega arith)
 
 same_length : tie.Need-same-length invariant-loop decreases-loop
-same_length c = copying-length _ _ _ _ _ _ c.before.loop.invariant
+same_length c = copying_length _ _ _ _ _ _ c.before.loop.invariant
 
 returns : tie.Need-returns invariant-loop decreases-loop
 returns c =
@@ -60,8 +60,8 @@ returns c =
     let e : l.loop.i ≡ length a.from.now - a.x = omega (arith, l.loop.invariant.within) in
     l.loop.invariant.is ∙ ap (λ (k : ℕ). paste a.to.now a.at (drop a.x a.from.now) k) e
 
-pub copy-rest-spec : {M : Type 1} → statement M
-copy-rest-spec =
+pub copy_rest_spec : {M : Type 1} → statement M
+copy_rest_spec =
     tie.close
     (tie.spec
     invariant-loop

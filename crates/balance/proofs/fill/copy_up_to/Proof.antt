@@ -7,8 +7,8 @@ use native.Mathlib.Omega.{arith}
 use lib.Dec.{leb}
 use lib.ListN.{length, drop}
 use Rattle.order.specs.Lists.{leading}
-use Rattle.order.proofs.Leading.{leading-more, leading-stop, leading_end}
-use Rattle.balance.proofs.Copying.{Copying, copying-none, copying-length, copying-next}
+use Rattle.order.proofs.Leading.{leading_more, leading_stop, leading_end}
+use Rattle.balance.proofs.Copying.{Copying, copying_none, copying_length, copying_next}
 use Rattle.balance.proofs.fill.copy_up_to.Statement.{statement}
 use Rattle.balance.proofs.fill.copy_up_to.Tie as tie
 
@@ -25,8 +25,8 @@ loop-holds c =
     let a = c.args in
     let p = c.requires in
     let z : a.x + 0 ≡ a.x = omega arith in (
-      copying-none _ _ _ _ p.1 p.2,
-      copying-none _ _ _ _ (omega (arith, p)) (omega (arith, p)),
+      copying_none _ _ _ _ p.1 p.2,
+      copying_none _ _ _ _ (omega (arith, p)) (omega (arith, p)),
       rw z (omega arith),
     )
 
@@ -60,7 +60,7 @@ mul-to-starts-2 c = search rules
 slice-write-to-starts : tie.Need-slice-write-to-starts invariant-loop decreases-loop
 slice-write-to-starts c =
     let l = c.before.before.before.before.loop in
-    omega (arith, copying-length _ _ _ _ l.to-starts l.i l.invariant.0, l.invariant.0)
+    omega (arith, copying_length _ _ _ _ l.to-starts l.i l.invariant.0, l.invariant.0)
 
 add-to-images : tie.Need-overflow-add-to-images invariant-loop decreases-loop
 add-to-images c = search rules
@@ -80,7 +80,7 @@ mul-to-images-2 c = search rules
 slice-write-to-images : tie.Need-slice-write-to-images invariant-loop decreases-loop
 slice-write-to-images c =
     let l = c.before.before.before.before.before.loop in
-    omega (arith, copying-length _ _ _ _ l.to-images l.i l.invariant.1, l.invariant.1)
+    omega (arith, copying_length _ _ _ _ l.to-images l.i l.invariant.1, l.invariant.1)
 
 add-i : tie.Need-overflow-add-i invariant-loop decreases-loop
 add-i c = search rules
@@ -93,20 +93,20 @@ loop-again c =
     let l = c.before.before.before.before.before in
     let a = l.before.args in
     let z : a.x + (l.loop.i + 1) ≡ suc (a.x + l.loop.i) = omega arith in (
-      copying-next _ _ _ _ _ _ l.loop.invariant.0 (omega arith),
-      copying-next _ _ _ _ _ _ l.loop.invariant.1 (omega (arith, l.before.requires.0)),
+      copying_next _ _ _ _ _ _ l.loop.invariant.0 (omega arith),
+      copying_next _ _ _ _ _ _ l.loop.invariant.1 (omega (arith, l.before.requires.0)),
       rw z (omega (
         arith,
         l.loop.invariant.2,
-        leading-more (λ e. leb e a.most) a.starts.now (a.x + l.loop.i) (omega arith) c.before.before.if1.true,
+        leading_more (λ e. leb e a.most) a.starts.now (a.x + l.loop.i) (omega arith) c.before.before.if1.true,
       )),
     )
 
 same_length : tie.Need-same-length invariant-loop decreases-loop
-same_length c = copying-length _ _ _ _ _ _ c.before.before.before.loop.invariant.0
+same_length c = copying_length _ _ _ _ _ _ c.before.before.before.loop.invariant.0
 
-same-length-2 : tie.Need-same-length-2 invariant-loop decreases-loop
-same-length-2 c = copying-length _ _ _ _ _ _ c.before.before.before.loop.invariant.1
+same_length_2 : tie.Need-same-length-2 invariant-loop decreases-loop
+same_length_2 c = copying_length _ _ _ _ _ _ c.before.before.before.loop.invariant.1
 
 returns : tie.Need-returns invariant-loop decreases-loop
 returns c =
@@ -115,20 +115,20 @@ returns c =
       omega (
         arith,
         l.loop.invariant.2,
-        leading-stop (λ e. leb e a.most) a.starts.now (a.x + l.loop.i) (omega arith) c.if1.false,
+        leading_stop (λ e. leb e a.most) a.starts.now (a.x + l.loop.i) (omega arith) c.if1.false,
       ),
       l.loop.invariant.0.is,
       l.loop.invariant.1.is,
     )
 
 same-length-3 : tie.Need-same-length-3 invariant-loop decreases-loop
-same-length-3 c = copying-length _ _ _ _ _ _ c.before.loop.invariant.0
+same-length-3 c = copying_length _ _ _ _ _ _ c.before.loop.invariant.0
 
 same-length-4 : tie.Need-same-length-4 invariant-loop decreases-loop
-same-length-4 c = copying-length _ _ _ _ _ _ c.before.loop.invariant.1
+same-length-4 c = copying_length _ _ _ _ _ _ c.before.loop.invariant.1
 
-returns-2 : tie.Need-returns-2 invariant-loop decreases-loop
-returns-2 c =
+returns_2 : tie.Need-returns-2 invariant-loop decreases-loop
+returns_2 c =
     let l = c.before in
     let a = l.before.args in (
       omega (
@@ -140,8 +140,8 @@ returns-2 c =
       l.loop.invariant.1.is,
     )
 
-pub copy-up-to-spec : {M : Type 1} → statement M
-copy-up-to-spec =
+pub copy_up_to_spec : {M : Type 1} → statement M
+copy_up_to_spec =
     tie.close
     (tie.spec
     invariant-loop
@@ -167,8 +167,8 @@ copy-up-to-spec =
     loop-less
     loop-again
     same_length
-    same-length-2
+    same_length_2
     returns
     same-length-3
     same-length-4
-    returns-2)
+    returns_2)

@@ -33,8 +33,8 @@ returns c =
     let r = runs a.starts.now a.images.now in
     sym (map_at a.n r (homes a.n r c.before.before.requires.0) a.x a.p h.known h.from h.to)
 
-pub image-of-spec : {M : Type 1} → statement M
-image-of-spec =
+pub image_of_spec : {M : Type 1} → statement M
+image_of_spec =
     tie.close
     (tie.spec
     mul-result

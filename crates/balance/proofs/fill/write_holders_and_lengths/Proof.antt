@@ -1,4 +1,4 @@
--- `write_holders_and_lengths` meets its contract: the lengths are written over what the search for holders left (`over-room`).
+-- `write_holders_and_lengths` meets its contract: the lengths are written over what the search for holders left (`over_room`).
 use borrow.Author.Rules.{rules}
 use Prim.Native.Nat.{ℕ}
 use mathlib.Core.Path.{◌≡◌, sym, ap, ◌∙◌}
@@ -9,15 +9,15 @@ use lib.Seq.{length-take-le, length_front, drop_at}
 use Rattle.outcomes.specs.Outcome.{over}
 use Rattle.runs.specs.Runs.{runs}
 use Rattle.runs.proofs.Legality.{homes}
-use Rattle.tables.specs.Tables.{lengthsOf}
-use Rattle.tables.proofs.Lengths.{lengths-long}
+use Rattle.tables.specs.Tables.{lengths_of}
+use Rattle.tables.proofs.Lengths.{lengths_long}
 use Rattle.balance.proofs.fill.write_holders_and_lengths.Statement.{statement}
 use Rattle.balance.proofs.fill.write_holders_and_lengths.Tie as tie
 
 -- what is written over k entries hides what they were
-over-room : (k : ℕ) (l room table : List ℕ) → length l ≡ k → length room ≡ k
+over_room : (k : ℕ) (l room table : List ℕ) → length l ≡ k → length room ≡ k
     → over l (room ++ drop k table) ≡ over l table
-over-room k l room table e f =
+over_room k l room table e f =
     ap (λ (r : List ℕ). l ++ r)
     (ap (λ (j : ℕ). drop j (room ++ drop k table)) e ∙ drop_at room (drop k table) k f
     ∙ ap (λ (j : ℕ). drop j table) (sym e))
@@ -62,8 +62,8 @@ write-lengths-requires c κs =
 same_length : tie.Need-same-length
 same_length c = search rules
 
-same-length-2 : tie.Need-same-length-2
-same-length-2 c = search rules
+same_length_2 : tie.Need-same-length-2
+same_length_2 c = search rules
 
 returns : tie.Need-returns
 returns c =
@@ -71,13 +71,13 @@ returns c =
     let h = held w.before in
     let a = start (lent h) in
     let s = a.args.starts.now in
-    let long = lengths-long a.args.n s in
+    let long = lengths_long a.args.n s in
     let e = h.write-holders.kept.1.1.1.1.0 ∙ taken (lent h) in
-    let same = over-room (length s) (lengthsOf a.args.n s) (left h) a.args.to-lengths.now long e in
+    let same = over_room (length s) (lengths_of a.args.n s) (left h) a.args.to-lengths.now long e in
     (h.write-holders.ensures, w.write-lengths.ensures ∙ same)
 
-pub write-holders-and-lengths-spec : {M : Type 1} → statement M
-write-holders-and-lengths-spec =
+pub write_holders_and_lengths_spec : {M : Type 1} → statement M
+write_holders_and_lengths_spec =
     tie.close
     (tie.spec
     slice-relend-prefix-room
@@ -85,5 +85,5 @@ write-holders-and-lengths-spec =
     write-holders-requires
     write-lengths-requires
     same_length
-    same-length-2
+    same_length_2
     returns)

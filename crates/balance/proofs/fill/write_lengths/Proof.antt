@@ -4,35 +4,35 @@ use mathlib.Core.Path.{◌≡◌, subst, ◌∙◌}
 use mathlib.Core.List.{List}
 use native.Mathlib.Omega.{arith}
 use lib.ListN.{length, get_or, set, get_or-eq_default}
-use Rattle.order.proofs.Laws.{entry-after, get_d_default}
-use Rattle.order.proofs.Filling.{Filling, filling-none, filling-length, filling-next, filling-all}
-use Rattle.tables.specs.Tables.{lengthsOf}
-use Rattle.tables.proofs.Lengths.{lengths-long, lengths-at}
+use Rattle.order.proofs.Laws.{entry_after, get_d_default}
+use Rattle.order.proofs.Filling.{Filling, filling_none, filling_length, filling_next, filling_all}
+use Rattle.tables.specs.Tables.{lengths_of}
+use Rattle.tables.proofs.Lengths.{lengths_long, lengths_at}
 use Rattle.balance.proofs.fill.write_lengths.Statement.{statement}
 use Rattle.balance.proofs.fill.write_lengths.Tie as tie
 
 abbrev invariant-loop : tie.invariant-loop
-invariant-loop n starts to₀ last x₀ to x = (x ≤ last) × Filling (lengthsOf n starts) to₀ to x
+invariant-loop n starts to₀ last x₀ to x = (x ≤ last) × Filling (lengths_of n starts) to₀ to x
 
 abbrev decreases-loop : tie.decreases-loop
 decreases-loop n starts to₀ last x₀ to x = last - x
 
 -- where an interval ends: at the next start, and the last one at n
-next-end : (n : ℕ) (l : List ℕ) (x : ℕ) → suc x < length l → get_or l (x + 1) 0 ≡ get_or l (suc x) n
-next-end n l x h = entry-after l x 0 ∙ get_d_default l (suc x) 0 n h
+next_end : (n : ℕ) (l : List ℕ) (x : ℕ) → suc x < length l → get_or l (x + 1) 0 ≡ get_or l (suc x) n
+next_end n l x h = entry_after l x 0 ∙ get_d_default l (suc x) 0 n h
 
 last_end : (n : ℕ) (l : List ℕ) → get_or l (suc (length l - 1)) n ≡ n
 last_end n l = get_or-eq_default l n (omega arith)
 
 -- as many lengths as starts
-long : (a : tie.Start invariant-loop decreases-loop) → length (lengthsOf a.args.n a.args.starts.now) ≡ length a.args.starts.now
-long a = lengths-long a.args.n a.args.starts.now
+long : (a : tie.Start invariant-loop decreases-loop) → length (lengths_of a.args.n a.args.starts.now) ≡ length a.args.starts.now
+long a = lengths_long a.args.n a.args.starts.now
 
 sub-last : tie.Need-overflow-sub-last invariant-loop decreases-loop
 sub-last c = omega (arith, c.requires.0)
 
 loop-holds : tie.Need-loop-init invariant-loop decreases-loop
-loop-holds c = (omega arith, filling-none _ _ (omega (arith, long c, c.requires.2)))
+loop-holds c = (omega arith, filling_none _ _ (omega (arith, long c, c.requires.2)))
 
 add-to : tie.Need-overflow-add-to invariant-loop decreases-loop
 add-to c = omega arith
@@ -54,7 +54,7 @@ sub-to c =
     let e = c.before.before.before in
     let a = e.before in
     let x = e.loop.x in
-    omega (arith, next-end a.args.n a.args.starts.now x (omega arith), a.requires.1 x (omega arith))
+    omega (arith, next_end a.args.n a.args.starts.now x (omega arith), a.requires.1 x (omega arith))
 
 mul-to-3 : tie.Need-overflow-mul-to-3 invariant-loop decreases-loop
 mul-to-3 c = omega arith
@@ -62,7 +62,7 @@ mul-to-3 c = omega arith
 slice-write-to : tie.Need-slice-write-to invariant-loop decreases-loop
 slice-write-to c =
     let e = c.before.before.before in
-    omega (arith, e.before.requires.2, filling-length _ _ _ _ e.loop.invariant.1)
+    omega (arith, e.before.requires.2, filling_length _ _ _ _ e.loop.invariant.1)
 
 add-x : tie.Need-overflow-add-x invariant-loop decreases-loop
 add-x c = omega arith
@@ -76,9 +76,9 @@ loop-again c =
     let a = e.before in
     let s = a.args.starts.now in
     let x = e.loop.x in
-    let y = next-end a.args.n s x (omega arith) in
-    let z = lengths-at a.args.n s x (omega arith) in
-    (omega arith, filling-next _ _ _ _ e.loop.invariant.1 (omega (arith, long a)) _ (omega arith))
+    let y = next_end a.args.n s x (omega arith) in
+    let z = lengths_at a.args.n s x (omega arith) in
+    (omega arith, filling_next _ _ _ _ e.loop.invariant.1 (omega (arith, long a)) _ (omega arith))
 
 mul-to-4 : tie.Need-overflow-mul-to-4 invariant-loop decreases-loop
 mul-to-4 c = omega arith
@@ -99,13 +99,13 @@ slice-write-to-2 : tie.Need-slice-write-to-2 invariant-loop decreases-loop
 slice-write-to-2 c =
     let e = c.before.before in
     let a = e.before in
-    omega (arith, a.requires.0, a.requires.2, filling-length _ _ _ _ e.loop.invariant.1)
+    omega (arith, a.requires.0, a.requires.2, filling_length _ _ _ _ e.loop.invariant.1)
 
 -- with the last one all are written
 all : (c : tie.After-shared-slice-known3 invariant-loop decreases-loop) → let e = c.before.before in
     let a = e.before.args in
     let last = length a.starts.now - 1 in
-    Filling (lengthsOf a.n a.starts.now) a.to.now (set e.loop.to last (a.n - get_or a.starts.now last 0)) (last + 1)
+    Filling (lengths_of a.n a.starts.now) a.to.now (set e.loop.to last (a.n - get_or a.starts.now last 0)) (last + 1)
 all c =
     let e = c.before.before in
     let a = e.before in
@@ -113,18 +113,18 @@ all c =
     let last = length s - 1 in
     let q : e.loop.x ≡ last = omega (arith, e.loop.invariant.0) in
     let y = last_end a.args.n s in
-    let z = lengths-at a.args.n s last (omega (arith, a.requires.0)) in
-    filling-next _ _ _ _ (subst (Filling (lengthsOf a.args.n s) a.args.to.now e.loop.to) q e.loop.invariant.1)
+    let z = lengths_at a.args.n s last (omega (arith, a.requires.0)) in
+    filling_next _ _ _ _ (subst (Filling (lengths_of a.args.n s) a.args.to.now e.loop.to) q e.loop.invariant.1)
     (omega (arith, long a, a.requires.0)) _ (omega arith)
 
 same_length : tie.Need-same-length invariant-loop decreases-loop
-same_length c = filling-length _ _ _ _ (all c)
+same_length c = filling_length _ _ _ _ (all c)
 
 returns : tie.Need-returns invariant-loop decreases-loop
-returns c = filling-all _ _ _ _ (all c) (omega (arith, long c.before.before.before))
+returns c = filling_all _ _ _ _ (all c) (omega (arith, long c.before.before.before))
 
-pub write-lengths-spec : {M : Type 1} → statement M
-write-lengths-spec =
+pub write_lengths_spec : {M : Type 1} → statement M
+write_lengths_spec =
     tie.close
     (tie.spec
     invariant-loop

@@ -5,9 +5,9 @@ use mathlib.Core.Path.{◌≡◌, ◌∙◌}
 use native.Mathlib.Omega.{arith}
 use lib.ListN.{length, get_or}
 use Rattle.runs.specs.Runs.{Runs, runs}
-use Rattle.merging.proofs.Merged.{merged-length}
+use Rattle.merging.proofs.Merged.{merged_length}
 use Rattle.balance.specs.Parts.{Has}
-use Rattle.balance.proofs.Writing.{Writing, writing_start, writing-within, writing-kept, writing-up-to, has-cut, writing-cut, writing-end}
+use Rattle.balance.proofs.Writing.{Writing, writing_start, writing_within, writing_kept, writing_up_to, has_cut, writing_cut, writing_end}
 use Rattle.balance.proofs.fill.write_list.Statement.{statement}
 use Rattle.balance.proofs.fill.write_list.Tie as tie
 
@@ -35,12 +35,12 @@ begun c = start (turn c)
 -- at a turn: what is written is within the list, and the tables are as long as they were
 within : (c : tie.At-loop invariant-loop decreases-loop)
     → (c.loop.x ≤ length (start c).args.starts.now) × (c.loop.c ≤ length (start c).args.cuts.now)
-within c = let a = start c in writing-within _ (list_of a) _ _ _ a.pre.0 a.pre.1 _ _ _ _ c.loop.invariant
+within c = let a = start c in writing_within _ (list_of a) _ _ _ a.pre.0 a.pre.1 _ _ _ _ c.loop.invariant
 
 kept : (c : tie.At-loop invariant-loop decreases-loop)
     → (length c.loop.to-starts ≡ length (start c).args.to-starts.now)
     × (length c.loop.to-images ≡ length (start c).args.to-images.now)
-kept c = let a = start c in writing-kept _ (list_of a) _ _ _ a.pre.0 a.pre.1 _ _ _ _ c.loop.invariant
+kept c = let a = start c in writing_kept _ (list_of a) _ _ _ a.pre.0 a.pre.1 _ _ _ _ c.loop.invariant
 
 -- after the runs up to a cut are copied: how many are, and what stands then
 abbrev passed : tie.After-copy-up-to invariant-loop decreases-loop → ℕ
@@ -53,7 +53,7 @@ copied : (c : tie.After-copy-up-to invariant-loop decreases-loop) → let a = (b
 copied c =
     let a = begun c in
     let e = c.copy-up-to.ensures in
-    writing-up-to _ (list_of a) _ _ _ a.pre.0 a.pre.1 _ _ _ _ (turn c).loop.invariant
+    writing_up_to _ (list_of a) _ _ _ a.pre.0 a.pre.1 _ _ _ _ (turn c).loop.invariant
     c.before.before.before.before.loop-test.true _ e.0 _ _ e.1 e.2
 
 -- the cut has its place in the tables
@@ -64,8 +64,8 @@ room : (c : tie.After-copy-up-to invariant-loop decreases-loop) → let a = (beg
 room c =
     let a = begun c in
     let w = (copied c).1 in
-    let b = writing-within _ (list_of a) _ _ _ a.pre.0 a.pre.1 _ _ _ _ w in
-    let k = writing-kept _ (list_of a) _ _ _ a.pre.0 a.pre.1 _ _ _ _ w in
+    let b = writing_within _ (list_of a) _ _ _ a.pre.0 a.pre.1 _ _ _ _ w in
+    let k = writing_kept _ (list_of a) _ _ _ a.pre.0 a.pre.1 _ _ _ _ w in
     (omega (arith, b, c.before.before.before.before.loop-test.true), k.0, k.1)
 
 -- the run that has it
@@ -73,13 +73,13 @@ had : (c : tie.After-copy-up-to invariant-loop decreases-loop) → let a = (begu
     (0 < passed c) × Has a.n a.starts.now (passed c - 1) (get_or a.cuts.now (turn c).loop.c 0)
 had c =
     let a = begun c in
-    has-cut _ (list_of a) _ _ _ a.pre.0 a.pre.1 _ _ _ _ (copied c).1
+    has_cut _ (list_of a) _ _ _ a.pre.0 a.pre.1 _ _ _ _ (copied c).1
     c.before.before.before.before.loop-test.true (copied c).0
 
 loop-holds : tie.Need-loop-init invariant-loop decreases-loop
 loop-holds c =
     let a = c.before.before.before.before.before in
-    let e = merged-length a.args.starts.now a.args.cuts.now in
+    let e = merged_length a.args.starts.now a.args.cuts.now in
     writing_start _ (list_of a) _ _ _ a.requires.0 a.requires.1 (omega (arith, a.requires.2)) (omega (arith, a.requires.3))
 
 mul-cut : tie.Need-overflow-mul-cut invariant-loop decreases-loop
@@ -154,7 +154,7 @@ loop-again : tie.Need-loop-preserved invariant-loop decreases-loop
 loop-again c =
     let w = c.before.before.before.before.before in
     let a = begun w in
-    writing-cut _ (list_of a) _ _ _ a.pre.0 a.pre.1 _ _ _ _ (copied w).1
+    writing_cut _ (list_of a) _ _ _ a.pre.0 a.pre.1 _ _ _ _ (copied w).1
     w.before.before.before.before.loop-test.true (copied w).0 _ c.image-of.ensures
 
 add-copy-rest : tie.Need-overflow-add-copy-rest invariant-loop decreases-loop
@@ -182,20 +182,20 @@ same_length : tie.Need-same-length invariant-loop decreases-loop
 same_length c = c.before.before.before.before.before.before.copy_rest.auto.1.1.0
     ∙ (kept c.before.before.before.before.before.before.before.before.before).0
 
-same-length-2 : tie.Need-same-length-2 invariant-loop decreases-loop
-same-length-2 c = c.before.before.copy-rest2.auto.1.1.0
+same_length_2 : tie.Need-same-length-2 invariant-loop decreases-loop
+same_length_2 c = c.before.before.copy-rest2.auto.1.1.0
     ∙ (kept c.before.before.before.before.before.before.before.before.before).1
 
 returns : tie.Need-returns invariant-loop decreases-loop
 returns c =
     let l = c.before.before.before.before.before.before.before.before.before in
     let a = start l in
-    writing-end _ (list_of a) _ _ _ a.pre.0 a.pre.1 _ _ _ _ l.loop.invariant
+    writing_end _ (list_of a) _ _ _ a.pre.0 a.pre.1 _ _ _ _ l.loop.invariant
     (omega (arith, c.before.before.before.before.before.before.before.before.loop-test.false)) _ _
     c.before.before.before.before.before.before.copy_rest.ensures c.before.before.copy-rest2.ensures
 
-pub write-list-spec : {M : Type 1} → statement M
-write-list-spec =
+pub write_list_spec : {M : Type 1} → statement M
+write_list_spec =
     tie.close
     (tie.spec
     invariant-loop
@@ -222,5 +222,5 @@ write-list-spec =
     add-copy-rest-2
     copy-rest-requires-2
     same_length
-    same-length-2
+    same_length_2
     returns)

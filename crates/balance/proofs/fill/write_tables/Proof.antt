@@ -8,8 +8,8 @@ use lib.ListN.{length, take}
 use lib.Seq.{length-take-le}
 use Rattle.runs.specs.Legal.{Legal}
 use Rattle.runs.specs.Runs.{Runs, runs}
-use Rattle.cuts.proofs.Cutlist.{with-legal}
-use Rattle.balance.proofs.Writing.{list-taken, tables-written}
+use Rattle.cuts.proofs.Cutlist.{with_legal}
+use Rattle.balance.proofs.Writing.{list_taken, tables_written}
 use Rattle.balance.proofs.fill.write_tables.Statement.{statement}
 use Rattle.balance.proofs.fill.write_tables.Tie as tie
 
@@ -39,19 +39,19 @@ starts-of c = take (size_of (start c)) c.write-list.new.1.1.1.1.0
 abbrev images-of : tie.After-write-list → List ℕ
 images-of c = take (size_of (start c)) c.write-list.new.1.1.1.1.1.0
 
-starts-taken : (c : tie.After-write-list) → length (starts-of c) ≡ size_of (start c)
-starts-taken c = length-take-le (size_of (start c)) c.write-list.new.1.1.1.1.0
+starts_taken : (c : tie.After-write-list) → length (starts-of c) ≡ size_of (start c)
+starts_taken c = length-take-le (size_of (start c)) c.write-list.new.1.1.1.1.0
     (omega (arith, (start c).requires.2.0, c.write-list.auto.1.1.1.1.0))
 
-images-taken : (c : tie.After-write-list) → length (images-of c) ≡ size_of (start c)
-images-taken c = length-take-le (size_of (start c)) c.write-list.new.1.1.1.1.1.0
+images_taken : (c : tie.After-write-list) → length (images-of c) ≡ size_of (start c)
+images_taken c = length-take-le (size_of (start c)) c.write-list.new.1.1.1.1.1.0
     (omega (arith, (start c).requires.2.1.0, c.write-list.auto.1.1.1.1.1.0))
 
 -- it is legal
 legal : (c : tie.After-write-list) → Legal (start c).args.n (runs (starts-of c) (images-of c))
 legal c = let a = start c in
-    subst (Legal a.args.n) (sym (list-taken _ (list_of a) _ _ _ _ _ c.write-list.ensures (size_of a) refl))
-    (with-legal _ (list_of a) _ a.pre.0 a.pre.1)
+    subst (Legal a.args.n) (sym (list_taken _ (list_of a) _ _ _ _ _ c.write-list.ensures (size_of a) refl))
+    (with_legal _ (list_of a) _ a.pre.0 a.pre.1)
 
 write-list-requires : tie.Need-write-list-requires
 write-list-requires c κs = search rules
@@ -63,24 +63,24 @@ slice-reshare-prefix-write-holders-and-lengths : tie.Need-slice-reshare-prefix-w
 slice-reshare-prefix-write-holders-and-lengths c = search rules
 
 slice-aggregate-write-holders-and-lengths : tie.Need-slice-aggregate-write-holders-and-lengths
-slice-aggregate-write-holders-and-lengths c = sym (starts-taken (listed c.before))
+slice-aggregate-write-holders-and-lengths c = sym (starts_taken (listed c.before))
 
 slice-reshare-prefix-write-holders-and-lengths-2 : tie.Need-slice-reshare-prefix-write-holders-and-lengths-2
 slice-reshare-prefix-write-holders-and-lengths-2 c = search rules
 
 slice-aggregate-write-holders-and-lengths-2 : tie.Need-slice-aggregate-write-holders-and-lengths-2
-slice-aggregate-write-holders-and-lengths-2 c = sym (images-taken (listed c.before.before))
+slice-aggregate-write-holders-and-lengths-2 c = sym (images_taken (listed c.before.before))
 
 write-holders-and-lengths-requires : tie.Need-write-holders-and-lengths-requires
 write-holders-and-lengths-requires c κs =
     let w = listed c.before.before.before.before in
-    (legal w, omega (arith, starts-taken w, (start w).pre.2.1.1.0), omega (arith, starts-taken w, (start w).pre.2.1.1.1.0))
+    (legal w, omega (arith, starts_taken w, (start w).pre.2.1.1.0), omega (arith, starts_taken w, (start w).pre.2.1.1.1.0))
 
 same_length : tie.Need-same-length
 same_length c = search rules
 
-same-length-2 : tie.Need-same-length-2
-same-length-2 c = search rules
+same_length_2 : tie.Need-same-length-2
+same_length_2 c = search rules
 
 same-length-3 : tie.Need-same-length-3
 same-length-3 c = search rules
@@ -93,10 +93,10 @@ returns c =
     let h = held c in
     let w = listed_of h in
     let e = h.write-holders-and-lengths.ensures in
-    tables-written _ (list_of (start w)) _ _ _ _ _ w.write-list.ensures _ _ _ _ _ refl e.0 e.1
+    tables_written _ (list_of (start w)) _ _ _ _ _ w.write-list.ensures _ _ _ _ _ refl e.0 e.1
 
-pub write-tables-spec : {M : Type 1} → statement M
-write-tables-spec =
+pub write_tables_spec : {M : Type 1} → statement M
+write_tables_spec =
     tie.close
     (tie.spec
     write-list-requires
@@ -107,7 +107,7 @@ write-tables-spec =
     slice-aggregate-write-holders-and-lengths-2
     write-holders-and-lengths-requires
     same_length
-    same-length-2
+    same_length_2
     same-length-3
     same-length-4
     returns)

@@ -2,7 +2,7 @@
 use borrow.Author.Rules.{rules}
 use mathlib.Core.Path.{refl}
 use native.Mathlib.Omega.{arith}
-use Rattle.order.proofs.Laws.{bit-lt, bit-ge}
+use Rattle.order.proofs.Laws.{bit_lt, bit_ge}
 use Rattle.cuts.proofs.fronts.count_cut.Statement.{statement}
 use Rattle.cuts.proofs.fronts.count_cut.Tie as tie
 
@@ -10,24 +10,24 @@ returns : tie.Need-returns
 returns c =
     let a = c.before.before.args in
     record {
-      q-kept = refl;
-      rank-kept = refl;
-      starts-kept = refl;
-      counted = omega (arith, bit-ge a.u a.front.q c.if1.true);
+      q_kept = refl;
+      rank_kept = refl;
+      starts_kept = refl;
+      counted = omega (arith, bit_ge a.u a.front.q c.if1.true);
     }
 
 add-t6 : tie.Need-overflow-add-t6
 add-t6 c = search rules
 
-returns-2 : tie.Need-returns-2
-returns-2 c =
+returns_2 : tie.Need-returns-2
+returns_2 c =
     let a = c.before.before.before.before.args in
     record {
-      q-kept = refl;
-      rank-kept = refl;
-      starts-kept = refl;
-      counted = omega (arith, bit-lt a.u a.front.q (omega arith));
+      q_kept = refl;
+      rank_kept = refl;
+      starts_kept = refl;
+      counted = omega (arith, bit_lt a.u a.front.q (omega arith));
     }
 
-pub count-cut-spec : {M : Type 1} → statement M
-count-cut-spec = tie.close (tie.spec returns add-t6 returns-2)
+pub count_cut_spec : {M : Type 1} → statement M
+count_cut_spec = tie.close (tie.spec returns add-t6 returns_2)

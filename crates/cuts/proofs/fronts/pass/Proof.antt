@@ -13,8 +13,8 @@ returns c = record {
   on = λ l z. absurd (omega (arith, c.if1.true));
 }
 
-returns-2 : tie.Need-returns-2
-returns-2 c = record {
+returns_2 : tie.Need-returns-2
+returns_2 c = record {
   behind = λ l. absurd (omega (arith, c.before.before.if1.false));
   cut = λ l z. refl;
   on = λ l z. absurd (false≢true (sym z ∙ c.if2.true));
@@ -31,4 +31,4 @@ returns-3 c = record {
 }
 
 pub pass_spec : {M : Type 1} → statement M
-pass_spec = tie.close (tie.spec returns returns-2 add-t6 returns-3)
+pass_spec = tie.close (tie.spec returns returns_2 add-t6 returns-3)

@@ -5,7 +5,7 @@ use native.Mathlib.Omega.{arith}
 use Rattle.runs.specs.Runs.{Runs, runs}
 use Rattle.cuts.specs.Parts.{PassesLight}
 use Rattle.cuts.proofs.Ahead.{AtRank}
-use Rattle.cuts.proofs.Light.{light-none, light-rank, light-further, light-lookable, light-on}
+use Rattle.cuts.proofs.Light.{light_none, light_rank, light_further, light_lookable, light_on}
 use Rattle.cuts.proofs.fronts.pass_light.Statement.{statement}
 use Rattle.cuts.proofs.fronts.pass_light.Tie as tie
 
@@ -27,13 +27,13 @@ list_of a = runs a.args.starts.now a.args.images.now
 
 loop-holds : tie.Need-loop-init invariant-loop decreases-loop
 loop-holds c = let a = c.before.before.before.before.before in
-    light-none _ _ (list_of a) _ _ _ a.requires.0 a.requires.1 _ a.requires.2 a.requires.3 a.requires.4
+    light_none _ _ (list_of a) _ _ _ a.requires.0 a.requires.1 _ a.requires.2 a.requires.3 a.requires.4
 
 -- the front's rank has a run
 ranked : (c : tie.Then1 invariant-loop decreases-loop) → let l = c.before.before in let a = (start l).args in
     AtRank a.n (list_of (start l)) a.order.now a.ranked.now l.loop.at.rank
 ranked c = let l = c.before.before in let a = start l in
-    light-rank _ _ (list_of a) _ _ _ a.pre.0 a.pre.1 _ _ l.loop.invariant c.if1.true
+    light_rank _ _ (list_of a) _ _ _ a.pre.0 a.pre.1 _ _ l.loop.invariant c.if1.true
 
 add-entry-or : tie.Need-overflow-add-entry-or invariant-loop decreases-loop
 add-entry-or c = let t = c.before in let r = ranked t in
@@ -44,7 +44,7 @@ entry-or-requires c κs = search rules
 
 look-requires : tie.Need-look-requires invariant-loop decreases-loop
 look-requires c κs = let l = turn c in let a = start l in
-    light-lookable _ _ (list_of a) _ _ _ a.pre.0 a.pre.1 _ _ l.loop.inv c.before.before.if1.true _
+    light_lookable _ _ (list_of a) _ _ _ a.pre.0 a.pre.1 _ _ l.loop.inv c.before.before.if1.true _
     c.entry-or.ensures a.pre.5 a.pre.6
 
 returns : tie.Need-returns invariant-loop decreases-loop
@@ -66,7 +66,7 @@ loop-less c =
     let t = e.before.before in
     omega (
       arith,
-      light-further _ _ (list_of a) _ _ _ a.pre.0 a.pre.1 _ _ l.loop.inv t.before.before.if1.true _
+      light_further _ _ (list_of a) _ _ _ a.pre.0 a.pre.1 _ _ l.loop.inv t.before.before.if1.true _
           t.entry-or.ensures,
       (e.before.look.ensures.light e.if2.false).1,
       t.before.before.if1.true,
@@ -78,14 +78,14 @@ loop-again c =
     let l = passing e in
     let a = start l in
     let t = e.before.before in
-    light-on _ _ (list_of a) _ _ _ a.pre.0 a.pre.1 _ _ l.loop.inv t.before.before.if1.true _
+    light_on _ _ (list_of a) _ _ _ a.pre.0 a.pre.1 _ _ l.loop.inv t.before.before.if1.true _
     t.entry-or.ensures _ e.before.look.ensures e.if2.false
 
-returns-2 : tie.Need-returns-2 invariant-loop decreases-loop
-returns-2 c = c.before.before.loop.invariant
+returns_2 : tie.Need-returns-2 invariant-loop decreases-loop
+returns_2 c = c.before.before.loop.invariant
 
-pub pass-light-spec : {M : Type 1} → statement M
-pass-light-spec =
+pub pass_light_spec : {M : Type 1} → statement M
+pass_light_spec =
     tie.close
     (tie.spec
     invariant-loop
@@ -98,4 +98,4 @@ pass-light-spec =
     add-t14
     loop-less
     loop-again
-    returns-2)
+    returns_2)

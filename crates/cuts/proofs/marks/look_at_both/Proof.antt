@@ -4,8 +4,8 @@ use Prim.Native.Nat.{◌<◌}
 use native.Mathlib.Omega.{arith}
 use lib.ListN.{length}
 use Rattle.merging.specs.Merged.{merged}
-use Rattle.merging.proofs.Merged.{merged-length}
-use Rattle.cuts.proofs.Looking.{look-light, look-heavy}
+use Rattle.merging.proofs.Merged.{merged_length}
+use Rattle.cuts.proofs.Looking.{look_light, look_heavy}
 use Rattle.cuts.proofs.marks.look_at_both.Statement.{statement}
 use Rattle.cuts.proofs.marks.look_at_both.Tie as tie
 
@@ -21,7 +21,7 @@ skip-requires-2 c κs = search rules
 
 -- the starts and the cuts are no more than a slice may have
 few : (a : tie.Start) → length (merged a.args.starts.now a.args.cuts.now) < 9223372036854775808
-few a = omega (arith, merged-length a.args.starts.now a.args.cuts.now, a.well-formed)
+few a = omega (arith, merged_length a.args.starts.now a.args.cuts.now, a.well-formed)
 
 add-if1 : tie.Need-overflow-add-if1
 add-if1 c = omega (arith, few (start c.before), c.before.skip2.ensures.at.within)
@@ -39,20 +39,20 @@ returns : tie.Need-returns
 returns c =
     let k = c.before.before.before in
     let a = start k in
-    look-light _ _ _ _ _ a.pre.known _ _ _ a.pre.some k.before.skip.ensures k.skip2.ensures c.if1.true
+    look_light _ _ _ _ _ a.pre.known _ _ _ a.pre.some k.before.skip.ensures k.skip2.ensures c.if1.true
 
 entry-at-requires : tie.Need-entry-at-requires
 entry-at-requires c κs = search rules
 
-returns-2 : tie.Need-returns-2
-returns-2 c =
+returns_2 : tie.Need-returns-2
+returns_2 c =
     let k = c.before.before.before.before in
     let a = start k in
-    look-heavy _ _ _ _ _ a.pre.known _ _ _ a.pre.some k.before.skip.ensures k.skip2.ensures
+    look_heavy _ _ _ _ _ a.pre.known _ _ _ a.pre.some k.before.skip.ensures k.skip2.ensures
     c.before.if1.false _ c.entry_at.ensures
 
-pub look-at-both-spec : {M : Type 1} → statement M
-look-at-both-spec =
+pub look_at_both_spec : {M : Type 1} → statement M
+look_at_both_spec =
     tie.close
     (tie.spec
     skip-requires
@@ -63,4 +63,4 @@ look-at-both-spec =
     add-if1-3
     returns
     entry-at-requires
-    returns-2)
+    returns_2)

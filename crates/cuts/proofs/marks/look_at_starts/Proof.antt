@@ -3,8 +3,8 @@ use borrow.Author.Rules.{rules}
 use Prim.Native.Nat.{◌+◌, ◌<◌}
 use native.Mathlib.Omega.{arith}
 use lib.ListN.{length}
-use Rattle.order.proofs.Laws.{strict-sorted, count-le-length}
-use Rattle.cuts.proofs.Looking.{starts-ahead, starts-light, starts-within, starts-heavy}
+use Rattle.order.proofs.Laws.{strict_sorted, count_le_length}
+use Rattle.cuts.proofs.Looking.{starts_ahead, starts_light, starts_within, starts_heavy}
 use Rattle.cuts.proofs.marks.look_at_starts.Statement.{statement}
 use Rattle.cuts.proofs.marks.look_at_starts.Tie as tie
 
@@ -18,8 +18,8 @@ mul-starts-below c = search rules
 starts-below-requires : tie.Need-starts-below-requires
 starts-below-requires c κs =
     let a = c.before.before in (
-      strict-sorted a.args.starts.now a.requires.0.known.starts-rise,
-      starts-ahead _ _ _ _ _ _ a.requires.0 a.requires.1,
+      strict_sorted a.args.starts.now a.requires.0.known.starts_rise,
+      starts_ahead _ _ _ _ _ _ a.requires.0 a.requires.1,
       a.requires.0.within,
     )
 
@@ -29,18 +29,18 @@ mul-if1 c = search rules
 add-t13 : tie.Need-overflow-add-t13
 add-t13 c =
     let a = (start c.before).args in
-    omega (arith, c.before.starts-below.ensures.below, count-le-length a.to a.starts.now)
+    omega (arith, c.before.starts-below.ensures.below, count_le_length a.to a.starts.now)
 
 returns : tie.Need-returns
 returns c =
     let a = start c.before in
-    starts-light _ _ _ _ _ _ a.pre.0 a.pre.1 _ c.before.starts-below.ensures c.if1.true
+    starts_light _ _ _ _ _ _ a.pre.0 a.pre.1 _ c.before.starts-below.ensures c.if1.true
 
 -- the start after d is there
 within : (c : tie.Else1) → let a = (start c.before).args in a.mark.starts + a.d < length a.starts.now
 within c =
     let a = start c.before in
-    starts-within _ _ _ _ _ _ a.pre.0 a.pre.1 _ c.before.starts-below.ensures c.if1.false
+    starts_within _ _ _ _ _ _ a.pre.0 a.pre.1 _ c.before.starts-below.ensures c.if1.false
 
 add-t11 : tie.Need-overflow-add-t11
 add-t11 c = omega (arith, within c)
@@ -54,14 +54,14 @@ mul-t14 c = omega (arith, within c)
 shared-slice-read-t16 : tie.Need-shared-slice-read-t16
 shared-slice-read-t16 c = within c.before
 
-returns-2 : tie.Need-returns-2
-returns-2 c =
+returns_2 : tie.Need-returns-2
+returns_2 c =
     let k = c.before.before in
     let a = start k in
-    starts-heavy _ _ _ _ _ _ a.pre.0 a.pre.1 _ k.starts-below.ensures c.before.if1.false
+    starts_heavy _ _ _ _ _ _ a.pre.0 a.pre.1 _ k.starts-below.ensures c.before.if1.false
 
-pub look-at-starts-spec : {M : Type 1} → statement M
-look-at-starts-spec =
+pub look_at_starts_spec : {M : Type 1} → statement M
+look_at_starts_spec =
     tie.close
     (tie.spec
     mul-starts-below
@@ -73,4 +73,4 @@ look-at-starts-spec =
     add-t11-2
     mul-t14
     shared-slice-read-t16
-    returns-2)
+    returns_2)

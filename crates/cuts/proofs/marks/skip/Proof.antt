@@ -3,17 +3,17 @@ use Prim.Native.Nat.{◌+◌, ◌-◌, ◌≤◌, ◌<◌}
 use mathlib.Core.Path.{◌≡◌}
 use native.Mathlib.Omega.{arith}
 use lib.ListN.{length}
-use Rattle.order.specs.Lists.{countBelow}
+use Rattle.order.specs.Lists.{count_below}
 use Rattle.merging.specs.Merged.{merged}
 use Rattle.merging.specs.Marks.{At}
-use Rattle.merging.proofs.Merged.{at_sum, at_own, at-stop, at-go}
+use Rattle.merging.proofs.Merged.{at_sum, at_own, at_stop, at_go}
 use Rattle.cuts.proofs.marks.skip.Statement.{statement}
 use Rattle.cuts.proofs.marks.skip.Tie as tie
 
 abbrev invariant-loop : tie.invariant-loop
 invariant-loop n starts cuts count to at₀ i₀ at i = (i ≤ count) × At n starts cuts at (at.starts + at.cuts)
     × (at.starts + at.cuts ≡ at₀.starts + at₀.cuts + i)
-    × (at.starts + at.cuts ≤ countBelow to (merged starts cuts))
+    × (at.starts + at.cuts ≤ count_below to (merged starts cuts))
 
 abbrev decreases-loop : tie.decreases-loop
 decreases-loop n starts cuts count to at₀ i₀ at i = count - i
@@ -36,20 +36,20 @@ returns c =
     let k = c.before.before in
     let l = (turn k).loop in
     let a = start (turn k) in
-    let h = at-stop _ _ _ a.pre.0 _ _ l.inv.1 a.args.to
-    (omega (arith, c.if1.true, k.step.ensures.entry-is)) in
+    let h = at_stop _ _ _ a.pre.0 _ _ l.inv.1 a.args.to
+    (omega (arith, c.if1.true, k.step.ensures.entry_is)) in
     record { at = l.inv.1; below = l.inv.3; far = omega (arith, l.inv); stopped = λ z. omega (arith, l.inv) }
 
 -- the next entry is one more that is below `to`
 more : (c : tie.Else1 invariant-loop decreases-loop) → let l = turn c.before.before in let a = (start l).args in
     let m = merged a.starts.now a.cuts.now in let at = l.loop.at in
-    (at.starts + at.cuts < length m) × (at.starts + at.cuts < countBelow a.to m)
+    (at.starts + at.cuts < length m) × (at.starts + at.cuts < count_below a.to m)
 more c =
     let k = c.before.before in
     let l = turn k in
     let a = start l in
-    at-go _ _ _ a.pre.0 _ _ l.loop.inv.1 a.args.to a.pre.3
-    (omega (arith, c.if1.false, k.step.ensures.entry-is))
+    at_go _ _ _ a.pre.0 _ _ l.loop.inv.1 a.args.to a.pre.3
+    (omega (arith, c.if1.false, k.step.ensures.entry_is))
 
 add-i : tie.Need-overflow-add-i invariant-loop decreases-loop
 add-i c = omega arith
@@ -67,8 +67,8 @@ loop-again c =
     let s = at_sum _ _ _ a.pre.0 _ _ b in
     (omega arith, at_own _ _ _ a.pre.0 _ _ b, omega (arith, l.loop.inv.2), omega (arith, (more e).1))
 
-returns-2 : tie.Need-returns-2 invariant-loop decreases-loop
-returns-2 c = let l = c.before.loop in
+returns_2 : tie.Need-returns-2 invariant-loop decreases-loop
+returns_2 c = let l = c.before.loop in
     record {
       at = l.invariant.1;
       below = l.invariant.3;
@@ -76,8 +76,8 @@ returns-2 c = let l = c.before.loop in
       stopped = λ z. absurd (omega (arith, l.invariant));
     }
 
-pub skip-spec : {M : Type 1} → statement M
-skip-spec =
+pub skip_spec : {M : Type 1} → statement M
+skip_spec =
     tie.close
     (tie.spec
     invariant-loop
@@ -88,4 +88,4 @@ skip-spec =
     add-i
     loop-less
     loop-again
-    returns-2)
+    returns_2)

@@ -20,29 +20,29 @@ returns c =
     let counted = k.count_cut.ensures in
     let stood = c.at_front.ensures in
     record {
-      counts = subst (λ (f : Front). Counts a.front a.u f) (sym stood.front-is) counted;
+      counts = subst (λ (f : Front). Counts a.front a.u f) (sym stood.front_is) counted;
       back = record {
-        around = λ l. absurd (omega (arith, c.before.if1.true, counted.q-kept));
-        stays = λ l. stood.p-is ∙ counted.q-kept;
+        around = λ l. absurd (omega (arith, c.before.if1.true, counted.q_kept));
+        stays = λ l. stood.p_is ∙ counted.q_kept;
       };
     }
 
 piece-around-requires : tie.Need-piece-around-requires
 piece-around-requires c κs = search rules
 
-returns-2 : tie.Need-returns-2
-returns-2 c =
+returns_2 : tie.Need-returns-2
+returns_2 c =
     let m = c.before in
     let counted = m.before.before.before.count_cut.ensures in
     record {
       counts = counted;
       back = record {
-        around = λ l. m.piece-around.ensures;
-        stays = λ l. absurd (omega (arith, m.before.if1.false, counted.q-kept));
+        around = λ l. m.piece_around.ensures;
+        stays = λ l. absurd (omega (arith, m.before.if1.false, counted.q_kept));
       };
     }
 
-pub after-cut-spec : {M : Type 1} → statement M
-after-cut-spec =
+pub after_cut_spec : {M : Type 1} → statement M
+after_cut_spec =
     tie.close
-    (tie.spec count-cut-requires at-front-requires returns piece-around-requires returns-2)
+    (tie.spec count-cut-requires at-front-requires returns piece-around-requires returns_2)

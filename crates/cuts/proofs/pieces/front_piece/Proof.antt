@@ -4,10 +4,10 @@ use Prim.Native.Nat.{ℕ, ◌+◌, ◌-◌, ◌<◌}
 use mathlib.Core.Path.{◌≡◌, ap}
 use native.Mathlib.Omega.{arith}
 use lib.ListN.{get_or}
-use Rattle.runs.specs.Runs.{Runs, runs, start_of, carryBack}
+use Rattle.runs.specs.Runs.{Runs, runs, start_of, carry_back}
 use Rattle.cuts.specs.Ranks.{SentTo}
-use Rattle.cuts.proofs.Cutlist.{begins-below}
-use Rattle.cuts.proofs.Ahead.{AtRank, front-rank, front-sent, front-piece}
+use Rattle.cuts.proofs.Cutlist.{begins_below}
+use Rattle.cuts.proofs.Ahead.{AtRank, front_rank, front_sent, front_piece}
 use Rattle.cuts.proofs.pieces.front_piece.Statement.{statement}
 use Rattle.cuts.proofs.pieces.front_piece.Tie as tie
 
@@ -22,24 +22,24 @@ abbrev list_of : tie.Start → Runs
 list_of a = runs a.args.starts.now a.args.images.now
 
 below : (a : tie.Start) → a.args.front.q < a.args.n
-below a = begins-below _ (list_of a) _ a.requires.0.legal a.requires.1 _ a.requires.3
+below a = begins_below _ (list_of a) _ a.requires.0.legal a.requires.1 _ a.requires.3
 
 rank : (a : tie.Start) → AtRank a.args.n (list_of a) a.args.order.now a.args.ranked.now a.args.front.rank
-rank a = front-rank _ (list_of a) _ _ a.requires.0 _ a.requires.1 _ a.requires.2 (below a)
+rank a = front_rank _ (list_of a) _ _ a.requires.0 _ a.requires.1 _ a.requires.2 (below a)
 
 abbrev run_of : tie.Start → ℕ
 run_of a = get_or a.args.order.now a.args.front.rank 0
 
 sent : (a : tie.Start)
     → SentTo a.args.n (list_of a) a.args.front.q
-    (record { run = run_of a; place = carryBack (list_of a) (run_of a) a.args.front.q })
-sent a = front-sent _ (list_of a) _ _ a.requires.0 _ a.requires.1 _ a.requires.2 (below a)
+    (record { run = run_of a; place = carry_back (list_of a) (run_of a) a.args.front.q })
+sent a = front_sent _ (list_of a) _ _ a.requires.0 _ a.requires.1 _ a.requires.2 (below a)
 
 -- the place, as the code has it
 place : (a : tie.Start)
     → start_of (list_of a) (run_of a) + (a.args.front.q - get_or a.args.ranked.now a.args.front.rank 0)
-    ≡ carryBack (list_of a) (run_of a) a.args.front.q
-place a = ap (λ (i : ℕ). start_of (list_of a) (run_of a) + (a.args.front.q - i)) (rank a).image-is
+    ≡ carry_back (list_of a) (run_of a) a.args.front.q
+place a = ap (λ (i : ℕ). start_of (list_of a) (run_of a) + (a.args.front.q - i)) (rank a).image_is
 
 mul-x : tie.Need-overflow-mul-x
 mul-x c = let a = start c in omega (arith, (rank a).below, (rank a).in_order)
@@ -60,10 +60,10 @@ mul-t14 : tie.Need-overflow-mul-t14
 mul-t14 c = let a = start c.before.before in omega (arith, (rank a).below, (rank a).in_order)
 
 shared-slice-read-t16 : tie.Need-shared-slice-read-t16
-shared-slice-read-t16 c = let a = start c.before.before.before in omega (arith, (rank a).below, (rank a).in-ranked)
+shared-slice-read-t16 c = let a = start c.before.before.before in omega (arith, (rank a).below, (rank a).in_ranked)
 
 sub-t17 : tie.Need-overflow-sub-t17
-sub-t17 c = let a = reading c in omega (arith, (rank a).image-is, (rank a).first, a.pre.2.from)
+sub-t17 c = let a = reading c in omega (arith, (rank a).image_is, (rank a).first, a.pre.2.from)
 
 add-t18 : tie.Need-overflow-add-t18
 add-t18 c = let a = reading c in omega (arith, place a, (sent a).below, a.fits.n)
@@ -76,11 +76,11 @@ entry-or-requires c κs = search rules
 
 returns : tie.Need-returns
 returns c = let a = reading c.before in
-    front-piece _ (list_of a) _ _ a.pre.0 _ a.pre.1 _ a.pre.2 (below a) a.pre.3 _ _ (place a)
+    front_piece _ (list_of a) _ _ a.pre.0 _ a.pre.1 _ a.pre.2 (below a) a.pre.3 _ _ (place a)
     c.entry-or.ensures
 
-pub front-piece-spec : {M : Type 1} → statement M
-front-piece-spec =
+pub front_piece_spec : {M : Type 1} → statement M
+front_piece_spec =
     tie.close
     (tie.spec
     mul-x

@@ -1,8 +1,8 @@
 -- `origin_of` meets its contract: the run of the place's rank sends there what lies as far above its start.
 use native.Mathlib.Omega.{arith}
-use Rattle.runs.specs.Runs.{Runs, runs, carryBack}
+use Rattle.runs.specs.Runs.{Runs, runs, carry_back}
 use Rattle.cuts.specs.Ranks.{SentTo}
-use Rattle.cuts.proofs.Cutlist.{RankedRun, ranking, ranked-run, sent-to}
+use Rattle.cuts.proofs.Cutlist.{RankedRun, ranking, ranked_run, sent_to}
 use Rattle.cuts.proofs.pieces.origin_of.Statement.{statement}
 use Rattle.cuts.proofs.pieces.origin_of.Tie as tie
 
@@ -15,14 +15,14 @@ list_of a = runs a.args.starts.now a.args.images.now
 -- the run whose image has the place
 found : (c : tie.After-run-at-rank) → let a = (start c.before).args in
     RankedRun a.n (list_of (start c.before)) a.order.now a.ranked.now a.q c.run-at-rank.result
-found c = ranked-run _ (list_of (start c.before)) _ _ (start c.before).requires.0 _ (start c.before).requires.1 _
+found c = ranked_run _ (list_of (start c.before)) _ _ (start c.before).requires.0 _ (start c.before).requires.1 _
     c.run-at-rank.ensures
 
 -- the place that it sends there
 sent : (c : tie.After-run-at-rank) → let a = start c.before in
     SentTo a.args.n (list_of a) a.args.q
-    (record { run = c.run-at-rank.result; place = carryBack (list_of a) c.run-at-rank.result a.args.q })
-sent c = sent-to _ (list_of (start c.before)) _ _ (start c.before).requires.0 _ (start c.before).requires.1 _ (found c)
+    (record { run = c.run-at-rank.result; place = carry_back (list_of a) c.run-at-rank.result a.args.q })
+sent c = sent_to _ (list_of (start c.before)) _ _ (start c.before).requires.0 _ (start c.before).requires.1 _ (found c)
 
 run-at-rank-requires : tie.Need-run-at-rank-requires
 run-at-rank-requires c κs = ranking _ (list_of (start c)) _ _ (start c).requires.0 _ (start c).requires.1
@@ -50,8 +50,8 @@ add-t15 c = omega (arith, (sent c.before.before).below)
 returns : tie.Need-returns
 returns c = sent c.before.before
 
-pub origin-of-spec : {M : Type 1} → statement M
-origin-of-spec =
+pub origin_of_spec : {M : Type 1} → statement M
+origin_of_spec =
     tie.close
     (tie.spec
     run-at-rank-requires

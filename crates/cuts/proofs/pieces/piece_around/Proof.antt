@@ -5,15 +5,15 @@ use Prim.Native.Nat.{ℕ, ◌+◌, ◌-◌, ◌≤◌}
 use mathlib.Core.Path.{ap, ◌∙◌, subst}
 use native.Mathlib.Omega.{arith}
 use lib.ListN.{get_or}
-use Rattle.order.specs.Lists.{countBelow}
-use Rattle.order.proofs.Laws.{strict-sorted, count-le-length}
+use Rattle.order.specs.Lists.{count_below}
+use Rattle.order.proofs.Laws.{strict_sorted, count_le_length}
 use Rattle.runs.specs.Runs.{Runs, runs}
 use Rattle.merging.specs.Merged.{merged}
 use Rattle.merging.specs.Marks.{At}
-use Rattle.merging.proofs.Merged.{at-counts, at_sum, at_own}
-use Rattle.cuts.specs.Cuts.{withCuts}
+use Rattle.merging.proofs.Merged.{at_counts, at_sum, at_own}
+use Rattle.cuts.specs.Cuts.{with_cuts}
 use Rattle.cuts.specs.Parts.{Higher, Around}
-use Rattle.cuts.proofs.Cutlist.{higher-last, piece-around}
+use Rattle.cuts.proofs.Cutlist.{higher_last, piece_around}
 use Rattle.cuts.proofs.pieces.piece_around.Statement.{statement}
 use Rattle.cuts.proofs.pieces.piece_around.Tie as tie
 
@@ -40,7 +40,7 @@ add-count-below : tie.Need-overflow-add-count-below
 add-count-below c = search rules
 
 count-below-requires : tie.Need-count-below-requires
-count-below-requires c κs = let a = start c.before in strict-sorted a.args.cuts.now a.pre.1.cuts-rise
+count-below-requires c κs = let a = start c.before in strict_sorted a.args.cuts.now a.pre.1.cuts_rise
 
 mul-later-start : tie.Need-overflow-mul-later-start
 mul-later-start c = search rules
@@ -54,7 +54,7 @@ later-start-requires c κs =
     omega (
       arith,
       c.before.count-below.ensures,
-      count-le-length (o.origin-of.result.place + 1) (start o).args.cuts.now,
+      count_le_length (o.origin-of.result.place + 1) (start o).args.cuts.now,
     )
 
 add-t17 : tie.Need-overflow-add-t17
@@ -65,8 +65,8 @@ marked : (c : tie.After-later-start)
     → let a = (begun c).args in
     At a.n a.starts.now a.cuts.now
     (record { starts = (origin c).origin-of.result.run + 1; cuts = (counted c).count-below.result })
-    (countBelow ((origin c).origin-of.result.place + 1) (merged a.starts.now a.cuts.now))
-marked c = at-counts _ _ _ (begun c).requires.1 _ _ (origin c).origin-of.ensures.counted (counted c).count-below.ensures
+    (count_below ((origin c).origin-of.result.place + 1) (merged a.starts.now a.cuts.now))
+marked c = at_counts _ _ _ (begun c).requires.1 _ _ (origin c).origin-of.ensures.counted (counted c).count-below.ensures
 
 entry-at-requires : tie.Need-entry-at-requires
 entry-at-requires c κs = ((begun c).requires.1, at_own _ _ _ (begun c).requires.1 _ _ (marked c))
@@ -77,7 +77,7 @@ around : (c : tie.After-entry-at)
     let w = c.before.later-start.result in
     let end = c.entry_at.result in
     (w ≤ v) × (v - w ≤ a.u) × (w ≤ end) × (a.u - (v - w) + (end - w) ≤ a.n)
-    × Around a.n (withCuts a.n (list_of (begun c.before)) a.cuts.now) a.u
+    × Around a.n (with_cuts a.n (list_of (begun c.before)) a.cuts.now) a.u
     (record { p = a.u - (v - w); piece = record { start = w; to = a.u - (v - w) + (end - w) } })
 around c =
     let k = c.before in
@@ -85,11 +85,11 @@ around c =
     let a = b.args in
     let o = (origin k).origin-of in
     let h : Higher (get_or a.starts.now o.result.run 0) a.cuts.now
-    (countBelow (o.result.place + 1) a.cuts.now) k.later-start.result =
+    (count_below (o.result.place + 1) a.cuts.now) k.later-start.result =
     subst (λ (i : ℕ). Higher (get_or a.starts.now o.result.run 0) a.cuts.now i k.later-start.result)
     (counted k).count-below.ensures k.later-start.ensures in
-    piece-around _ (list_of b) _ b.pre.0.legal b.pre.1 _ _ _ _ o.ensures.below o.ensures.sent
-    (higher-last _ _ _ b.pre.1 _ _ _ o.ensures.counted h)
+    piece_around _ (list_of b) _ b.pre.0.legal b.pre.1 _ _ _ _ o.ensures.below o.ensures.sent
+    (higher_last _ _ _ b.pre.1 _ _ _ o.ensures.counted h)
     (c.entry_at.ensures ∙ ap (λ (i : ℕ). get_or (merged a.starts.now a.cuts.now) i a.n)
     (at_sum _ _ _ b.pre.1 _ _ (marked k)))
 
@@ -108,8 +108,8 @@ add-t19 c = omega (arith, (around c.before).3)
 returns : tie.Need-returns
 returns c = (around c.before).4
 
-pub piece-around-spec : {M : Type 1} → statement M
-piece-around-spec =
+pub piece_around_spec : {M : Type 1} → statement M
+piece_around_spec =
     tie.close
     (tie.spec
     origin-of-requires

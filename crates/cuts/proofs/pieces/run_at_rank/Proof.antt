@@ -29,8 +29,8 @@ returns : tie.Need-returns
 returns c = ap (λ (k : ℕ). get_or c.before.before.before.before.args.order.now (k - 1) 0)
     c.before.count-below.ensures
 
-pub run-at-rank-spec : {M : Type 1} → statement M
-run-at-rank-spec =
+pub run_at_rank_spec : {M : Type 1} → statement M
+run_at_rank_spec =
     tie.close
     (tie.spec
     add-count-below

@@ -9,21 +9,21 @@ use mathlib.Core.List.{List}
 use native.Mathlib.Omega.{arith}
 use lib.ListN.{length, take}
 use lib.Seq.{length-take-le}
-use Rattle.order.specs.Lists.{countBelow}
-use Rattle.order.proofs.Laws.{lt-or-le, strict-sorted, count-mono, count-le-length}
+use Rattle.order.specs.Lists.{count_below}
+use Rattle.order.proofs.Laws.{lt_or_le, strict_sorted, count_mono, count_le_length}
 use Rattle.runs.specs.Runs.{Runs, runs}
 use Rattle.runs.specs.Weight.{weight}
 use Rattle.merging.specs.Merged.{merged, Starts}
 use Rattle.merging.specs.Marks.{At}
-use Rattle.merging.proofs.Merged.{at_sum, at_own, at-counts}
-use Rattle.cuts.specs.Balance.{cutPlace}
-use Rattle.cuts.specs.Cuts.{withCuts}
+use Rattle.merging.proofs.Merged.{at_sum, at_own, at_counts}
+use Rattle.cuts.specs.Balance.{cut_place}
+use Rattle.cuts.specs.Cuts.{with_cuts}
 use Rattle.cuts.specs.Parts.{FrontAt, PieceAt, AtFront, AfterCut}
 use Rattle.cuts.specs.declared.Front.{Front}
 use Rattle.cuts.specs.declared.Stand.{Stand}
-use Rattle.cuts.proofs.Ahead.{front-start, front-passed, front-counted}
-use Rattle.cuts.proofs.Progress.{Progress, turnsLeft, progress_start, progress-at, progress-on, progress-back, piece-to, looked-light, looked-heavy, cut-place, cut_inside, cut_below, cut-behind, cut-room, cut-starts, cut-taken, progress-cut, progress-end}
-use Rattle.cuts.proofs.Light.{progress-light}
+use Rattle.cuts.proofs.Ahead.{front_start, front_passed, front_counted}
+use Rattle.cuts.proofs.Progress.{Progress, turns_left, progress_start, progress_at, progress_on, progress_back, piece_to, looked_light, looked_heavy, cut_place_lem, cut_inside, cut_below, cut_behind, cut_room, cut_starts, cut_taken, progress_cut, progress_end}
+use Rattle.cuts.proofs.Light.{progress_light}
 use Rattle.cuts.proofs.sweep.sweep.Statement.{statement}
 use Rattle.cuts.proofs.sweep.sweep.Tie as tie
 
@@ -35,11 +35,11 @@ abbrev invariant-loop : tie.invariant-loop
 invariant-loop n starts images order ranked d working₀ cuts₀ at₀ working cuts at =
     Progress d n (runs starts images) working₀ working at.p at.front.q cuts
     × FrontAt n (runs starts images) ranked (take cuts working) at.front
-    × Known n (withCuts n (runs starts images) (take cuts working)) at
+    × Known n (with_cuts n (runs starts images) (take cuts working)) at
 
 abbrev decreases-loop : tie.decreases-loop
 decreases-loop n starts images order ranked d working₀ cuts₀ at₀ working cuts at =
-    turnsLeft n (runs starts images) working at.p at.front.q cuts
+    turns_left n (runs starts images) working at.p at.front.q cuts
 
 -- the places: the call that a turn belongs to; the turn, from what comes after it
 abbrev start : tie.At-loop invariant-loop decreases-loop → tie.Start invariant-loop decreases-loop
@@ -51,8 +51,8 @@ turn c = c.before.before.before.before
 abbrev seen : tie.After-look invariant-loop decreases-loop → tie.After-here invariant-loop decreases-loop
 seen c = c.before.before.before
 
-abbrev heavyT : tie.After-insert invariant-loop decreases-loop → tie.Then2 invariant-loop decreases-loop
-heavyT c = c.before.before.before.before.before
+abbrev heavy_t : tie.After-insert invariant-loop decreases-loop → tie.Then2 invariant-loop decreases-loop
+heavy_t c = c.before.before.before.before.before
 
 -- the list that is handed in; the cuts so far, and the list after them
 abbrev list_of : tie.Start invariant-loop decreases-loop → Runs
@@ -61,27 +61,27 @@ list_of a = runs a.args.starts.now a.args.images.now
 abbrev cuts_of : tie.At-loop invariant-loop decreases-loop → List ℕ
 cuts_of c = take c.loop.cuts c.loop.working
 
-abbrev mergedOf : tie.At-loop invariant-loop decreases-loop → List ℕ
-mergedOf c = merged (start c).args.starts.now (cuts_of c)
+abbrev merged_of : tie.At-loop invariant-loop decreases-loop → List ℕ
+merged_of c = merged (start c).args.starts.now (cuts_of c)
 
 abbrev after_of : tie.At-loop invariant-loop decreases-loop → Runs
-after_of c = withCuts (start c).args.n (list_of (start c)) (cuts_of c)
+after_of c = with_cuts (start c).args.n (list_of (start c)) (cuts_of c)
 
 -- a turn's progress to other places, and another table
 abbrev Moves : tie.At-loop invariant-loop decreases-loop → List ℕ → ℕ → ℕ → ℕ → Type 0
 Moves c working p q cuts =
     let a = start c in
     Progress a.args.d a.args.n (list_of a) a.args.working.now working p q cuts
-    × turnsLeft a.args.n (list_of a) working p q cuts < turnsLeft a.args.n (list_of a) c.loop.working
+    × turns_left a.args.n (list_of a) working p q cuts < turns_left a.args.n (list_of a) c.loop.working
     c.loop.at.p c.loop.at.front.q c.loop.cuts
 
 -- what holds of a front and its place holds of the sweep at that front, where no piece need be known
-front-holds : (P : ℕ → Front → Type 0) (front : Front) (at : Stand) → AtFront front at → P front.q front → P at.p at.front
-front-holds P front at w h =
-    subst (λ (f : Front). P at.p f) (sym w.front-is) (subst (λ (q : ℕ). P q front) (sym w.p-is) h)
+front_holds : (P : ℕ → Front → Type 0) (front : Front) (at : Stand) → AtFront front at → P front.q front → P at.p at.front
+front_holds P front at w h =
+    subst (λ (f : Front). P at.p f) (sym w.front_is) (subst (λ (q : ℕ). P q front) (sym w.p_is) h)
 
-front-known : (n : ℕ) (q : Runs) (front : Front) (at : Stand) → AtFront front at → Known n q at
-front-known n q front at w l = absurd (omega (arith, w.p-is, ap (λ (f : Front). f.q) w.front-is))
+front_known : (n : ℕ) (q : Runs) (front : Front) (at : Stand) → AtFront front at → Known n q at
+front_known n q front at w l = absurd (omega (arith, w.p_is, ap (λ (f : Front). f.q) w.front_is))
 
 first-requires : tie.Need-first-requires invariant-loop decreases-loop
 first-requires c κs = search rules
@@ -94,12 +94,12 @@ loop-holds c =
     let b = c.before.before.before.before.before.before.before in
     let a = b.args in
     let none = c.before.first.result in
-    let begun = front-holds (λ p f. Progress a.d a.n (list_of b) a.working.now a.working.now p f.q 0
+    let begun = front_holds (λ p f. Progress a.d a.n (list_of b) a.working.now a.working.now p f.q 0
     × FrontAt a.n (list_of b) a.ranked.now (take 0 a.working.now) f) none c.at_front.result c.at_front.ensures
     (subst (λ (f : Front). Progress a.d a.n (list_of b) a.working.now a.working.now f.q f.q 0
     × FrontAt a.n (list_of b) a.ranked.now (take 0 a.working.now) f) (sym c.before.first.ensures)
-    (progress_start a.d a.n (list_of b) a.working.now b.requires.0.legal, front-start _ (list_of b) _ _ b.requires.0 _ refl refl)) in
-    (begun.0, begun.1, front-known _ _ none _ c.at_front.ensures)
+    (progress_start a.d a.n (list_of b) a.working.now b.requires.0.legal, front_start _ (list_of b) _ _ b.requires.0 _ refl refl)) in
+    (begun.0, begun.1, front_known _ _ none _ c.at_front.ensures)
 
 slice-reshare-prefix-here : tie.Need-slice-reshare-prefix-here invariant-loop decreases-loop
 slice-reshare-prefix-here c = c.before.before.loop.invariant.0.fits
@@ -116,7 +116,7 @@ here-requires c κs =
       l.loop.invariant.0.starts,
       l.loop.invariant.1,
       record {
-        begins = progress-at _ _ a.pre.1 (list_of a) a.pre.0.legal _ _ _ _ _ l.loop.invariant.0 c.before.if1.true;
+        begins = progress_at _ _ a.pre.1 (list_of a) a.pre.0.legal _ _ _ _ _ l.loop.invariant.0 c.before.if1.true;
         ordered = l.loop.invariant.0.sweeping.swept.ordered;
         known = l.loop.invariant.2;
       },
@@ -132,18 +132,18 @@ slice-aggregate-look c = let l = (turn c.before.before).loop in
 -- the image of the piece; the mark before it
 ends : (c : tie.After-here invariant-loop decreases-loop) → ((turn c).loop.at.p ≤ c.here.result.piece.to)
     × (c.here.result.piece.to ≤ (start (turn c)).args.n)
-ends c = piece-to _ (list_of (start (turn c))) _ _ _
+ends c = piece_to _ (list_of (start (turn c))) _ _ _
     (start (turn c)).pre.0.legal
-    (turn c).loop.invariant.0.starts c.here.ensures.piece-at
+    (turn c).loop.invariant.0.starts c.here.ensures.piece_at
 
 marked : (c : tie.After-here invariant-loop decreases-loop)
     → let a = (start (turn c)).args in
     At a.n a.starts.now (cuts_of (turn c)) c.here.result.mark
-    (countBelow (turn c).loop.at.p (mergedOf (turn c)))
-marked c = at-counts _ _ _ (turn c).loop.invariant.0.starts _ _ c.here.ensures.starts-before c.here.ensures.cuts-before
+    (count_below (turn c).loop.at.p (merged_of (turn c)))
+marked c = at_counts _ _ _ (turn c).loop.invariant.0.starts _ _ c.here.ensures.starts_before c.here.ensures.cuts_before
 
 summed : (c : tie.After-here invariant-loop decreases-loop)
-    → c.here.result.mark.starts + c.here.result.mark.cuts ≡ countBelow (turn c).loop.at.p (mergedOf (turn c))
+    → c.here.result.mark.starts + c.here.result.mark.cuts ≡ count_below (turn c).loop.at.p (merged_of (turn c))
 summed c = at_sum _ _ _ (turn c).loop.invariant.0.starts _ _ (marked c)
 
 look-requires : tie.Need-look-requires invariant-loop decreases-loop
@@ -156,7 +156,7 @@ look-requires c κs =
       below = omega (
         arith,
         summed h,
-        count-mono (turn h).loop.at.p h.here.result.piece.to (mergedOf (turn h)) (ends h).0,
+        count_mono (turn h).loop.at.p h.here.result.piece.to (merged_of (turn h)) (ends h).0,
       );
       within = (ends h).1;
       some = omega (arith, a.pre.1);
@@ -172,30 +172,30 @@ pass-requires c κs =
 -- a light piece, and a heavy one
 light : (c : tie.After-look invariant-loop decreases-loop) → c.look.result.heavy ≡ false → let h = seen c in
     let a = (start (turn h)).args in
-    (weight a.n (after_of (turn h)) h.here.ensures.piece-at.index < 2 * a.d)
+    (weight a.n (after_of (turn h)) h.here.ensures.piece_at.index < 2 * a.d)
     × (c.look.result.to ≡ h.here.result.piece.to)
 light c e =
     let h = seen c in
     let k = c.look.ensures.light e in (
-      looked-light _ _ (list_of (start (turn h))) _ _ _ h.here.ensures.piece-at _ (summed h) k.0,
+      looked_light _ _ (list_of (start (turn h))) _ _ _ h.here.ensures.piece_at _ (summed h) k.0,
       k.1,
     )
 
 heavy : (c : tie.After-look invariant-loop decreases-loop) → c.look.result.heavy ≡ true → let h = seen c in
     let a = (start (turn h)).args in
-    (2 * a.d ≤ weight a.n (after_of (turn h)) h.here.ensures.piece-at.index)
+    (2 * a.d ≤ weight a.n (after_of (turn h)) h.here.ensures.piece_at.index)
 heavy c e = let h = seen c in
-    looked-heavy _ _ (list_of (start (turn h))) _ _ _ h.here.ensures.piece-at _ (summed h)
+    looked_heavy _ _ (list_of (start (turn h))) _ _ _ h.here.ensures.piece_at _ (summed h)
     (c.look.ensures.weighs e).0
 
 placed : (c : tie.After-look invariant-loop decreases-loop) → c.look.result.heavy ≡ true → let h = seen c in
     let a = (start (turn h)).args in
-    c.look.result.to ≡ cutPlace a.d a.n (after_of (turn h)) h.here.ensures.piece-at.index
+    c.look.result.to ≡ cut_place a.d a.n (after_of (turn h)) h.here.ensures.piece_at.index
 placed c e =
     let h = seen c in
     let l = turn h in
     let a = start l in
-    cut-place _ _ a.pre.1 (list_of a) a.pre.0.legal _ _ _ _ _ l.loop.inv.0 _ h.here.ensures.piece-at
+    cut_place_lem _ _ a.pre.1 (list_of a) a.pre.0.legal _ _ _ _ _ l.loop.inv.0 _ h.here.ensures.piece_at
     (heavy c e) _ _ (ap (λ (m : ℕ). m + a.args.d) (summed h)) (c.look.ensures.weighs e).1
 
 inside : (c : tie.After-look invariant-loop decreases-loop) → c.look.result.heavy ≡ true
@@ -204,7 +204,7 @@ inside c e =
     let h = seen c in
     let l = turn h in
     let a = start l in
-    cut_inside _ _ a.pre.1 (list_of a) a.pre.0.legal _ _ _ _ _ l.loop.inv.0 _ h.here.ensures.piece-at
+    cut_inside _ _ a.pre.1 (list_of a) a.pre.0.legal _ _ _ _ _ l.loop.inv.0 _ h.here.ensures.piece_at
     (heavy c e) _ (placed c e)
 
 -- the front after the look
@@ -215,9 +215,9 @@ passed c =
     let h = seen k in
     let l = turn h in
     let a = start l in
-    front-passed _ (list_of a) _ _ a.pre.0 _ l.loop.inv.0.starts _ l.loop.inv.1 _
-    l.loop.inv.0.sweeping.swept.ordered h.before.before.if1.taken _ h.here.ensures.piece-at _
-    k.look.ensures.starts-before k.look.ensures.cuts-before _ c.pass.ensures
+    front_passed _ (list_of a) _ _ a.pre.0 _ l.loop.inv.0.starts _ l.loop.inv.1 _
+    l.loop.inv.0.sweeping.swept.ordered h.before.before.if1.taken _ h.here.ensures.piece_at _
+    k.look.ensures.starts_before k.look.ensures.cuts_before _ c.pass.ensures
     (λ e. (light k e).1) (inside k)
 
 -- the start that a cut adds
@@ -229,7 +229,7 @@ below c e =
     let h = seen c in
     let l = turn h in
     let a = start l in
-    cut_below _ _ a.pre.1 (list_of a) a.pre.0.legal _ _ _ _ _ l.loop.inv.0 _ h.here.ensures.piece-at
+    cut_below _ _ a.pre.1 (list_of a) a.pre.0.legal _ _ _ _ _ l.loop.inv.0 _ h.here.ensures.piece_at
     (heavy c e) _ (placed c e)
 
 room : (c : tie.After-look invariant-loop decreases-loop) → c.look.result.heavy ≡ true
@@ -238,7 +238,7 @@ room c e =
     let h = seen c in
     let l = turn h in
     let a = start l in
-    cut-room _ _ a.pre.1 (list_of a) a.pre.0.legal _ _ _ _ _ l.loop.inv.0 _ h.here.ensures.piece-at
+    cut_room _ _ a.pre.1 (list_of a) a.pre.0.legal _ _ _ _ _ l.loop.inv.0 _ h.here.ensures.piece_at
     (heavy c e) _ (placed c e) (omega (arith, a.pre.3, l.loop.inv.0.kept))
 
 sub-u : tie.Need-overflow-sub-u invariant-loop decreases-loop
@@ -255,35 +255,35 @@ insert-requires c κs =
     let t = c.before.before.before.before in
     let k = t.before.before in
     let l = (turn (seen k)).loop in
-    (room k t.if2.true, strict-sorted (take l.cuts l.working) l.inv.0.starts.cuts-rise)
+    (room k t.if2.true, strict_sorted (take l.cuts l.working) l.inv.0.starts.cuts_rise)
 
 -- the look before a cut, from after it
-abbrev lookT : tie.After-insert invariant-loop decreases-loop → tie.After-look invariant-loop decreases-loop
-lookT c = (heavyT c).before.before
+abbrev look_t : tie.After-insert invariant-loop decreases-loop → tie.After-look invariant-loop decreases-loop
+look_t c = (heavy_t c).before.before
 
-abbrev turnT : tie.After-insert invariant-loop decreases-loop → tie.At-loop invariant-loop decreases-loop
-turnT c = turn (seen (lookT c))
+abbrev turn_t : tie.After-insert invariant-loop decreases-loop → tie.At-loop invariant-loop decreases-loop
+turn_t c = turn (seen (look_t c))
 
-abbrev startT : tie.After-insert invariant-loop decreases-loop → tie.Start invariant-loop decreases-loop
-startT c = start (turnT c)
+abbrev start_t : tie.After-insert invariant-loop decreases-loop → tie.Start invariant-loop decreases-loop
+start_t c = start (turn_t c)
 
 -- the table with the cut in it
-added : (c : tie.After-insert invariant-loop decreases-loop) → let a = (startT c).args in
-    Starts a.n a.starts.now (take ((turnT c).loop.cuts + 1) c.insert.new.0)
+added : (c : tie.After-insert invariant-loop decreases-loop) → let a = (start_t c).args in
+    Starts a.n a.starts.now (take ((turn_t c).loop.cuts + 1) c.insert.new.0)
 added c =
-    let k = lookT c in
-    let e = (heavyT c).if2.true in
-    let a = startT c in
-    cut-starts _ _ a.pre.1 (list_of a) a.pre.0.legal _ _ _ _ _ (turnT c).loop.invariant.0 _
-    (seen k).here.ensures.piece-at (heavy k e) _ (placed k e) c.insert.new.0 c.insert.ensures
+    let k = look_t c in
+    let e = (heavy_t c).if2.true in
+    let a = start_t c in
+    cut_starts _ _ a.pre.1 (list_of a) a.pre.0.legal _ _ _ _ _ (turn_t c).loop.invariant.0 _
+    (seen k).here.ensures.piece_at (heavy k e) _ (placed k e) c.insert.new.0 c.insert.ensures
 
-grown : (c : tie.After-insert invariant-loop decreases-loop) → (turnT c).loop.cuts + 1 ≤ length c.insert.new.0
-grown c = omega (arith, room (lookT c) (heavyT c).if2.true, c.insert.auto.0)
+grown : (c : tie.After-insert invariant-loop decreases-loop) → (turn_t c).loop.cuts + 1 ≤ length c.insert.new.0
+grown c = omega (arith, room (look_t c) (heavy_t c).if2.true, c.insert.auto.0)
 
 add-cuts : tie.Need-overflow-add-cuts invariant-loop decreases-loop
 add-cuts c =
     let i = c.before.before in
-    omega (arith, room (lookT i) (heavyT i).if2.true, (turnT i).loop.invariant.0.kept, (startT i).well-formed)
+    omega (arith, room (look_t i) (heavy_t i).if2.true, (turn_t i).loop.invariant.0.kept, (start_t i).well-formed)
 
 slice-reshare-prefix-after-cut : tie.Need-slice-reshare-prefix-after-cut invariant-loop decreases-loop
 slice-reshare-prefix-after-cut c = grown c.before.before
@@ -291,87 +291,87 @@ slice-reshare-prefix-after-cut c = grown c.before.before
 slice-aggregate-after-cut : tie.Need-slice-aggregate-after-cut invariant-loop decreases-loop
 slice-aggregate-after-cut c =
     let i = c.before.before.before in
-    sym (length-take-le ((turnT i).loop.cuts + 1) i.insert.new.0 (grown i))
+    sym (length-take-le ((turn_t i).loop.cuts + 1) i.insert.new.0 (grown i))
 
 -- the cuts before the front are few
-few-before : (c : tie.After-insert invariant-loop decreases-loop) → (heavyT c).before.pass.result.mark.cuts < 9223372036854775808
-few-before i =
-    let f = (heavyT i).before in
-    let l = (turnT i).loop in
+few_before : (c : tie.After-insert invariant-loop decreases-loop) → (heavy_t c).before.pass.result.mark.cuts < 9223372036854775808
+few_before i =
+    let f = (heavy_t i).before in
+    let l = (turn_t i).loop in
     omega (
       arith,
-      (passed f).cuts-before,
-      count-le-length f.pass.result.q (cuts_of (turnT i)),
+      (passed f).cuts_before,
+      count_le_length f.pass.result.q (cuts_of (turn_t i)),
       length-take-le l.cuts l.working l.inv.0.fits,
-      room (lookT i) (heavyT i).if2.true,
+      room (look_t i) (heavy_t i).if2.true,
       l.inv.0.kept,
-      (startT i).well-formed,
+      (start_t i).well-formed,
     )
 
 after-cut-requires : tie.Need-after-cut-requires invariant-loop decreases-loop
 after-cut-requires c κs =
     let i = c.before.before.before in
-    ((startT i).requires.0, added i, below (lookT i) (heavyT i).if2.true, few-before i)
+    ((start_t i).requires.0, added i, below (look_t i) (heavy_t i).if2.true, few_before i)
 
 -- where the front is after the look at a heavy piece: where it was, or at the cut's place
-front_at : (c : tie.After-insert invariant-loop decreases-loop) → let l = (turnT c).loop in let q = (heavyT c).before.pass.result.q in
-    (l.at.p < l.at.front.q → q ≡ l.at.front.q) × (l.at.front.q ≤ l.at.p → q ≡ (lookT c).look.result.to)
+front_at : (c : tie.After-insert invariant-loop decreases-loop) → let l = (turn_t c).loop in let q = (heavy_t c).before.pass.result.q in
+    (l.at.p < l.at.front.q → q ≡ l.at.front.q) × (l.at.front.q ≤ l.at.p → q ≡ (look_t c).look.result.to)
 front_at c =
-    let f = (heavyT c).before.pass.ensures in (
+    let f = (heavy_t c).before.pass.ensures in (
       λ l. ap (λ (m : Front). m.q) (f.behind l),
-      λ l. ap (λ (m : Front). m.q) (f.cut l (heavyT c).if2.true),
+      λ l. ap (λ (m : Front). m.q) (f.cut l (heavy_t c).if2.true),
     )
 
-abbrev insertT : tie.After-after-cut invariant-loop decreases-loop → tie.After-insert invariant-loop decreases-loop
-insertT c = c.before.before.before.before
+abbrev insert_t : tie.After-after-cut invariant-loop decreases-loop → tie.After-insert invariant-loop decreases-loop
+insert_t c = c.before.before.before.before
 
-stepped : (c : tie.After-after-cut invariant-loop decreases-loop) → let i = insertT c in let at = c.after-cut.result in
-    Moves (turnT i) i.insert.last.0 at.p at.front.q ((turnT i).loop.cuts + 1)
+stepped : (c : tie.After-after-cut invariant-loop decreases-loop) → let i = insert_t c in let at = c.after-cut.result in
+    Moves (turn_t i) i.insert.last.0 at.p at.front.q ((turn_t i).loop.cuts + 1)
 stepped c =
-    let i = insertT c in
-    let e = (heavyT i).if2.taken in
-    let a = startT i in
+    let i = insert_t c in
+    let e = (heavy_t i).if2.taken in
+    let a = start_t i in
     let at = c.after-cut.result in
-    subst (λ (q : ℕ). Moves (turnT i) i.insert.last.0 at.p q ((turnT i).loop.cuts + 1)) (sym c.after-cut.ensures.counts.q-kept)
-    (progress-cut _ _ a.pre.1 (list_of a) a.pre.0.legal _ _ _ _ _ (turnT i).loop.inv.0 _
-    (seen (lookT i)).here.ensures.piece-at (heavy (lookT i) e) _ (placed (lookT i) e) (record { p = at.p; piece = at.piece })
-    (heavyT i).before.pass.result.q i.insert.last.0 (room (lookT i) e) i.insert.ensures c.after-cut.ensures.back
+    subst (λ (q : ℕ). Moves (turn_t i) i.insert.last.0 at.p q ((turn_t i).loop.cuts + 1)) (sym c.after-cut.ensures.counts.q_kept)
+    (progress_cut _ _ a.pre.1 (list_of a) a.pre.0.legal _ _ _ _ _ (turn_t i).loop.inv.0 _
+    (seen (look_t i)).here.ensures.piece_at (heavy (look_t i) e) _ (placed (look_t i) e) (record { p = at.p; piece = at.piece })
+    (heavy_t i).before.pass.result.q i.insert.last.0 (room (look_t i) e) i.insert.ensures c.after-cut.ensures.back
     (front_at i).0 (front_at i).1)
 
 -- the front with the cut counted
-counted : (c : tie.After-after-cut invariant-loop decreases-loop) → let i = insertT c in let a = (startT i).args in
-    FrontAt a.n (list_of (startT i)) a.ranked.now (take ((turnT i).loop.cuts + 1) i.insert.last.0)
+counted : (c : tie.After-after-cut invariant-loop decreases-loop) → let i = insert_t c in let a = (start_t i).args in
+    FrontAt a.n (list_of (start_t i)) a.ranked.now (take ((turn_t i).loop.cuts + 1) i.insert.last.0)
     c.after-cut.result.front
 counted c =
-    let i = insertT c in
-    let k = lookT i in
-    let e = (heavyT i).if2.taken in
-    let a = startT i in
-    let f = (heavyT i).before in
-    let b = cut-behind _ _ a.pre.1 (list_of a) a.pre.0.legal _ _ _ _ _ (turnT i).loop.inv.0 _
-    (seen k).here.ensures.piece-at (heavy k e) _ (placed k e) f.pass.result.q (front_at i).0 (front_at i).1 in
-    let t = cut-taken _ _ a.pre.1 (list_of a) a.pre.0.legal _ _ _ _ _ (turnT i).loop.inv.0 _
-    (seen k).here.ensures.piece-at (heavy k e) _ (placed k e) i.insert.last.0 i.insert.ensures in
-    rw t (front-counted _ (list_of a) _ _ _ (passed f) (cut_of k) _ c.after-cut.ensures.counts b)
+    let i = insert_t c in
+    let k = look_t i in
+    let e = (heavy_t i).if2.taken in
+    let a = start_t i in
+    let f = (heavy_t i).before in
+    let b = cut_behind _ _ a.pre.1 (list_of a) a.pre.0.legal _ _ _ _ _ (turn_t i).loop.inv.0 _
+    (seen k).here.ensures.piece_at (heavy k e) _ (placed k e) f.pass.result.q (front_at i).0 (front_at i).1 in
+    let t = cut_taken _ _ a.pre.1 (list_of a) a.pre.0.legal _ _ _ _ _ (turn_t i).loop.inv.0 _
+    (seen k).here.ensures.piece_at (heavy k e) _ (placed k e) i.insert.last.0 i.insert.ensures in
+    rw t (front_counted _ (list_of a) _ _ _ (passed f) (cut_of k) _ c.after-cut.ensures.counts b)
 
 -- behind the front the piece is known
-behind-known : (n : ℕ) (q : Runs) (front : Front) (u : ℕ) (at : Stand) → AfterCut n q front u at → Known n q at
-behind-known n q front u at b l = go (lt-or-le u front.q)
+behind_known : (n : ℕ) (q : Runs) (front : Front) (u : ℕ) (at : Stand) → AfterCut n q front u at → Known n q at
+behind_known n q front u at b l = go (lt_or_le u front.q)
   where
     go : (u < front.q) ⊎ (front.q ≤ u) → PieceAt n q at.p at.piece
-    go (inl h) = (b.back.around h).piece-at
-    go (inr h) = absurd (omega (arith, b.back.stays h, b.counts.q-kept))
+    go (inl h) = (b.back.around h).piece_at
+    go (inr h) = absurd (omega (arith, b.back.stays h, b.counts.q_kept))
 
 loop-less : tie.Need-loop-smaller invariant-loop decreases-loop
 loop-less c = (stepped c).1
 
 loop-again : tie.Need-loop-preserved invariant-loop decreases-loop
-loop-again c = ((stepped c).0, counted c, behind-known _ _ _ _ _ c.after-cut.ensures)
+loop-again c = ((stepped c).0, counted c, behind_known _ _ _ _ _ c.after-cut.ensures)
 
 -- a light piece: on from the front, or back to it
 moved : (c : tie.Else2 invariant-loop decreases-loop) → let l = turn (seen c.before.before) in
     Moves l l.loop.working c.before.pass.result.q c.before.pass.result.q l.loop.cuts
-moved c = go (lt-or-le (turn (seen c.before.before)).loop.at.p (turn (seen c.before.before)).loop.at.front.q)
+moved c = go (lt_or_le (turn (seen c.before.before)).loop.at.p (turn (seen c.before.before)).loop.at.front.q)
   where
     go : ((turn (seen c.before.before)).loop.at.p < (turn (seen c.before.before)).loop.at.front.q)
         ⊎ ((turn (seen c.before.before)).loop.at.front.q ≤ (turn (seen c.before.before)).loop.at.p)
@@ -384,8 +384,8 @@ moved c = go (lt-or-le (turn (seen c.before.before)).loop.at.p (turn (seen c.bef
         let t : c.before.pass.result.q ≡ l.loop.at.front.q =
         ap (λ (f : Front). f.q) (c.before.pass.ensures.behind m) in
         subst (λ (q : ℕ). Moves l l.loop.working q q l.loop.cuts) (sym t)
-        (progress-back _ _ a.pre.1 (list_of a) a.pre.0.legal _ _ _ _ _ l.loop.inv.0 _
-        (seen k).here.ensures.piece-at (light k c.if2.false).0 m)
+        (progress_back _ _ a.pre.1 (list_of a) a.pre.0.legal _ _ _ _ _ l.loop.inv.0 _
+        (seen k).here.ensures.piece_at (light k c.if2.false).0 m)
     go (inr m) =
         let k = c.before.before in
         let l = turn (seen k) in
@@ -393,8 +393,8 @@ moved c = go (lt-or-le (turn (seen c.before.before)).loop.at.p (turn (seen c.bef
         let t : c.before.pass.result.q ≡ (seen k).here.result.piece.to =
         ap (λ (f : Front). f.q) (c.before.pass.ensures.on m c.if2.false) ∙ (light k c.if2.false).1 in
         subst (λ (q : ℕ). Moves l l.loop.working q q l.loop.cuts) (sym t)
-        (progress-on _ _ a.pre.1 (list_of a) a.pre.0.legal _ _ _ _ _ l.loop.inv.0 _
-        (seen k).here.ensures.piece-at (light k c.if2.false).0 m)
+        (progress_on _ _ a.pre.1 (list_of a) a.pre.0.legal _ _ _ _ _ l.loop.inv.0 _
+        (seen k).here.ensures.piece_at (light k c.if2.false).0 m)
 
 slice-reshare-prefix-pass-light : tie.Need-slice-reshare-prefix-pass-light invariant-loop decreases-loop
 slice-reshare-prefix-pass-light c = (turn (seen c.before.before)).loop.inv.0.fits
@@ -409,40 +409,40 @@ pass-light-requires c κs =
     let l = turn (seen e.before.before) in
     let a = start l in
     let m = (moved e).0.sweeping.swept in
-    (a.pre.0, l.loop.inv.0.starts, passed e.before, m.edge-Q, m.bounded, omega (arith, a.pre.1), a.pre.2)
+    (a.pre.0, l.loop.inv.0.starts, passed e.before, m.edge_Q, m.bounded, omega (arith, a.pre.1), a.pre.2)
 
 -- and on past the light ones that follow
-abbrev elseT : tie.After-pass-light invariant-loop decreases-loop → tie.Else2 invariant-loop decreases-loop
-elseT c = c.before.before
+abbrev else_t : tie.After-pass-light invariant-loop decreases-loop → tie.Else2 invariant-loop decreases-loop
+else_t c = c.before.before
 
-further : (c : tie.After-pass-light invariant-loop decreases-loop) → let l = turn (seen (elseT c).before.before) in
+further : (c : tie.After-pass-light invariant-loop decreases-loop) → let l = turn (seen (else_t c).before.before) in
     Moves l l.loop.working c.pass-light.result.q c.pass-light.result.q l.loop.cuts
 further c =
-    let m = moved (elseT c) in
-    let p = progress-light _ _ (list_of (start (turn (seen (elseT c).before.before)))) _ _ _ _ _ _ c.pass-light.ensures m.0 in
+    let m = moved (else_t c) in
+    let p = progress_light _ _ (list_of (start (turn (seen (else_t c).before.before)))) _ _ _ _ _ _ c.pass-light.ensures m.0 in
     (p.0, omega (arith, p.1, m.1))
 
 at-front-requires-2 : tie.Need-at-front-requires-2 invariant-loop decreases-loop
 at-front-requires-2 c κs = search rules
 
 -- the same where the sweep stands then
-stood : (c : tie.After-at-front2 invariant-loop decreases-loop) → let l = turn (seen (elseT c.before).before.before) in let at = c.at-front2.result in
+stood : (c : tie.After-at-front2 invariant-loop decreases-loop) → let l = turn (seen (else_t c.before).before.before) in let at = c.at-front2.result in
     Moves l l.loop.working at.p at.front.q l.loop.cuts
 stood c =
-    let l = turn (seen (elseT c.before).before.before) in
-    front-holds (λ p f. Moves l l.loop.working p f.q l.loop.cuts) _ _ c.at-front2.ensures (further c.before)
+    let l = turn (seen (else_t c.before).before.before) in
+    front_holds (λ p f. Moves l l.loop.working p f.q l.loop.cuts) _ _ c.at-front2.ensures (further c.before)
 
 loop-less-2 : tie.Need-loop-smaller-2 invariant-loop decreases-loop
 loop-less-2 c = (stood c).1
 
 loop-again-2 : tie.Need-loop-preserved-2 invariant-loop decreases-loop
 loop-again-2 c =
-    let l = turn (seen (elseT c.before).before.before) in
+    let l = turn (seen (else_t c.before).before.before) in
     let a = start l in (
       (stood c).0,
-      front-holds (λ p f. FrontAt a.args.n (list_of a) a.args.ranked.now (cuts_of l) f) _ _ c.at-front2.ensures
+      front_holds (λ p f. FrontAt a.args.n (list_of a) a.args.ranked.now (cuts_of l) f) _ _ c.at-front2.ensures
           c.before.pass-light.ensures.at,
-      front-known _ _ _ _ c.at-front2.ensures,
+      front_known _ _ _ _ c.at-front2.ensures,
     )
 
 same_length : tie.Need-same-length invariant-loop decreases-loop
@@ -452,10 +452,10 @@ returns : tie.Need-returns invariant-loop decreases-loop
 returns c =
     let l = c.before.before in
     let a = start l in
-    progress-end _ _ a.pre.1 (list_of a) a.pre.0.legal _ _ _ _ _ l.loop.invariant.0 c.if1.false
+    progress_end _ _ a.pre.1 (list_of a) a.pre.0.legal _ _ _ _ _ l.loop.invariant.0 c.if1.false
 
-pub sweep-spec : {M : Type 1} → statement M
-sweep-spec =
+pub sweep_spec : {M : Type 1} → statement M
+sweep_spec =
     tie.close
     (tie.spec
     invariant-loop

@@ -1,8 +1,8 @@
 -- `answers::of_balance` meets its contract, an arm for each variant.
 use borrow.Author.Rules.{rules}
 use mathlib.Core.Path.{sym, ap}
-use Rattle.balance.specs.Lent.{balancedSays}
-use Rattle.export_balance.specs.Answers.{balanceAnswer}
+use Rattle.balance.specs.Lent.{balanced_says}
+use Rattle.export_balance.specs.Answers.{balance_answer}
 use Rattle.export_balance.proofs.answers.of_balance.Statement.{statement}
 use Rattle.export_balance.proofs.answers.of_balance.Tie as tie
 
@@ -20,15 +20,15 @@ place-requires c κs = search rules
 
 returns : tie.Need-returns
 returns c =
-    ap (λ a. balanceAnswer (balancedSays a)) (sym c.before.balanced.given.1)
+    ap (λ a. balance_answer (balanced_says a)) (sym c.before.balanced.given.1)
 
-returns-2 : tie.Need-returns-2
-returns-2 c =
+returns_2 : tie.Need-returns-2
+returns_2 c =
     let arm = sym c.before.before.before.balanced2.given.1 in
-    rw (c.before.number.ensures, c.place.ensures) (ap (λ a. balanceAnswer (balancedSays a)) arm)
+    rw (c.before.number.ensures, c.place.ensures) (ap (λ a. balance_answer (balanced_says a)) arm)
 
-pub of-balance-spec : {M : Type 1} → statement M
-of-balance-spec =
+pub of_balance_spec : {M : Type 1} → statement M
+of_balance_spec =
     tie.close
     (tie.spec
     enum-known-balanced
@@ -36,4 +36,4 @@ of-balance-spec =
     number-requires
     place-requires
     returns
-    returns-2)
+    returns_2)

@@ -1,8 +1,8 @@
 -- `sizes::of_size` meets its contract, an arm for each variant.
 use borrow.Author.Rules.{rules}
 use mathlib.Core.Path.{sym, ap}
-use Rattle.forecasts.specs.Sizing.{forecastedSays}
-use Rattle.export_balance.specs.Answers.{forecastAnswer}
+use Rattle.forecasts.specs.Sizing.{forecasted_says}
+use Rattle.export_balance.specs.Answers.{forecast_answer}
 use Rattle.export_balance.proofs.sizes.of_size.Statement.{statement}
 use Rattle.export_balance.proofs.sizes.of_size.Tie as tie
 
@@ -19,15 +19,15 @@ place-requires : tie.Need-place-requires
 place-requires c κs = search rules
 
 returns : tie.Need-returns
-returns c = ap (λ a. forecastAnswer (forecastedSays a)) (sym c.before.forecasted.given.1)
+returns c = ap (λ a. forecast_answer (forecasted_says a)) (sym c.before.forecasted.given.1)
 
-returns-2 : tie.Need-returns-2
-returns-2 c =
+returns_2 : tie.Need-returns-2
+returns_2 c =
     let arm = sym c.before.before.before.forecasted2.given.1 in
-    rw (c.before.number.ensures, c.place.ensures) (ap (λ a. forecastAnswer (forecastedSays a)) arm)
+    rw (c.before.number.ensures, c.place.ensures) (ap (λ a. forecast_answer (forecasted_says a)) arm)
 
-pub of-size-spec : {M : Type 1} → statement M
-of-size-spec =
+pub of_size_spec : {M : Type 1} → statement M
+of_size_spec =
     tie.close
     (tie.spec
     enum-known-forecasted
@@ -35,4 +35,4 @@ of-size-spec =
     number-requires
     place-requires
     returns
-    returns-2)
+    returns_2)

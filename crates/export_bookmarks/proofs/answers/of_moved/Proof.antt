@@ -1,8 +1,8 @@
 -- `answers::of_moved` meets its contract, an arm for each variant.
 use borrow.Author.Rules.{rules}
 use mathlib.Core.Path.{sym, ap}
-use Rattle.walks.specs.Move.{movedSays}
-use Rattle.export_bookmarks.specs.Answers.{advanceAnswer}
+use Rattle.walks.specs.Move.{moved_says}
+use Rattle.export_bookmarks.specs.Answers.{advance_answer}
 use Rattle.export_bookmarks.proofs.answers.of_moved.Statement.{statement}
 use Rattle.export_bookmarks.proofs.answers.of_moved.Tie as tie
 
@@ -19,14 +19,14 @@ place-requires : tie.Need-place-requires
 place-requires c κs = search rules
 
 returns : tie.Need-returns
-returns c = ap (λ a. advanceAnswer (movedSays a)) (sym c.before.moved.given.1)
+returns c = ap (λ a. advance_answer (moved_says a)) (sym c.before.moved.given.1)
 
-returns-2 : tie.Need-returns-2
-returns-2 c =
+returns_2 : tie.Need-returns-2
+returns_2 c =
     let arm = sym c.before.before.before.moved2.given.1 in
-    rw (c.before.number.ensures, c.place.ensures) (ap (λ a. advanceAnswer (movedSays a)) arm)
+    rw (c.before.number.ensures, c.place.ensures) (ap (λ a. advance_answer (moved_says a)) arm)
 
-pub of-moved-spec : {M : Type 1} → statement M
-of-moved-spec =
+pub of_moved_spec : {M : Type 1} → statement M
+of_moved_spec =
     tie.close
-    (tie.spec enum-known-moved enum-known-moved-2 number-requires place-requires returns returns-2)
+    (tie.spec enum-known-moved enum-known-moved-2 number-requires place-requires returns returns_2)

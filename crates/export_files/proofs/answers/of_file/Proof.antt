@@ -1,8 +1,8 @@
 -- `answers::of_file` meets its contract, an arm for each variant.
 use borrow.Author.Rules.{rules}
 use mathlib.Core.Path.{sym, ap}
-use Rattle.files.specs.File.{fileSays}
-use Rattle.export_files.specs.Answers.{fileAnswer}
+use Rattle.files.specs.File.{file_says}
+use Rattle.export_files.specs.Answers.{file_answer}
 use Rattle.export_files.proofs.answers.of_file.Statement.{statement}
 use Rattle.export_files.proofs.answers.of_file.Tie as tie
 
@@ -20,15 +20,15 @@ place-requires c κs = search rules
 
 returns : tie.Need-returns
 returns c =
-    ap (λ a. fileAnswer (fileSays a)) (sym c.before.checked.given.1)
+    ap (λ a. file_answer (file_says a)) (sym c.before.checked.given.1)
 
-returns-2 : tie.Need-returns-2
-returns-2 c =
+returns_2 : tie.Need-returns-2
+returns_2 c =
     let arm = sym c.before.before.before.checked2.given.1 in
-    rw (c.before.number.ensures, c.place.ensures) (ap (λ a. fileAnswer (fileSays a)) arm)
+    rw (c.before.number.ensures, c.place.ensures) (ap (λ a. file_answer (file_says a)) arm)
 
-pub of-file-spec : {M : Type 1} → statement M
-of-file-spec =
+pub of_file_spec : {M : Type 1} → statement M
+of_file_spec =
     tie.close
     (tie.spec
     enum-known-checked
@@ -36,4 +36,4 @@ of-file-spec =
     number-requires
     place-requires
     returns
-    returns-2)
+    returns_2)

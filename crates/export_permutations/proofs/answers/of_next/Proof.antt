@@ -1,8 +1,8 @@
 -- `answers::of_next` meets its contract, an arm for each variant.
 use borrow.Author.Rules.{rules}
 use mathlib.Core.Path.{sym, ap}
-use Rattle.permutations.specs.Next.{nextSays}
-use Rattle.export_permutations.specs.Answers.{nextAnswer}
+use Rattle.permutations.specs.Next.{next_says}
+use Rattle.export_permutations.specs.Answers.{next_answer}
 use Rattle.export_permutations.proofs.answers.of_next.Statement.{statement}
 use Rattle.export_permutations.proofs.answers.of_next.Tie as tie
 
@@ -19,12 +19,12 @@ place-requires : tie.Need-place-requires
 place-requires c κs = search rules
 
 returns : tie.Need-returns
-returns c = ap (λ a. nextAnswer (nextSays a)) (sym c.before.next.given.1)
+returns c = ap (λ a. next_answer (next_says a)) (sym c.before.next.given.1)
 
-returns-2 : tie.Need-returns-2
-returns-2 c =
+returns_2 : tie.Need-returns-2
+returns_2 c =
     let arm = sym c.before.before.before.next2.given.1 in
-    rw (c.before.number.ensures, c.place.ensures) (ap (λ a. nextAnswer (nextSays a)) arm)
+    rw (c.before.number.ensures, c.place.ensures) (ap (λ a. next_answer (next_says a)) arm)
 
-pub of-next-spec : {M : Type 1} → statement M
-of-next-spec = tie.close (tie.spec enum-known-next enum-known-next-2 number-requires place-requires returns returns-2)
+pub of_next_spec : {M : Type 1} → statement M
+of_next_spec = tie.close (tie.spec enum-known-next enum-known-next-2 number-requires place-requires returns returns_2)

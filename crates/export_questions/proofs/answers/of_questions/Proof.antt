@@ -1,8 +1,8 @@
 -- `answers::of_questions` meets its contract, an arm for each variant.
 use borrow.Author.Rules.{rules}
 use mathlib.Core.Path.{sym, ap}
-use Rattle.questions.specs.Questions.{answeredSays}
-use Rattle.export_questions.specs.Answers.{questionsAnswer}
+use Rattle.questions.specs.Questions.{answered_says}
+use Rattle.export_questions.specs.Answers.{questions_answer}
 use Rattle.export_questions.proofs.answers.of_questions.Statement.{statement}
 use Rattle.export_questions.proofs.answers.of_questions.Tie as tie
 
@@ -25,18 +25,18 @@ cast-t9 : tie.Need-overflow-cast-t9
 cast-t9 c = search rules
 
 returns : tie.Need-returns
-returns c = ap (λ a. questionsAnswer (answeredSays a)) (sym c.before.answered.given.1)
+returns c = ap (λ a. questions_answer (answered_says a)) (sym c.before.answered.given.1)
 
-returns-2 : tie.Need-returns-2
-returns-2 c = ap (λ a. questionsAnswer (answeredSays a)) (sym c.before.answered2.given.1)
+returns_2 : tie.Need-returns-2
+returns_2 c = ap (λ a. questions_answer (answered_says a)) (sym c.before.answered2.given.1)
 
 returns-3 : tie.Need-returns-3
 returns-3 c =
     let arm = sym c.before.before.before.answered3.given.1 in
-    rw (c.before.number.ensures, c.place.ensures) (ap (λ a. questionsAnswer (answeredSays a)) arm)
+    rw (c.before.number.ensures, c.place.ensures) (ap (λ a. questions_answer (answered_says a)) arm)
 
-pub of-questions-spec : {M : Type 1} → statement M
-of-questions-spec =
+pub of_questions_spec : {M : Type 1} → statement M
+of_questions_spec =
     tie.close
     (tie.spec enum-known-answered enum-known-answered-2 enum-known-answered-3 number-requires place-requires cast-t9
-    returns returns-2 returns-3)
+    returns returns_2 returns-3)

@@ -1,8 +1,8 @@
 -- `answers::of_under` meets its contract, an arm for each variant.
 use borrow.Author.Rules.{rules}
 use mathlib.Core.Path.{sym, ap}
-use Rattle.weights.specs.Under.{stretchedSays}
-use Rattle.export_under.specs.Answers.{underAnswer}
+use Rattle.weights.specs.Under.{stretched_says}
+use Rattle.export_under.specs.Answers.{under_answer}
 use Rattle.export_under.proofs.answers.of_under.Statement.{statement}
 use Rattle.export_under.proofs.answers.of_under.Tie as tie
 
@@ -20,15 +20,15 @@ place-requires c κs = search rules
 
 returns : tie.Need-returns
 returns c =
-    ap (λ a. underAnswer (stretchedSays a)) (sym c.before.stretched.given.1)
+    ap (λ a. under_answer (stretched_says a)) (sym c.before.stretched.given.1)
 
-returns-2 : tie.Need-returns-2
-returns-2 c =
+returns_2 : tie.Need-returns-2
+returns_2 c =
     let arm = sym c.before.before.before.stretched2.given.1 in
-    rw (c.before.number.ensures, c.place.ensures) (ap (λ a. underAnswer (stretchedSays a)) arm)
+    rw (c.before.number.ensures, c.place.ensures) (ap (λ a. under_answer (stretched_says a)) arm)
 
-pub of-under-spec : {M : Type 1} → statement M
-of-under-spec =
+pub of_under_spec : {M : Type 1} → statement M
+of_under_spec =
     tie.close
     (tie.spec
     enum-known-stretched
@@ -36,4 +36,4 @@ of-under-spec =
     number-requires
     place-requires
     returns
-    returns-2)
+    returns_2)

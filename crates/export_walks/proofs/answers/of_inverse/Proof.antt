@@ -1,8 +1,8 @@
 -- `answers::of_inverse` meets its contract, an arm for each variant.
 use borrow.Author.Rules.{rules}
 use mathlib.Core.Path.{sym, ap}
-use Rattle.preimages.specs.Inverse.{invertedSays}
-use Rattle.export_walks.specs.Answers.{inverseAnswer}
+use Rattle.preimages.specs.Inverse.{inverted_says}
+use Rattle.export_walks.specs.Answers.{inverse_answer}
 use Rattle.export_walks.proofs.answers.of_inverse.Statement.{statement}
 use Rattle.export_walks.proofs.answers.of_inverse.Tie as tie
 
@@ -20,15 +20,15 @@ place-requires c κs = search rules
 
 returns : tie.Need-returns
 returns c =
-    ap (λ a. inverseAnswer (invertedSays a)) (sym c.before.inverted.given.1)
+    ap (λ a. inverse_answer (inverted_says a)) (sym c.before.inverted.given.1)
 
-returns-2 : tie.Need-returns-2
-returns-2 c =
+returns_2 : tie.Need-returns-2
+returns_2 c =
     let arm = sym c.before.before.before.inverted2.given.1 in
-    rw (c.before.number.ensures, c.place.ensures) (ap (λ a. inverseAnswer (invertedSays a)) arm)
+    rw (c.before.number.ensures, c.place.ensures) (ap (λ a. inverse_answer (inverted_says a)) arm)
 
-pub of-inverse-spec : {M : Type 1} → statement M
-of-inverse-spec =
+pub of_inverse_spec : {M : Type 1} → statement M
+of_inverse_spec =
     tie.close
     (tie.spec
     enum-known-inverted
@@ -36,4 +36,4 @@ of-inverse-spec =
     number-requires
     place-requires
     returns
-    returns-2)
+    returns_2)

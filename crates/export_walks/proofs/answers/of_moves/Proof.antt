@@ -1,8 +1,8 @@
 -- `answers::of_moves` meets its contract, an arm for each variant.
 use borrow.Author.Rules.{rules}
 use mathlib.Core.Path.{sym, ap}
-use Rattle.walks.specs.Move.{movedSays}
-use Rattle.export_walks.specs.Answers.{movesAnswer}
+use Rattle.walks.specs.Move.{moved_says}
+use Rattle.export_walks.specs.Answers.{moves_answer}
 use Rattle.export_walks.proofs.answers.of_moves.Statement.{statement}
 use Rattle.export_walks.proofs.answers.of_moves.Tie as tie
 
@@ -20,14 +20,14 @@ place-requires c κs = search rules
 
 returns : tie.Need-returns
 returns c =
-    ap (λ a. movesAnswer (movedSays a)) (sym c.before.moved.given.1)
+    ap (λ a. moves_answer (moved_says a)) (sym c.before.moved.given.1)
 
-returns-2 : tie.Need-returns-2
-returns-2 c =
+returns_2 : tie.Need-returns-2
+returns_2 c =
     let arm = sym c.before.before.before.moved2.given.1 in
-    rw (c.before.number.ensures, c.place.ensures) (ap (λ a. movesAnswer (movedSays a)) arm)
+    rw (c.before.number.ensures, c.place.ensures) (ap (λ a. moves_answer (moved_says a)) arm)
 
-pub of-moves-spec : {M : Type 1} → statement M
-of-moves-spec =
+pub of_moves_spec : {M : Type 1} → statement M
+of_moves_spec =
     tie.close
-    (tie.spec enum-known-moved enum-known-moved-2 number-requires place-requires returns returns-2)
+    (tie.spec enum-known-moved enum-known-moved-2 number-requires place-requires returns returns_2)

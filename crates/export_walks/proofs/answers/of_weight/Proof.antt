@@ -1,8 +1,8 @@
 -- `answers::of_weight` meets its contract, an arm for each variant.
 use borrow.Author.Rules.{rules}
 use mathlib.Core.Path.{sym, ap}
-use Rattle.weights.specs.Under.{weighedSays}
-use Rattle.export_walks.specs.Answers.{weightAnswer}
+use Rattle.weights.specs.Under.{weighed_says}
+use Rattle.export_walks.specs.Answers.{weight_answer}
 use Rattle.export_walks.proofs.answers.of_weight.Statement.{statement}
 use Rattle.export_walks.proofs.answers.of_weight.Tie as tie
 
@@ -20,15 +20,15 @@ place-requires c κs = search rules
 
 returns : tie.Need-returns
 returns c =
-    ap (λ a. weightAnswer (weighedSays a)) (sym c.before.weighed.given.1)
+    ap (λ a. weight_answer (weighed_says a)) (sym c.before.weighed.given.1)
 
-returns-2 : tie.Need-returns-2
-returns-2 c =
+returns_2 : tie.Need-returns-2
+returns_2 c =
     let arm = sym c.before.before.before.weighed2.given.1 in
-    rw (c.before.number.ensures, c.place.ensures) (ap (λ a. weightAnswer (weighedSays a)) arm)
+    rw (c.before.number.ensures, c.place.ensures) (ap (λ a. weight_answer (weighed_says a)) arm)
 
-pub of-weight-spec : {M : Type 1} → statement M
-of-weight-spec =
+pub of_weight_spec : {M : Type 1} → statement M
+of_weight_spec =
     tie.close
     (tie.spec
     enum-known-weighed
@@ -36,4 +36,4 @@ of-weight-spec =
     number-requires
     place-requires
     returns
-    returns-2)
+    returns_2)

@@ -4,15 +4,15 @@ use mathlib.Core.Path.{◌≡◌, refl, sym, ◌∙◌}
 use native.Mathlib.Omega.{arith}
 use borrow.Author.Rules.{rules}
 use lib.ListN.{length, length-set}
-use Rattle.order.proofs.Filling.{Filling, filling-none, filling-next}
-use Rattle.files.specs.Words.{wordsFrom}
-use Rattle.files.proofs.Reading.{from-length, from_at, filling-whole}
+use Rattle.order.proofs.Filling.{Filling, filling_none, filling_next}
+use Rattle.files.specs.Words.{words_from}
+use Rattle.files.proofs.Reading.{from_length, from_at_lem, filling_whole}
 use Rattle.files.proofs.words.read_words.Statement.{statement}
 use Rattle.files.proofs.words.read_words.Tie as tie
 
 abbrev invariant-loop : tie.invariant-loop
 invariant-loop bytes first to₀ i₀ to i =
-    Filling (wordsFrom bytes first (length to₀)) to₀ to i × (length to ≡ length to₀) × (i ≤ length to₀)
+    Filling (words_from bytes first (length to₀)) to₀ to i × (length to ≡ length to₀) × (i ≤ length to₀)
 
 abbrev decreases-loop : tie.decreases-loop
 decreases-loop bytes first to₀ i₀ to i = length to₀ - i
@@ -20,8 +20,8 @@ decreases-loop bytes first to₀ i₀ to i = length to₀ - i
 loop-holds : tie.Need-loop-init invariant-loop decreases-loop
 loop-holds c =
     let a = c.before.before.args in
-    let e = from-length a.bytes.now a.first (length a.to.now) (omega arith) in
-    (filling-none _ _ (omega arith), refl, omega arith)
+    let e = from_length a.bytes.now a.first (length a.to.now) (omega arith) in
+    (filling_none _ _ (omega arith), refl, omega arith)
 
 add-word : tie.Need-overflow-add-word invariant-loop decreases-loop
 add-word c = search rules
@@ -46,9 +46,9 @@ loop-again c =
     let l = c.before.before.loop in
     let a = c.before.before.before.before.before.args in
     let k = length a.to.now in
-    let e = from-length a.bytes.now a.first k (omega arith) in
-    let v = from_at a.bytes.now a.first k (omega arith) l.i (omega arith) in
-    (filling-next _ _ _ _ l.invariant.0 (omega arith) _ (c.word.ensures ∙ sym v), simp length-set l.invariant.1, omega arith)
+    let e = from_length a.bytes.now a.first k (omega arith) in
+    let v = from_at_lem a.bytes.now a.first k (omega arith) l.i (omega arith) in
+    (filling_next _ _ _ _ l.invariant.0 (omega arith) _ (c.word.ensures ∙ sym v), simp length-set l.invariant.1, omega arith)
 
 same_length : tie.Need-same-length invariant-loop decreases-loop
 same_length c = search rules
@@ -57,11 +57,11 @@ returns : tie.Need-returns invariant-loop decreases-loop
 returns c =
     let l = c.before.loop in
     let a = c.before.before.before.before.args in
-    let e = from-length a.bytes.now a.first (length a.to.now) (omega arith) in
-    filling-whole _ a.to.now l.to l.i l.invariant.0 (omega arith) e
+    let e = from_length a.bytes.now a.first (length a.to.now) (omega arith) in
+    filling_whole _ a.to.now l.to l.i l.invariant.0 (omega arith) e
 
-pub read-words-spec : {M : Type 1} → statement M
-read-words-spec =
+pub read_words_spec : {M : Type 1} → statement M
+read_words_spec =
     tie.close
     (tie.spec
     invariant-loop

@@ -69,8 +69,8 @@ returns c =
     rw (w₁.wide.ensures.0, w₂.wide2.ensures.0, w₃.wide3.ensures.0, c.wide4.ensures.0)
     (sym (word_at a.bytes.now a.i (omega arith)))
 
-pub word-spec : {M : Type 1} → statement M
-word-spec =
+pub word_spec : {M : Type 1} → statement M
+word_spec =
     tie.close
     (tie.spec
     mul_at

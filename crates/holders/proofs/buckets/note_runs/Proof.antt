@@ -3,9 +3,9 @@ use Prim.Native.Nat.{◌-◌, ◌≤◌, ◌<◌}
 use mathlib.Core.Path.{◌≡◌, refl, subst, ◌∙◌}
 use native.Mathlib.Omega.{arith}
 use lib.ListN.{length, get_or, length-set}
-use Rattle.holders.specs.Buckets.{bucketOf}
+use Rattle.holders.specs.Buckets.{bucket_of}
 use Rattle.holders.specs.Parts.{Noted}
-use Rattle.holders.proofs.Noting.{noted-none, noted-next}
+use Rattle.holders.proofs.Noting.{noted_none, noted_next}
 use Rattle.holders.proofs.buckets.note_runs.Statement.{statement}
 use Rattle.holders.proofs.buckets.note_runs.Tie as tie
 
@@ -29,7 +29,7 @@ long e = e.loop.invariant.1 ∙ e.before.before.before.clear.auto.0
 
 -- the start's bucket has an entry
 bucketed : (e : tie.In-loop invariant-loop decreases-loop) → let a = (start e.before.before).args in
-    bucketOf a.scale (get_or a.starts.now e.before.loop.x 0) < length a.tops.now
+    bucket_of a.scale (get_or a.starts.now e.before.loop.x 0) < length a.tops.now
 bucketed e = (start e.before.before).pre.3 e.before.loop.x e.loop-test.true
 
 inside : (c : tie.After-bucket-of invariant-loop decreases-loop) → c.bucket-of.result < length (at c).loop.tops
@@ -40,7 +40,7 @@ clear-requires c κs = omega arith
 
 loop-holds : tie.Need-loop-init invariant-loop decreases-loop
 loop-holds c = let a = start c in
-    (omega arith, refl, noted-none _ _ _ a.args.tops.now _ a.pre.0 c.before.before.clear.ensures)
+    (omega arith, refl, noted_none _ _ _ a.args.tops.now _ a.pre.0 c.before.before.clear.ensures)
 
 mul-bucket-of : tie.Need-overflow-mul-bucket-of invariant-loop decreases-loop
 mul-bucket-of c = omega arith
@@ -70,7 +70,7 @@ loop-again : tie.Need-loop-preserved invariant-loop decreases-loop
 loop-again c =
     let l = (at c).loop in
     let more = c.before.before.loop-test.true in
-    let noted = noted-next _ _ _ l.tops l.x _ l.inv.2 more c.bucket-of.ensures (inside c) in
+    let noted = noted_next _ _ _ l.tops l.x _ l.inv.2 more c.bucket-of.ensures (inside c) in
     (omega arith, length-set l.tops _ _ ∙ l.inv.1, noted)
 
 same_length : tie.Need-same-length invariant-loop decreases-loop
@@ -83,8 +83,8 @@ returns c =
     let e : l.x ≡ k = omega (arith, l.invariant.0) in
     subst (Noted k _ _ l.tops) e l.invariant.2
 
-pub note-runs-spec : {M : Type 1} → statement M
-note-runs-spec =
+pub note_runs_spec : {M : Type 1} → statement M
+note_runs_spec =
     tie.close
     (tie.spec
     invariant-loop

@@ -1,8 +1,8 @@
--- `note_tops` meets its contract: `tops-noted`.
+-- `note_tops` meets its contract: `tops_noted`.
 use borrow.Author.Rules.{rules}
 use mathlib.Core.Path.{◌∙◌}
 use native.Mathlib.Omega.{arith}
-use Rattle.holders.proofs.Noting.{tops-noted}
+use Rattle.holders.proofs.Noting.{tops_noted}
 use Rattle.holders.proofs.buckets.note_tops.Statement.{statement}
 use Rattle.holders.proofs.buckets.note_tops.Tie as tie
 
@@ -33,8 +33,8 @@ returns c =
     let w = noted c in
     let s = w.before.before in
     let r = c.before.before.raise in
-    tops-noted _ _ _ _ _ (start s).pre.some (w.note-runs.kept.1.1.0 ∙ (start s).pre.fits) r.auto.0 s.scale_of.ensures
+    tops_noted _ _ _ _ _ (start s).pre.some (w.note-runs.kept.1.1.0 ∙ (start s).pre.fits) r.auto.0 s.scale_of.ensures
     w.note-runs.ensures r.ensures
 
-pub note-tops-spec : {M : Type 1} → statement M
-note-tops-spec = tie.close (tie.spec scale-of-requires note-runs-requires raise-requires same_length returns)
+pub note_tops_spec : {M : Type 1} → statement M
+note_tops_spec = tie.close (tie.spec scale-of-requires note-runs-requires raise-requires same_length returns)

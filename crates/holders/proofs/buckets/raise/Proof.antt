@@ -3,7 +3,7 @@ use Prim.Native.Nat.{◌-◌}
 use native.Mathlib.Omega.{arith}
 use borrow.Author.Rules.{rules}
 use lib.ListN.{length}
-use Rattle.holders.proofs.Noting.{Raising, raising-none, raising-next, raising-end}
+use Rattle.holders.proofs.Noting.{Raising, raising_none, raising_next, raising_end}
 use Rattle.holders.proofs.buckets.raise.Statement.{statement}
 use Rattle.holders.proofs.buckets.raise.Tie as tie
 
@@ -14,7 +14,7 @@ abbrev decreases-loop : tie.decreases-loop
 decreases-loop tops₀ most₀ b₀ tops most b = length tops₀ - b
 
 loop-holds : tie.Need-loop-init invariant-loop decreases-loop
-loop-holds c = raising-none _
+loop-holds c = raising_none _
 
 mul-larger : tie.Need-overflow-mul-larger invariant-loop decreases-loop
 mul-larger c = omega arith
@@ -41,16 +41,16 @@ loop-again : tie.Need-loop-preserved invariant-loop decreases-loop
 loop-again c =
     let e = c.before.before in
     let p = c.larger.ensures in
-    raising-next _ _ _ _ e.before.loop.invariant _ e.loop-test.true p.0 p.1 p.2
+    raising_next _ _ _ _ e.before.loop.invariant _ e.loop-test.true p.0 p.1 p.2
 
 same_length : tie.Need-same-length invariant-loop decreases-loop
 same_length c = c.before.loop.invariant.long
 
 returns : tie.Need-returns invariant-loop decreases-loop
-returns c = raising-end _ _ _ _ c.before.loop.invariant (omega arith)
+returns c = raising_end _ _ _ _ c.before.loop.invariant (omega arith)
 
-pub raise-spec : {M : Type 1} → statement M
-raise-spec =
+pub raise_spec : {M : Type 1} → statement M
+raise_spec =
     tie.close
     (tie.spec
     invariant-loop

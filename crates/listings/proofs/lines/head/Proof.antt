@@ -1,24 +1,24 @@
 -- `head` meets its contract: two numbers, and then two more.
 use Rattle.text.specs.Page.{Fits}
-use Rattle.text.specs.Text.{pairText}
+use Rattle.text.specs.Text.{pair_text}
 use mathlib.Core.List.{◌++◌}
-use Rattle.text.proofs.Writing.{fits-first, fits-second, wrote-both}
-use Rattle.listings.proofs.Lengths.{head-parts}
+use Rattle.text.proofs.Writing.{fits_first, fits_second, wrote_both}
+use Rattle.listings.proofs.Lengths.{head_parts}
 use borrow.Author.Rules.{rules}
 use Rattle.listings.proofs.lines.head.Statement.{statement}
 use Rattle.listings.proofs.lines.head.Tie as tie
 
 -- room for both pairs
-fit : (c : tie.Start) → Fits c.args.page.now c.args.at (pairText c.args.n c.args.k 32 ++ pairText c.args.d c.args.size 10)
-fit c = rw head-parts at c.requires
+fit : (c : tie.Start) → Fits c.args.page.now c.args.at (pair_text c.args.n c.args.k 32 ++ pair_text c.args.d c.args.size 10)
+fit c = rw head_parts at c.requires
 
 pair-requires : tie.Need-pair-requires
-pair-requires c κs = fits-first _ _ _ _ (fit c.before.before)
+pair-requires c κs = fits_first _ _ _ _ (fit c.before.before)
 
 pair-requires-2 : tie.Need-pair-requires-2
 pair-requires-2 c κs =
     let p = c.before.before.before in
-    fits-second _ _ _ _ (fit p.before.before.before) _ _ p.pair.ensures
+    fits_second _ _ _ _ (fit p.before.before.before) _ _ p.pair.ensures
 
 same_length : tie.Need-same-length
 same_length c = search rules
@@ -27,7 +27,7 @@ returns : tie.Need-returns
 returns c =
     let q = c.before.before in
     let p = q.before.before.before.before in
-    rw head-parts (wrote-both _ _ _ _ (fit p.before.before.before) _ _ p.pair.ensures _ _ q.pair2.ensures)
+    rw head_parts (wrote_both _ _ _ _ (fit p.before.before.before) _ _ p.pair.ensures _ _ q.pair2.ensures)
 
 pub head_spec : {M : Type 1} → statement M
 head_spec = tie.close (tie.spec pair-requires pair-requires-2 same_length returns)

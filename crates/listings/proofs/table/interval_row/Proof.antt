@@ -5,7 +5,7 @@ use mathlib.Core.List.{List}
 use native.Mathlib.Omega.{arith}
 use Rattle.tables.specs.Tables.{Tables, tables}
 use Rattle.text.specs.Page.{Fits, Wrote}
-use Rattle.listings.proofs.Intervals.{bits_small, row-bits, holders-long}
+use Rattle.listings.proofs.Intervals.{bits_small, row_bits, holders_long}
 use borrow.Author.Rules.{rules}
 use Rattle.listings.proofs.table.interval_row.Statement.{statement}
 use Rattle.listings.proofs.table.interval_row.Tie as tie
@@ -41,7 +41,7 @@ mul-row c = search rules
 shared-slice-read-row : tie.Need-shared-slice-read-row
 shared-slice-read-row c =
     let a = start c.before.before.before in
-    omega (arith, holders-long a.args.n (tables-of a) a.pre.0 a.args.x a.pre.1)
+    omega (arith, holders_long a.args.n (tables-of a) a.pre.0 a.args.x a.pre.1)
 
 row-requires : tie.Need-row-requires
 row-requires c κs =
@@ -49,7 +49,7 @@ row-requires c κs =
     let w = s.before.before in
     let a = start w in
     let t = tables-of a in
-    let e = row-bits _ t a.pre.0 _ a.pre.1 a.fits.n.fits _ (record { sfits = s.shift.type-inv })
+    let e = row_bits _ t a.pre.0 _ a.pre.1 a.fits.n.fits _ (record { sfits = s.shift.type-inv })
     s.shift.ensures _ w.weight-of.ensures in (
       bits_small _ t a.pre.0 _ a.pre.1 a.fits.n.fits _ (record { sfits = s.shift.type-inv }) s.shift.ensures,
       subst (λ (u : List ℕ). Fits a.args.page.now a.args.at u) (sym e) a.pre.2,
@@ -65,12 +65,12 @@ returns c =
     let s = k.before in
     let w = s.before.before in
     let a = start w in
-    let e = row-bits _ (tables-of a) a.pre.0 _ a.pre.1 a.fits.n.fits _ (record { sfits = s.shift.type-inv })
+    let e = row_bits _ (tables-of a) a.pre.0 _ a.pre.1 a.fits.n.fits _ (record { sfits = s.shift.type-inv })
     s.shift.ensures _ w.weight-of.ensures in
     subst (λ (u : List ℕ). Wrote a.args.page.now a.args.at u r.row.new.0 r.row.result) e r.row.ensures
 
-pub interval-row-spec : {M : Type 1} → statement M
-interval-row-spec =
+pub interval_row_spec : {M : Type 1} → statement M
+interval_row_spec =
     tie.close
     (tie.spec
     mul-start

@@ -62,8 +62,8 @@ returns c =
     let e : l.loop.x ≡ length a.args.starts.now = omega (arith, l.loop.invariant.0.within) in
     rw e at l.loop.invariant.0.wrote
 
-pub rows-spec : {M : Type 1} → statement M
-rows-spec =
+pub rows_spec : {M : Type 1} → statement M
+rows_spec =
     tie.close
     (tie.spec
     invariant-loop

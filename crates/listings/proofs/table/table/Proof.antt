@@ -6,14 +6,14 @@ use native.Mathlib.Omega.{arith}
 use lib.ListN.{length, take, length-append}
 use lib.Seq.{length-take-le}
 use Rattle.order.specs.Lists.{up_to}
-use Rattle.tables.specs.Tables.{Tables, tables, size_of, eachColumn}
+use Rattle.tables.specs.Tables.{Tables, tables, size_of, each_column}
 use Rattle.text.specs.Text.{texts}
 use Rattle.text.specs.Page.{Wrote}
-use Rattle.text.proofs.Writing.{wrote-both}
-use Rattle.listings.specs.Listing.{headText, row_of}
-use Rattle.listings.specs.Parts.{maxHead}
-use Rattle.listings.proofs.Lengths.{head-length}
-use Rattle.listings.proofs.Rows.{texts-most}
+use Rattle.text.proofs.Writing.{wrote_both}
+use Rattle.listings.specs.Listing.{head_text, row_of}
+use Rattle.listings.specs.Parts.{max_head}
+use Rattle.listings.proofs.Lengths.{head_length}
+use Rattle.listings.proofs.Rows.{texts_most}
 use borrow.Author.Rules.{rules}
 use Rattle.listings.proofs.table.table.Statement.{statement}
 use Rattle.listings.proofs.table.table.Tie as tie
@@ -21,7 +21,7 @@ use Rattle.listings.proofs.table.table.Tie as tie
 -- the tables that are listed, and how many intervals they have
 abbrev listed : tie.Start → Tables
 listed c =
-    eachColumn (take c.args.size)
+    each_column (take c.args.size)
     (tables c.args.starts.now c.args.images.now c.args.holders.now c.args.lengths.now)
 
 counted : (c : tie.Start) → size_of (listed c).links ≡ c.args.size
@@ -29,11 +29,11 @@ counted c = length-take-le _ _ c.requires.0.long.0
 
 -- the first line, where there are z of them
 abbrev head_of : tie.Start → ℕ → List ℕ
-head_of c z = headText c.args.h.n c.args.h.k c.args.h.d z
+head_of c z = head_text c.args.h.n c.args.h.k c.args.h.d z
 
-head-most : (c : tie.Start) → length (head_of c c.args.size) ≤ maxHead
-head-most c =
-    head-length c.args.h.n c.args.h.k c.args.h.d c.args.size
+head_most : (c : tie.Start) → length (head_of c c.args.size) ≤ max_head
+head_most c =
+    head_length c.args.h.n c.args.h.k c.args.h.d c.args.size
     (omega (arith, c)) (omega (arith, c)) (omega (arith, c)) (omega (arith, c))
 
 -- the places: the call, and after the first line is written
@@ -43,9 +43,9 @@ start c = c.before.before.before.before.before.before.before
 abbrev headed : tie.After-rows-arg2 → tie.After-head
 headed c = c.before.before.before.before
 
-head-wrote : (c : tie.After-head) → let a = start c in
+head_wrote : (c : tie.After-head) → let a = start c in
     Wrote a.args.page.now 0 (head_of a (size_of (listed a).links)) c.head.new.0 c.head.result
-head-wrote c =
+head_wrote c =
     let a = start c in
     subst (λ (z : ℕ). Wrote a.args.page.now 0 (head_of a z) c.head.new.0 c.head.result)
     (sym (counted a)) c.head.ensures
@@ -53,7 +53,7 @@ head-wrote c =
 head-requires : tie.Need-head-requires
 head-requires c κs =
     let a = c.before.before.before.before.before.before in
-    record { room = omega (arith, head-most a, a.requires.1) }
+    record { room = omega (arith, head_most a, a.requires.1) }
 
 slice-aggregate-rows : tie.Need-slice-aggregate-rows
 slice-aggregate-rows c = sym (length-take-le _ _ (start (headed c)).requires.0.long.0)
@@ -71,7 +71,7 @@ rows-requires : tie.Need-rows-requires
 rows-requires c κs =
     let d = headed c.before.before.before in
     let a = start d in
-    (a.pre.0.listed, omega (arith, d.head.kept.0, d.head.ensures.till, head-most a, a.pre.0.listed.few, a.pre.1))
+    (a.pre.0.listed, omega (arith, d.head.kept.0, d.head.ensures.till, head_most a, a.pre.0.listed.few, a.pre.1))
 
 same_length : tie.Need-same-length
 same_length c = search rules
@@ -82,14 +82,14 @@ returns c =
     let d = headed r.before.before.before.before in
     let a = start d in
     let k = size_of (listed a).links in
-    let x = texts-most a.args.h.n (listed a) a.pre.0.listed (omega (arith, a)) k (omega arith) in
+    let x = texts_most a.args.h.n (listed a) a.pre.0.listed (omega (arith, a)) k (omega arith) in
     let y = length-append (head_of a k) (texts (row_of a.args.h.n (listed a).links.list) (up_to k)) in
-    wrote-both _ _ _ _
-    (record { room = omega (arith, y, (head-wrote d).till, d.head.ensures.till, head-most a, a.pre.0.listed.few, a.pre.1) })
-    _ _ (head-wrote d) _ _ r.rows.ensures
+    wrote_both _ _ _ _
+    (record { room = omega (arith, y, (head_wrote d).till, d.head.ensures.till, head_most a, a.pre.0.listed.few, a.pre.1) })
+    _ _ (head_wrote d) _ _ r.rows.ensures
 
-pub table-spec : {M : Type 1} → statement M
-table-spec =
+pub table_spec : {M : Type 1} → statement M
+table_spec =
     tie.close
     (tie.spec
     head-requires

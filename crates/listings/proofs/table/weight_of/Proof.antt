@@ -1,7 +1,7 @@
 -- `weight_of` meets its contract: the tables of a legal list give an interval's weight.
 use mathlib.Core.Path.{sym, ap, ◌∙◌}
 use Rattle.tables.specs.Tables.{Tables, tables}
-use Rattle.weights.specs.Under.{weighedSays}
+use Rattle.weights.specs.Under.{weighed_says}
 use Rattle.listings.proofs.Intervals.{weighed, unrefused}
 use borrow.Author.Rules.{rules}
 use Rattle.listings.proofs.table.weight_of.Statement.{statement}
@@ -23,13 +23,13 @@ returns : tie.Need-returns
 returns c =
     let a = c.before.before.before.before.before.before.before.before in
     weighed _ (tables-of a) a.requires.0 _ a.requires.1 _
-    (sym (ap weighedSays c.before.w.given.1) ∙ c.before.before.before.weight.ensures)
+    (sym (ap weighed_says c.before.w.given.1) ∙ c.before.before.before.weight.ensures)
 
-returns-2 : tie.Need-returns-2
-returns-2 c =
+returns_2 : tie.Need-returns-2
+returns_2 c =
     let a = c.before.before.before.before.before.before.before in
     unrefused _ (tables-of a) a.requires.0 _ a.requires.1 _ _
-    (sym (ap weighedSays c.enum_told.given.1) ∙ c.before.before.weight.ensures)
+    (sym (ap weighed_says c.enum_told.given.1) ∙ c.before.before.weight.ensures)
 
-pub weight-of-spec : {M : Type 1} → statement M
-weight-of-spec = tie.close (tie.spec weight-requires enum-known-w enum_told returns returns-2)
+pub weight_of_spec : {M : Type 1} → statement M
+weight_of_spec = tie.close (tie.spec weight-requires enum-known-w enum_told returns returns_2)

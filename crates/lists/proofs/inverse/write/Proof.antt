@@ -1,7 +1,7 @@
 -- `write` meets its contract: one law for each way to return, and the order by image serves both calls of `gather`.
 use native.Mathlib.Omega.{arith}
 use borrow.Author.Rules.{rules}
-use Rattle.lists.proofs.Writing.{ordered-gathers, starts-short, images-short, written}
+use Rattle.lists.proofs.Writing.{ordered_gathers, starts_short, images_short, written}
 use Rattle.lists.proofs.inverse.write.Statement.{statement}
 use Rattle.lists.proofs.inverse.write.Tie as tie
 
@@ -9,29 +9,29 @@ cast-t9 : tie.Need-overflow-cast-t9
 cast-t9 c = search rules
 
 returns : tie.Need-returns
-returns c = starts-short _ _ _ (omega arith)
+returns c = starts_short _ _ _ (omega arith)
 
 cast-t11 : tie.Need-overflow-cast-t11
 cast-t11 c = search rules
 
-returns-2 : tie.Need-returns-2
-returns-2 c = images-short _ _ _ (omega arith) (omega arith)
+returns_2 : tie.Need-returns-2
+returns_2 c = images_short _ _ _ (omega arith) (omega arith)
 
 gather-requires : tie.Need-gather-requires
 gather-requires c κs =
     let o = c.before.before.before.before.before.before.before.before.requires.0 in
-    ordered-gathers _ _ o _ _ (omega (arith, o.paired)) (omega arith)
+    ordered_gathers _ _ o _ _ (omega (arith, o.paired)) (omega arith)
 
 gather-requires-2 : tie.Need-gather-requires-2
 gather-requires-2 c κs =
     let o = c.before.before.before.before.before.before.before.before.before.before.before.before.requires.0 in
-    ordered-gathers _ _ o _ _ (omega (arith, o.paired)) (omega arith)
+    ordered_gathers _ _ o _ _ (omega (arith, o.paired)) (omega arith)
 
 same_length : tie.Need-same-length
 same_length c = search rules
 
-same-length-2 : tie.Need-same-length-2
-same-length-2 c = search rules
+same_length_2 : tie.Need-same-length-2
+same_length_2 c = search rules
 
 returns-3 : tie.Need-returns-3
 returns-3 c =
@@ -46,9 +46,9 @@ write_spec =
     cast-t9
     returns
     cast-t11
-    returns-2
+    returns_2
     gather-requires
     gather-requires-2
     same_length
-    same-length-2
+    same_length_2
     returns-3)

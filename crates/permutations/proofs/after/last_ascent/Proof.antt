@@ -3,19 +3,19 @@ use Prim.Native.Nat.{◌<◌}
 use mathlib.Core.Path.{◌≡◌, refl, sym, ◌∙◌}
 use lib.ListN.{length}
 use native.Mathlib.Omega.{arith}
-use Rattle.permutations.specs.Next.{lastAscent, ascentOf}
-use Rattle.permutations.proofs.Ascents.{ascent-end, ascent-hit, ascent-miss}
+use Rattle.permutations.specs.Next.{last_ascent, ascent_of}
+use Rattle.permutations.proofs.Ascents.{ascent_end, ascent_hit, ascent_miss}
 use Rattle.permutations.proofs.after.last_ascent.Statement.{statement}
 use Rattle.permutations.proofs.after.last_ascent.Tie as tie
 
 abbrev invariant-loop : tie.invariant-loop
-invariant-loop values i₀ i = (i < length values) × (lastAscent values i ≡ ascentOf values)
+invariant-loop values i₀ i = (i < length values) × (last_ascent values i ≡ ascent_of values)
 
 abbrev decreases-loop : tie.decreases-loop
 decreases-loop values i₀ i = i
 
 returns : tie.Need-returns invariant-loop decreases-loop
-returns c = sym (ascent-end _ _ (omega arith))
+returns c = sym (ascent_end _ _ (omega arith))
 
 sub-i : tie.Need-overflow-sub-i invariant-loop decreases-loop
 sub-i c = omega arith
@@ -38,10 +38,10 @@ mul-if2-2 c = omega arith
 shared-slice-read-if2-2 : tie.Need-shared-slice-read-if2-2 invariant-loop decreases-loop
 shared-slice-read-if2-2 c = omega arith
 
-returns-2 : tie.Need-returns-2 invariant-loop decreases-loop
-returns-2 c =
+returns_2 : tie.Need-returns-2 invariant-loop decreases-loop
+returns_2 c =
     let q = c.before.before.before.before.loop in
-    sym (ascent-hit _ q.i (omega arith) (omega arith)) ∙ q.invariant.1
+    sym (ascent_hit _ q.i (omega arith) (omega arith)) ∙ q.invariant.1
 
 sub-i-2 : tie.Need-overflow-sub-i-2 invariant-loop decreases-loop
 sub-i-2 c = omega arith
@@ -52,13 +52,13 @@ loop-less c = omega arith
 loop-again : tie.Need-loop-preserved invariant-loop decreases-loop
 loop-again c =
     let q = c.before.before.before.before.loop in
-    (omega arith, sym (ascent-miss _ q.i (omega arith) (omega arith)) ∙ q.invariant.1)
+    (omega arith, sym (ascent_miss _ q.i (omega arith) (omega arith)) ∙ q.invariant.1)
 
 returns-3 : tie.Need-returns-3 invariant-loop decreases-loop
-returns-3 c = let q = c.before.loop in sym (ascent-end _ q.i (omega arith)) ∙ q.invariant.1
+returns-3 c = let q = c.before.loop in sym (ascent_end _ q.i (omega arith)) ∙ q.invariant.1
 
-pub last-ascent-spec : {M : Type 1} → statement M
-last-ascent-spec =
+pub last_ascent_spec : {M : Type 1} → statement M
+last_ascent_spec =
     tie.close
     (tie.spec
     invariant-loop
@@ -71,7 +71,7 @@ last-ascent-spec =
     shared-slice-read-if2
     mul-if2-2
     shared-slice-read-if2-2
-    returns-2
+    returns_2
     sub-i-2
     loop-less
     loop-again

@@ -1,7 +1,7 @@
 -- `value_after` meets its contract: one law for each way to return.
 use mathlib.Core.Path.{sym}
 use native.Mathlib.Omega.{arith}
-use Rattle.permutations.proofs.Changing.{changed-kept, changed-before, changed-other, changed-turned}
+use Rattle.permutations.proofs.Changing.{changed_kept, changed_before, changed_other, changed_turned}
 use borrow.Author.Rules.{rules}
 use Rattle.permutations.proofs.after.value_after.Statement.{statement}
 use Rattle.permutations.proofs.after.value_after.Tie as tie
@@ -16,7 +16,7 @@ shared-slice-read-result : tie.Need-shared-slice-read-result
 shared-slice-read-result c = search rules
 
 returns : tie.Need-returns
-returns c = sym (changed-kept _ _ _ c.before.before.requires.0 _ (omega arith))
+returns c = sym (changed_kept _ _ _ c.before.before.requires.0 _ (omega arith))
 
 add-if2 : tie.Need-overflow-add-if2
 add-if2 c = search rules
@@ -27,8 +27,8 @@ mul-result-2 c = search rules
 shared-slice-read-result-2 : tie.Need-shared-slice-read-result-2
 shared-slice-read-result-2 c = search rules
 
-returns-2 : tie.Need-returns-2
-returns-2 c = sym (changed-before _ _ _ c.before.before.before.requires.0 _ (omega arith))
+returns_2 : tie.Need-returns-2
+returns_2 c = sym (changed_before _ _ _ c.before.before.before.requires.0 _ (omega arith))
 
 sub-mirrored : tie.Need-overflow-sub-mirrored
 sub-mirrored c = search rules
@@ -50,7 +50,7 @@ shared-slice-read-result-3 c = search rules
 
 returns-3 : tie.Need-returns-3
 returns-3 c =
-    sym (changed-other _ _ _ c.before.before.before.before.requires.0 _ (omega arith) (omega arith) (omega arith))
+    sym (changed_other _ _ _ c.before.before.before.before.requires.0 _ (omega arith) (omega arith) (omega arith))
 
 mul-result-4 : tie.Need-overflow-mul-result-4
 mul-result-4 c = search rules
@@ -60,10 +60,10 @@ shared-slice-read-result-4 c = search rules
 
 returns-4 : tie.Need-returns-4
 returns-4 c =
-    sym (changed-turned _ _ _ c.before.before.before.before.requires.0 _ (omega arith) (omega arith) (λ e. omega arith))
+    sym (changed_turned _ _ _ c.before.before.before.before.requires.0 _ (omega arith) (omega arith) (λ e. omega arith))
 
-pub value-after-spec : {M : Type 1} → statement M
-value-after-spec =
+pub value_after_spec : {M : Type 1} → statement M
+value_after_spec =
     tie.close
     (tie.spec
     add-if1
@@ -73,7 +73,7 @@ value-after-spec =
     add-if2
     mul-result-2
     shared-slice-read-result-2
-    returns-2
+    returns_2
     sub-mirrored
     sub-mirrored-2
     sub-mirrored-3

@@ -3,7 +3,7 @@ use Prim.Native.Nat.{◌-◌}
 use mathlib.Core.Path.{refl}
 use native.Mathlib.Omega.{arith}
 use Rattle.runs.specs.Runs.{runs}
-use Rattle.permutations.proofs.Placing.{Placing, placing-none, home-value, placing-next, placing-all}
+use Rattle.permutations.proofs.Placing.{Placing, placing_none, home_value, placing_next, placing_all}
 use Rattle.permutations.proofs.values.of_places.Statement.{statement}
 use Rattle.permutations.proofs.values.of_places.Tie as tie
 
@@ -14,7 +14,7 @@ abbrev decreases-loop : tie.decreases-loop
 decreases-loop n starts images values₀ x₀ p₀ values x p = n - p
 
 loop-holds : tie.Need-loop-init invariant-loop decreases-loop
-loop-holds c = placing-none _ _ c.before.before.requires _ refl
+loop-holds c = placing_none _ _ c.before.before.requires _ refl
 
 run-near-requires : tie.Need-run-near-requires invariant-loop decreases-loop
 run-near-requires c κs = c.before.loop.invariant.near (omega arith)
@@ -39,7 +39,7 @@ sub-values c = c.before.before.run-near.ensures.from
 add-values : tie.Need-overflow-add-values invariant-loop decreases-loop
 add-values c =
     let s = c.before.before.before.before.before.before.before.requires in
-    let v = home-value _ _ s _ _ (omega arith) c.before.before.run-near.ensures in
+    let v = home_value _ _ s _ _ (omega arith) c.before.before.run-near.ensures in
     omega (arith, v.0, v.1, s.few)
 
 cast-values : tie.Need-overflow-cast-values invariant-loop decreases-loop
@@ -60,13 +60,13 @@ loop-less c = omega arith
 loop-again : tie.Need-loop-preserved invariant-loop decreases-loop
 loop-again c =
     let q = c.before.before.before.before in
-    placing-next _ _ q.before.before.before.requires _ _ _ _ _ q.loop.invariant (omega arith) c.before.before.run-near.ensures
+    placing_next _ _ q.before.before.before.requires _ _ _ _ _ q.loop.invariant (omega arith) c.before.before.run-near.ensures
 
 returns : tie.Need-returns invariant-loop decreases-loop
-returns c = let q = c.before in placing-all _ _ q.before.before.before.requires _ _ _ _ q.loop.invariant (omega arith)
+returns c = let q = c.before in placing_all _ _ q.before.before.before.requires _ _ _ _ q.loop.invariant (omega arith)
 
-pub of-places-spec : {M : Type 1} → statement M
-of-places-spec =
+pub of_places_spec : {M : Type 1} → statement M
+of_places_spec =
     tie.close
     (tie.spec
     invariant-loop

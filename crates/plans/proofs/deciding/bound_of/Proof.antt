@@ -22,5 +22,5 @@ div-result c = search rules
 returns : tie.Need-returns
 returns c = (refl, le_trans (div-le_self (c.args.d * c.args.k) (c.args.d - 1)) (small c))
 
-pub bound-of-spec : {M : Type 1} → statement M
-bound-of-spec = tie.close (tie.spec mul-result sub-result div-result returns)
+pub bound_of_spec : {M : Type 1} → statement M
+bound_of_spec = tie.close (tie.spec mul-result sub-result div-result returns)

@@ -5,51 +5,51 @@ use mathlib.Core.Bool.{Bool, true, false, not}
 use native.Mathlib.Omega.{arith}
 use borrow.Author.Tests.{not-true, not-false}
 use Rattle.outcomes.specs.Outcome.{refused}
-use Rattle.outcomes.specs.Degree.{noDegree}
-use Rattle.outcomes.proofs.Degrees.{degree-in}
-use Rattle.plans.proofs.Outcomes.{sized-degree, sized-short, sized-done}
+use Rattle.outcomes.specs.Degree.{no_degree}
+use Rattle.outcomes.proofs.Degrees.{degree_in}
+use Rattle.plans.proofs.Outcomes.{sized_degree, sized_short, sized_done}
 use Rattle.plans.proofs.deciding.decide.Statement.{statement}
 use Rattle.plans.proofs.deciding.decide.Tie as tie
 
 -- what a test on an answer of `is_degree` says of the degree
-refused-by : {d r : Bool} → r ≡ not d → not r ≡ true → d ≡ true
-refused-by {d} {r} e f = not-false d (sym e ∙ not-true r f)
+refused_by : {d r : Bool} → r ≡ not d → not r ≡ true → d ≡ true
+refused_by {d} {r} e f = not-false d (sym e ∙ not-true r f)
 
-passed-by : {d r : Bool} → r ≡ not d → not r ≡ false → d ≡ false
-passed-by {d} {r} e f = not-true d (sym e ∙ not-false r f)
+passed_by : {d r : Bool} → r ≡ not d → not r ≡ false → d ≡ false
+passed_by {d} {r} e f = not-true d (sym e ∙ not-false r f)
 
 is-degree-requires : tie.Need-is-degree-requires
 is-degree-requires c κs = search rules
 
 returns : tie.Need-returns
-returns c = sym (sized-degree _ _ _ (refused-by c.before.is-degree.ensures c.if1.true))
+returns c = sym (sized_degree _ _ _ (refused_by c.before.is-degree.ensures c.if1.true))
 
 -- the degree passes
-passes : (c : tie.Else1) → noDegree c.before.before.args.d ≡ false
-passes c = passed-by c.before.is-degree.ensures c.if1.false
+passes : (c : tie.Else1) → no_degree c.before.before.args.d ≡ false
+passes c = passed_by c.before.is-degree.ensures c.if1.false
 
 bound-of-requires : tie.Need-bound-of-requires
-bound-of-requires c κs = let i = degree-in _ (passes c) in (i.0, i.1, c.before.before.requires)
+bound-of-requires c κs = let i = degree_in _ (passes c) in (i.0, i.1, c.before.before.requires)
 
 cast-t8 : tie.Need-overflow-cast-t8
 cast-t8 c = search rules
 
-returns-2 : tie.Need-returns-2
-returns-2 c =
+returns_2 : tie.Need-returns-2
+returns_2 c =
     let b = c.before.bound_of.ensures.0 in
-    ap (refused 8) b ∙ sym (sized-short _ _ _ (passes c.before.before) (omega (arith, b, c.if2.true)))
+    ap (refused 8) b ∙ sym (sized_short _ _ _ (passes c.before.before) (omega (arith, b, c.if2.true)))
 
 returns-3 : tie.Need-returns-3
 returns-3 c =
-    sym (sized-done _ _ _ (passes c.before.before) (omega (arith, c.before.bound_of.ensures.0, c.if2.false)))
+    sym (sized_done _ _ _ (passes c.before.before) (omega (arith, c.before.bound_of.ensures.0, c.if2.false)))
 
-pub decide-spec : {M : Type 1} → statement M
-decide-spec =
+pub decide_spec : {M : Type 1} → statement M
+decide_spec =
     tie.close
     (tie.spec
     is-degree-requires
     returns
     bound-of-requires
     cast-t8
-    returns-2
+    returns_2
     returns-3)

@@ -2,11 +2,11 @@
 use borrow.Author.Rules.{rules}
 use mathlib.Core.Path.{◌≡◌, sym, ap, ◌∙◌}
 use Rattle.outcomes.specs.Outcome.{done}
-use Rattle.outcomes.specs.Refusal.{checkedSays}
-use Rattle.runs.specs.Check.{checkOf}
+use Rattle.outcomes.specs.Refusal.{checked_says}
+use Rattle.runs.specs.Check.{check_of}
 use Rattle.runs.specs.Runs.{Runs, runs}
-use Rattle.runs.proofs.Accepted.{accepted-legal}
-use Rattle.plans.proofs.Outcomes.{planned-refused, planned-accepted, planned-passed}
+use Rattle.runs.proofs.Accepted.{accepted_legal}
+use Rattle.plans.proofs.Outcomes.{planned_refused, planned_accepted, planned_passed}
 use Rattle.plans.proofs.deciding.decide_list.Statement.{statement}
 use Rattle.plans.proofs.deciding.decide_list.Tie as tie
 
@@ -22,8 +22,8 @@ list_of a = runs a.args.starts.now a.args.images.now
 
 -- the list is accepted
 accepted : (c : tie.After-enum-told) → let a = start (checked c.before.before) in
-    checkOf a.args.n (list_of a) ≡ done tt
-accepted c = sym (ap checkedSays (sym c.enum_told.given.1) ∙ (checked c.before.before).check-order.ensures.says)
+    check_of a.args.n (list_of a) ≡ done tt
+accepted c = sym (ap checked_says (sym c.enum_told.given.1) ∙ (checked c.before.before).check-order.ensures.says)
 
 check-order-requires : tie.Need-check-order-requires
 check-order-requires c κs = search rules
@@ -35,21 +35,21 @@ enum_told : tie.Need-enum-told
 enum_told c = search rules
 
 decide-requires : tie.Need-decide-requires
-decide-requires c κs = (accepted-legal _ (list_of (start (checked c.before.before))) (accepted c)).1
+decide-requires c κs = (accepted_legal _ (list_of (start (checked c.before.before))) (accepted c)).1
 
 same_length : tie.Need-same-length
 same_length c = search rules
 
-same-length-2 : tie.Need-same-length-2
-same-length-2 c = search rules
+same_length_2 : tie.Need-same-length-2
+same_length_2 c = search rules
 
 returns : tie.Need-returns
 returns c =
     let g = checked c.before.before.before in
     record {
-      says = planned-refused _ (list_of (start g)) _ _ _ _ (ap checkedSays (sym c.before.checked.given.1)
+      says = planned_refused _ (list_of (start g)) _ _ _ _ (ap checked_says (sym c.before.checked.given.1)
           ∙ g.check-order.ensures.says);
-      ordered = λ e. g.check-order.ensures.ordered (planned-passed _ (list_of (start g)) _ _ e).0;
+      ordered = λ e. g.check-order.ensures.ordered (planned_passed _ (list_of (start g)) _ _ e).0;
     }
 
 same-length-3 : tie.Need-same-length-3
@@ -58,16 +58,16 @@ same-length-3 c = search rules
 same-length-4 : tie.Need-same-length-4
 same-length-4 c = search rules
 
-returns-2 : tie.Need-returns-2
-returns-2 c =
+returns_2 : tie.Need-returns-2
+returns_2 c =
     let g = checked c.before.before.before in
     record {
-      says = c.decide.ensures ∙ sym (planned-accepted _ (list_of (start g)) _ _ (accepted c.before));
+      says = c.decide.ensures ∙ sym (planned_accepted _ (list_of (start g)) _ _ (accepted c.before));
       ordered = λ e. g.check-order.ensures.ordered (accepted c.before);
     }
 
-pub decide-list-spec : {M : Type 1} → statement M
-decide-list-spec =
+pub decide_list_spec : {M : Type 1} → statement M
+decide_list_spec =
     tie.close
     (tie.spec
     check-order-requires
@@ -75,8 +75,8 @@ decide-list-spec =
     enum_told
     decide-requires
     same_length
-    same-length-2
+    same_length_2
     returns
     same-length-3
     same-length-4
-    returns-2)
+    returns_2)

@@ -4,11 +4,11 @@ use mathlib.Core.Path.{◌≡◌, sym, ap, ◌∙◌}
 use native.Mathlib.Omega.{arith}
 use lib.ListN.{length}
 use Rattle.outcomes.specs.Outcome.{done}
-use Rattle.outcomes.specs.Refusal.{checkedSays}
+use Rattle.outcomes.specs.Refusal.{checked_says}
 use Rattle.runs.specs.Runs.{Runs, runs}
-use Rattle.plans.specs.Working.{plannedOf}
-use Rattle.plans.proofs.Outcomes.{planned-list, sought-refused}
-use Rattle.plans.proofs.Clearing.{working-kept}
+use Rattle.plans.specs.Working.{planned_of}
+use Rattle.plans.proofs.Outcomes.{planned_list, sought_refused}
+use Rattle.plans.proofs.Clearing.{working_kept}
 use Rattle.plans.proofs.rooms.plan_in.Statement.{statement}
 use Rattle.plans.proofs.rooms.plan_in.Tie as tie
 
@@ -24,8 +24,8 @@ list_of a = runs a.args.starts.now a.args.images.now
 
 -- the list passes the tests
 passed : (c : tie.After-enum-told) → let a = start (decided c.before.before) in
-    plannedOf a.args.n (list_of a) a.args.low (length a.args.working.now) ≡ done tt
-passed c = sym (ap checkedSays (sym c.enum_told.given.1) ∙ (decided c.before.before).decide-list.ensures.says)
+    planned_of a.args.n (list_of a) a.args.low (length a.args.working.now) ≡ done tt
+passed c = sym (ap checked_says (sym c.enum_told.given.1) ∙ (decided c.before.before).decide-list.ensures.says)
 
 decide-list-requires : tie.Need-decide-list-requires
 decide-list-requires c κs = search rules
@@ -41,27 +41,27 @@ seek-requires c κs =
     let e = c.before.before.before in
     let g = decided e.before.before in
     let a = start g in
-    let few = (planned-list _ (list_of a) _ _ (passed e)).1 in
+    let few = (planned_list _ (list_of a) _ _ (passed e)).1 in
     record {
       passed = passed e;
       ordered = g.decide-list.ensures.ordered (passed e);
       in_order = omega (arith, a.pre.in_order few, g.decide-list.kept.1.1.1.1.1.0);
-      in-spare = omega (arith, a.pre.in-spare few, g.decide-list.kept.1.1.1.1.1.1.0);
+      in_spare = omega (arith, a.pre.in_spare few, g.decide-list.kept.1.1.1.1.1.1.0);
       wide = omega (arith, a.pre.wide, g.decide-list.kept.1.1.1.1.1.1.0);
     }
 
 same_length : tie.Need-same-length
 same_length c = search rules
 
-same-length-2 : tie.Need-same-length-2
-same-length-2 c = search rules
+same_length_2 : tie.Need-same-length-2
+same_length_2 c = search rules
 
 returns : tie.Need-returns
 returns c =
     let g = decided c.before.before.before in
     let a = start g in
-    let e = sym (ap checkedSays (sym c.before.decided.given.1) ∙ g.decide-list.ensures.says) in
-    (sought-refused _ (list_of a) _ _ _ _ _ e, sym (working-kept _ (list_of a) _ _ _ _ e))
+    let e = sym (ap checked_says (sym c.before.decided.given.1) ∙ g.decide-list.ensures.says) in
+    (sought_refused _ (list_of a) _ _ _ _ _ e, sym (working_kept _ (list_of a) _ _ _ _ e))
 
 same-length-3 : tie.Need-same-length-3
 same-length-3 c = search rules
@@ -72,11 +72,11 @@ same-length-4 c = search rules
 same-length-5 : tie.Need-same-length-5
 same-length-5 c = search rules
 
-returns-2 : tie.Need-returns-2
-returns-2 c = c.before.before.before.before.seek.ensures
+returns_2 : tie.Need-returns-2
+returns_2 c = c.before.before.before.before.seek.ensures
 
-pub plan-in-spec : {M : Type 1} → statement M
-plan-in-spec =
+pub plan_in_spec : {M : Type 1} → statement M
+plan_in_spec =
     tie.close
     (tie.spec
     decide-list-requires
@@ -84,9 +84,9 @@ plan-in-spec =
     enum_told
     seek-requires
     same_length
-    same-length-2
+    same_length_2
     returns
     same-length-3
     same-length-4
     same-length-5
-    returns-2)
+    returns_2)

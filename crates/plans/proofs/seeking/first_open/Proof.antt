@@ -33,8 +33,8 @@ first-degree-requires c κs = search rules
 same_length : tie.Need-same-length
 same_length c = search rules
 
-returns-2 : tie.Need-returns-2
-returns-2 c = c.before.before.first-degree.ensures
+returns_2 : tie.Need-returns-2
+returns_2 c = c.before.before.first-degree.ensures
 
-pub first-open-spec : {M : Type 1} → statement M
-first-open-spec = tie.close (tie.spec div-if1 add-if1 add-t14 returns first-degree-requires same_length returns-2)
+pub first_open_spec : {M : Type 1} → statement M
+first_open_spec = tie.close (tie.spec div-if1 add-if1 add-t14 returns first-degree-requires same_length returns_2)

@@ -2,7 +2,7 @@
 use borrow.Author.Rules.{rules}
 use native.Mathlib.Omega.{arith}
 use Rattle.runs.specs.Runs.{Runs, runs}
-use Rattle.plans.proofs.Fitted.{seeking-boundable}
+use Rattle.plans.proofs.Fitted.{seeking_boundable}
 use Rattle.plans.proofs.seeking.seek.Statement.{statement}
 use Rattle.plans.proofs.seeking.seek.Tie as tie
 
@@ -19,7 +19,7 @@ list_of a = runs a.args.starts.now a.args.images.now
 first-open-requires : tie.Need-first-open-requires
 first-open-requires c κs =
     let a = c.before.before.before.before.before.before in
-    seeking-boundable _ (list_of a) a.args.entries _ _ _ _ a.requires
+    seeking_boundable _ (list_of a) a.args.entries _ _ _ _ a.requires
 
 sweep-from-requires : tie.Need-sweep-from-requires
 sweep-from-requires c κs =
@@ -30,7 +30,7 @@ sweep-from-requires c κs =
         passed = a.pre.passed;
         ordered = a.pre.ordered;
         in_order = a.pre.in_order;
-        in-spare = omega (arith, a.pre.in-spare, k);
+        in_spare = omega (arith, a.pre.in_spare, k);
         wide = omega (arith, a.pre.wide, k);
       },
       f.first-open.ensures,
@@ -39,12 +39,12 @@ sweep-from-requires c κs =
 same_length : tie.Need-same-length
 same_length c = search rules
 
-same-length-2 : tie.Need-same-length-2
-same-length-2 c = search rules
+same_length_2 : tie.Need-same-length-2
+same_length_2 c = search rules
 
 returns : tie.Need-returns
 returns c = c.before.before.before.before.sweep-from.ensures
 
-pub seek-spec : {M : Type 1} → statement M
-seek-spec =
-    tie.close (tie.spec first-open-requires sweep-from-requires same_length same-length-2 returns)
+pub seek_spec : {M : Type 1} → statement M
+seek_spec =
+    tie.close (tie.spec first-open-requires sweep-from-requires same_length same_length_2 returns)

@@ -5,9 +5,9 @@ use mathlib.Core.Path.{◌≡◌, refl, ◌∙◌}
 use native.Mathlib.Omega.{arith}
 use lib.ListN.{length}
 use Rattle.runs.specs.Runs.{Runs, runs}
-use Rattle.plans.proofs.Outcomes.{planned-list, planned-sizes, clearable}
-use Rattle.plans.proofs.Clearing.{swept-cleared}
-use Rattle.plans.proofs.Fitted.{Seeking, seeking-first, seeking-cuttable, seeking-next, seeking-found, seeking-whole, seeking-none, size_few}
+use Rattle.plans.proofs.Outcomes.{planned_list, planned_sizes, clearable}
+use Rattle.plans.proofs.Clearing.{swept_cleared}
+use Rattle.plans.proofs.Fitted.{Seeking, seeking_first, seeking_cuttable, seeking_next, seeking_found, seeking_whole, seeking_none, size_few}
 use Rattle.plans.proofs.seeking.sweep_from.Statement.{statement}
 use Rattle.plans.proofs.seeking.sweep_from.Tie as tie
 
@@ -38,22 +38,22 @@ high t = let a = start t.before.before in omega (arith, t.if1.true, a.pre.1.most
 loop-holds : tie.Need-loop-init invariant-loop decreases-loop
 loop-holds c =
     let a = c.before.before.before.before.before in
-    (seeking-first _ (list_of a) _ _ _ _ _ a.requires.0 _ a.requires.1, refl, a.requires.1.up)
+    (seeking_first _ (list_of a) _ _ _ _ _ a.requires.0 _ a.requires.1, refl, a.requires.1.up)
 
 find-cuts-requires : tie.Need-find-cuts-requires invariant-loop decreases-loop
 find-cuts-requires c κs =
     let t = c.before.before in
     let l = t.before.before.loop in
     let a = start t.before.before in
-    seeking-cuttable _ (list_of a) _ _ _ _ _ a.pre.0 _ _ l.invariant.0 _ l.invariant.1 (high t)
+    seeking_cuttable _ (list_of a) _ _ _ _ _ a.pre.0 _ _ l.invariant.0 _ l.invariant.1 (high t)
 
 add-if2 : tie.Need-overflow-add-if2 invariant-loop decreases-loop
 add-if2 c =
     let s = swept c in
     let l = (turn s).before.before.loop in
     let a = start (turn s).before.before in
-    let h = planned-list _ (list_of a) _ _ a.pre.0.passed in
-    let d = planned-sizes _ (list_of a) _ _ a.pre.0.passed in
+    let h = planned_list _ (list_of a) _ _ a.pre.0.passed in
+    let d = planned_sizes _ (list_of a) _ _ a.pre.0.passed in
     omega (
       arith,
       s.find-cuts.ensures.stand.counted,
@@ -63,8 +63,8 @@ add-if2 c =
 same_length : tie.Need-same-length invariant-loop decreases-loop
 same_length c = search rules
 
-same-length-2 : tie.Need-same-length-2 invariant-loop decreases-loop
-same-length-2 c = search rules
+same_length_2 : tie.Need-same-length-2 invariant-loop decreases-loop
+same_length_2 c = search rules
 
 returns : tie.Need-returns invariant-loop decreases-loop
 returns c =
@@ -72,7 +72,7 @@ returns c =
     let t = turn s in
     let l = t.before.before.loop in
     let a = start t.before.before in
-    seeking-found _ (list_of a) _ _ _ _ _ a.pre.0 _ _ l.inv.0 (high t) _ _ s.find-cuts.ensures c.if2.true
+    seeking_found _ (list_of a) _ _ _ _ _ a.pre.0 _ _ l.inv.0 (high t) _ _ s.find-cuts.ensures c.if2.true
 
 add-d : tie.Need-overflow-add-d invariant-loop decreases-loop
 add-d c = omega (arith, high (turn (swept c.before)))
@@ -86,7 +86,7 @@ loop-again c =
     let t = turn s in
     let l = t.before.before.loop in
     let a = start t.before.before in (
-      seeking-next _ (list_of a) _ _ _ _ _ a.pre.0 _ _ l.inv.0 (high t) _ _ s.find-cuts.ensures
+      seeking_next _ (list_of a) _ _ _ _ _ a.pre.0 _ _ l.inv.0 (high t) _ _ s.find-cuts.ensures
           s.find-cuts.kept.1.1.1.1.1.1.0 c.if2.false,
       s.find-cuts.kept.1.1.1.1.0 ∙ l.inv.1,
       omega (arith, t.if1.taken),
@@ -98,12 +98,12 @@ same-length-3 c = search rules
 same-length-4 : tie.Need-same-length-4 invariant-loop decreases-loop
 same-length-4 c = search rules
 
-returns-2 : tie.Need-returns-2 invariant-loop decreases-loop
-returns-2 c =
+returns_2 : tie.Need-returns-2 invariant-loop decreases-loop
+returns_2 c =
     let e = c.before in
     let l = e.before.before.loop in
     let a = start e.before.before in
-    seeking-whole _ (list_of a) _ _ _ _ _ a.pre.0 _ _ l.invariant.0 _ a.pre.1 l.invariant.2 e.if1.false c.if3.true
+    seeking_whole _ (list_of a) _ _ _ _ _ a.pre.0 _ _ l.invariant.0 _ a.pre.1 l.invariant.2 e.if1.false c.if3.true
 
 clear-requires : tie.Need-clear-requires invariant-loop decreases-loop
 clear-requires c κs =
@@ -123,12 +123,12 @@ returns-3 c =
     let e = k.before.before in
     let l = e.before.before.before.loop in
     let a = start e.before.before.before in (
-      seeking-none _ (list_of a) _ _ _ _ _ a.pre.0 _ _ l.invariant.0 (omega (arith, e.if3.false)),
-      k.clear.ensures ∙ swept-cleared _ (list_of a) _ _ a.pre.0.passed _ l.invariant.0.rest,
+      seeking_none _ (list_of a) _ _ _ _ _ a.pre.0 _ _ l.invariant.0 (omega (arith, e.if3.false)),
+      k.clear.ensures ∙ swept_cleared _ (list_of a) _ _ a.pre.0.passed _ l.invariant.0.rest,
     )
 
-pub sweep-from-spec : {M : Type 1} → statement M
-sweep-from-spec =
+pub sweep_from_spec : {M : Type 1} → statement M
+sweep_from_spec =
     tie.close
     (tie.spec
     invariant-loop
@@ -137,14 +137,14 @@ sweep-from-spec =
     find-cuts-requires
     add-if2
     same_length
-    same-length-2
+    same_length_2
     returns
     add-d
     loop-less
     loop-again
     same-length-3
     same-length-4
-    returns-2
+    returns_2
     clear-requires
     same-length-5
     same-length-6

@@ -17,5 +17,5 @@ cast-t7 c =
 returns : tie.Need-returns
 returns c = ap (question _ _) c.before.step_from.ensures
 
-pub ask-spec : {M : Type 1} → statement M
-ask-spec = tie.close (tie.spec step-from-requires cast-t7 returns)
+pub ask_spec : {M : Type 1} → statement M
+ask_spec = tie.close (tie.spec step-from-requires cast-t7 returns)

@@ -1,5 +1,5 @@
 -- `find_near` meets its contract.
-use Rattle.walks.proofs.Reached.{passed-end}
+use Rattle.walks.proofs.Reached.{passed_end}
 use borrow.Author.Rules.{rules}
 use Rattle.questions.proofs.finding.find_near.Statement.{statement}
 use Rattle.questions.proofs.finding.find_near.Tie as tie
@@ -17,8 +17,8 @@ cast-result : tie.Need-overflow-cast-result
 cast-result c = search rules
 
 returns : tie.Need-returns
-returns c = passed-end _ _ _ _ c.near-end.ensures.0
+returns c = passed_end _ _ _ _ c.near-end.ensures.0
 
-pub find-near-spec : {M : Type 1} → statement M
-find-near-spec =
+pub find_near_spec : {M : Type 1} → statement M
+find_near_spec =
     tie.close (tie.spec add-near-end near-end-requires sub-result cast-result returns)

@@ -1,5 +1,5 @@
 -- `begin` meets its contract.
-use Rattle.questions.proofs.Turning.{begun-is}
+use Rattle.questions.proofs.Turning.{begun_is}
 use borrow.Author.Rules.{rules}
 use Rattle.questions.proofs.judging.begin.Statement.{statement}
 use Rattle.questions.proofs.judging.begin.Tie as tie
@@ -8,7 +8,7 @@ judge-tables-requires : tie.Need-judge-tables-requires
 judge-tables-requires c κs = search rules
 
 returns : tie.Need-returns
-returns c = begun-is _ _ _ c.judge-tables.ensures
+returns c = begun_is _ _ _ c.judge-tables.ensures
 
-pub begin-spec : {M : Type 1} → statement M
-begin-spec = tie.close (tie.spec judge-tables-requires returns)
+pub begin_spec : {M : Type 1} → statement M
+begin_spec = tie.close (tie.spec judge-tables-requires returns)

@@ -1,5 +1,5 @@
 -- `judge` meets its contract.
-use Rattle.questions.proofs.Turning.{judge-falls, judge-goes, judge-stays, clear-findable, staying}
+use Rattle.questions.proofs.Turning.{judge_falls, judge_goes, judge_stays, clear_findable, staying}
 use mathlib.Core.Path.{sym, ◌∙◌}
 use native.Mathlib.Omega.{arith}
 use Rattle.tables.specs.Tables.{links}
@@ -11,7 +11,7 @@ fall-requires : tie.Need-fall-requires
 fall-requires c κs = search rules
 
 returns : tie.Need-returns
-returns c = judge-falls _ _ _ _ _ (omega arith) _ c.fall.ensures
+returns c = judge_falls _ _ _ _ _ (omega arith) _ c.fall.ensures
 
 is-clear-requires : tie.Need-is-clear-requires
 is-clear-requires c κs = search rules
@@ -19,12 +19,12 @@ is-clear-requires c κs = search rules
 go-on-requires : tie.Need-go-on-requires
 go-on-requires c κs =
     let s = c.before.before.before.before.before.before.before.before in
-    clear-findable _ s.args.s.standing _ _ (sym c.before.is-clear.ensures ∙ c.if2.true) (s.requires s.args.q.place (omega arith))
+    clear_findable _ s.args.s.standing _ _ (sym c.before.is-clear.ensures ∙ c.if2.true) (s.requires s.args.q.place (omega arith))
 
-returns-2 : tie.Need-returns-2
-returns-2 c =
+returns_2 : tie.Need-returns-2
+returns_2 c =
     let e = c.before in
-    judge-goes _ _ _ _ _ (omega arith) (sym e.before.is-clear.ensures ∙ e.if2.true) _ c.go_on.ensures
+    judge_goes _ _ _ _ _ (omega arith) (sym e.before.is-clear.ensures ∙ e.if2.true) _ c.go_on.ensures
 
 stay-requires : tie.Need-stay-requires
 stay-requires c κs =
@@ -35,16 +35,16 @@ stay-requires c κs =
 returns-3 : tie.Need-returns-3
 returns-3 c =
     let e = c.before in
-    judge-stays _ _ _ _ _ (omega arith) (sym e.before.is-clear.ensures ∙ e.if2.false) _ c.stay.ensures
+    judge_stays _ _ _ _ _ (omega arith) (sym e.before.is-clear.ensures ∙ e.if2.false) _ c.stay.ensures
 
-pub judge-spec : {M : Type 1} → statement M
-judge-spec =
+pub judge_spec : {M : Type 1} → statement M
+judge_spec =
     tie.close
     (tie.spec
     fall-requires
     returns
     is-clear-requires
     go-on-requires
-    returns-2
+    returns_2
     stay-requires
     returns-3)

@@ -1,5 +1,5 @@
 -- `judge_tables` meets its contract.
-use Rattle.questions.proofs.Turning.{by_shape, by_length, by-none}
+use Rattle.questions.proofs.Turning.{by_shape, by_length, by_none}
 use Rattle.tables.proofs.Passing.{shaped}
 use mathlib.Core.Path.{sym, ◌∙◌}
 use native.Mathlib.Omega.{arith}
@@ -24,8 +24,8 @@ cast-t10 c =
     let s = shaped _ _ _ e.before.is-misshapen.ensures e.if1.false in
     omega arith
 
-returns-2 : tie.Need-returns-2
-returns-2 c =
+returns_2 : tie.Need-returns-2
+returns_2 c =
     let e = c.before.before in
     let s = shaped _ _ _ e.before.is-misshapen.ensures e.if1.false in
     by_length _ _ s _ c.before.first-wrong-length.ensures (omega arith)
@@ -34,8 +34,8 @@ returns-3 : tie.Need-returns-3
 returns-3 c =
     let e = c.before.before in
     let s = shaped _ _ _ e.before.is-misshapen.ensures e.if1.false in
-    by-none _ _ s _ c.before.first-wrong-length.ensures (omega arith)
+    by_none _ _ s _ c.before.first-wrong-length.ensures (omega arith)
 
-pub judge-tables-spec : {M : Type 1} → statement M
-judge-tables-spec =
-    tie.close (tie.spec is-misshapen-requires returns first-wrong-length-requires cast-t10 returns-2 returns-3)
+pub judge_tables_spec : {M : Type 1} → statement M
+judge_tables_spec =
+    tie.close (tie.spec is-misshapen-requires returns first-wrong-length-requires cast-t10 returns_2 returns-3)

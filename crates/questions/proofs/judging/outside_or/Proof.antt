@@ -1,5 +1,5 @@
 -- `outside_or` meets its contract.
-use Rattle.questions.proofs.Turning.{broken-some, broken-outside, broken-stays}
+use Rattle.questions.proofs.Turning.{broken_some, broken_outside, broken_stays}
 use mathlib.Core.Path.{sym, ◌∙◌}
 use borrow.Author.Rules.{rules}
 use Rattle.questions.proofs.judging.outside_or.Statement.{statement}
@@ -25,15 +25,15 @@ enum-told-6 c = search rules
 
 is-unfindable-requires : tie.Need-is-unfindable-requires
 is-unfindable-requires c κs =
-    broken-some _ _ c.enum-told6.given.1 c.before.before.before.requires
+    broken_some _ _ c.enum-told6.given.1 c.before.before.before.requires
 
 returns : tie.Need-returns
 returns c =
     let e = c.before in
-    broken-outside _ _ _ _ e.before.enum-told6.given.1 (sym e.is-unfindable.ensures ∙ c.if1.true)
+    broken_outside _ _ _ _ e.before.enum-told6.given.1 (sym e.is-unfindable.ensures ∙ c.if1.true)
 
-returns-2 : tie.Need-returns-2
-returns-2 c = search rules
+returns_2 : tie.Need-returns-2
+returns_2 c = search rules
 
 returns-3 : tie.Need-returns-3
 returns-3 c = search rules
@@ -50,10 +50,10 @@ returns-6 c = search rules
 returns-7 : tie.Need-returns-7
 returns-7 c =
     let e = c.before in
-    broken-stays _ _ _ _ e.before.enum-told6.given.1 (sym e.is-unfindable.ensures ∙ c.if1.false)
+    broken_stays _ _ _ _ e.before.enum-told6.given.1 (sym e.is-unfindable.ensures ∙ c.if1.false)
 
-pub outside-or-spec : {M : Type 1} → statement M
-outside-or-spec =
+pub outside_or_spec : {M : Type 1} → statement M
+outside_or_spec =
     tie.close
     (tie.spec
     enum_told
@@ -64,7 +64,7 @@ outside-or-spec =
     enum-told-6
     is-unfindable-requires
     returns
-    returns-2
+    returns_2
     returns-3
     returns-4
     returns-5

@@ -1,5 +1,5 @@
 -- `stay` meets its contract.
-use Rattle.questions.proofs.Turning.{stayed-is}
+use Rattle.questions.proofs.Turning.{stayed_is}
 use borrow.Author.Rules.{rules}
 use Rattle.questions.proofs.judging.stay.Statement.{statement}
 use Rattle.questions.proofs.judging.stay.Tie as tie
@@ -8,7 +8,7 @@ outside-or-requires : tie.Need-outside-or-requires
 outside-or-requires c κs = search rules
 
 returns : tie.Need-returns
-returns c = stayed-is _ _ _ _ _ c.outside-or.ensures
+returns c = stayed_is _ _ _ _ _ c.outside-or.ensures
 
-pub stay-spec : {M : Type 1} → statement M
-stay-spec = tie.close (tie.spec outside-or-requires returns)
+pub stay_spec : {M : Type 1} → statement M
+stay_spec = tie.close (tie.spec outside-or-requires returns)

@@ -24,8 +24,8 @@ enum-told-4 c = search rules
 returns : tie.Need-returns
 returns c = rw c.enum_told.given.1
 
-returns-2 : tie.Need-returns-2
-returns-2 c = rw c.before.standing.given.1
+returns_2 : tie.Need-returns-2
+returns_2 c = rw c.before.standing.given.1
 
 returns-3 : tie.Need-returns-3
 returns-3 c = rw c.enum-told2.given.1
@@ -39,8 +39,8 @@ returns-5 c = rw c.enum-told3.given.1
 returns-6 : tie.Need-returns-6
 returns-6 c = rw c.enum-told4.given.1
 
-pub verdict-spec : {M : Type 1} → statement M
-verdict-spec =
+pub verdict_spec : {M : Type 1} → statement M
+verdict_spec =
     tie.close
     (tie.spec
     enum_told
@@ -50,7 +50,7 @@ verdict-spec =
     enum-told-3
     enum-told-4
     returns
-    returns-2
+    returns_2
     returns-3
     returns-4
     returns-5

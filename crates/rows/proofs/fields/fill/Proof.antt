@@ -36,8 +36,8 @@ loop-again c = simp length-set c.before.loop.invariant
 same_length : tie.Need-same-length invariant-loop decreases-loop
 same_length c = search rules
 
-returns-2 : tie.Need-returns-2 invariant-loop decreases-loop
-returns-2 c = search rules
+returns_2 : tie.Need-returns-2 invariant-loop decreases-loop
+returns_2 c = search rules
 
 pub fill_spec : {M : Type 1} → statement M
 fill_spec =
@@ -53,4 +53,4 @@ fill_spec =
     loop-less
     loop-again
     same_length
-    returns-2)
+    returns_2)

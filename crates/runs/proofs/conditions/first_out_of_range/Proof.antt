@@ -4,20 +4,20 @@ use native.Mathlib.Omega.{arith}
 use lib.ListN.{length}
 use borrow.Author.Rules.{rules}
 use Rattle.runs.specs.Runs.{runs}
-use Rattle.runs.specs.Check.{outOfRange}
-use Rattle.runs.proofs.Checking.{out-of-range-true, out-of-range-false}
-use Rattle.outcomes.proofs.Searching.{Searched, searched-none, searched-hit, searched-next, searched-end}
+use Rattle.runs.specs.Check.{out_of_range}
+use Rattle.runs.proofs.Checking.{out_of_range_true, out_of_range_false}
+use Rattle.outcomes.proofs.Searching.{Searched, searched_none, searched_hit, searched_next, searched_end}
 use Rattle.runs.proofs.conditions.first_out_of_range.Statement.{statement}
 use Rattle.runs.proofs.conditions.first_out_of_range.Tie as tie
 
 abbrev invariant-loop : tie.invariant-loop
-invariant-loop n starts images x₀ x = Searched (outOfRange n (runs starts images)) (length starts) x
+invariant-loop n starts images x₀ x = Searched (out_of_range n (runs starts images)) (length starts) x
 
 abbrev decreases-loop : tie.decreases-loop
 decreases-loop n starts images x₀ x = length starts - x
 
 loop-holds : tie.Need-loop-init invariant-loop decreases-loop
-loop-holds c = searched-none _ _
+loop-holds c = searched_none _ _
 
 wide-requires : tie.Need-wide-requires invariant-loop decreases-loop
 wide-requires c κs = search rules
@@ -27,7 +27,7 @@ image-end-requires c κs = (omega arith, c.before.before.before.before.before.re
 
 returns : tie.Need-returns invariant-loop decreases-loop
 returns c =
-    searched-hit _ _ _ c.before.before.before.before.loop.invariant (omega arith) (out-of-range-true _ _ _ (omega arith))
+    searched_hit _ _ _ c.before.before.before.before.loop.invariant (omega arith) (out_of_range_true _ _ _ (omega arith))
 
 add-x : tie.Need-overflow-add-x invariant-loop decreases-loop
 add-x c = omega arith
@@ -37,14 +37,14 @@ loop-less c = omega arith
 
 loop-again : tie.Need-loop-preserved invariant-loop decreases-loop
 loop-again c =
-    searched-next _ _ _ c.before.before.before.before.loop.invariant (omega arith)
-    (out-of-range-false _ _ _ (omega arith))
+    searched_next _ _ _ c.before.before.before.before.loop.invariant (omega arith)
+    (out_of_range_false _ _ _ (omega arith))
 
-returns-2 : tie.Need-returns-2 invariant-loop decreases-loop
-returns-2 c = searched-end _ _ _ c.before.loop.invariant (omega arith)
+returns_2 : tie.Need-returns-2 invariant-loop decreases-loop
+returns_2 c = searched_end _ _ _ c.before.loop.invariant (omega arith)
 
-pub first-out-of-range-spec : {M : Type 1} → statement M
-first-out-of-range-spec =
+pub first_out_of_range_spec : {M : Type 1} → statement M
+first_out_of_range_spec =
     tie.close
     (tie.spec
     invariant-loop
@@ -56,4 +56,4 @@ first-out-of-range-spec =
     add-x
     loop-less
     loop-again
-    returns-2)
+    returns_2)

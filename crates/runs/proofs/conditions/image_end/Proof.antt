@@ -1,7 +1,7 @@
 -- `image_end` meets its contract: a run has a length, so the difference does not wrap, and the sum is one of 64 bits.
 use native.Mathlib.Omega.{arith}
 use borrow.Author.Rules.{rules}
-use Rattle.order.proofs.Laws.{entry-after}
+use Rattle.order.proofs.Laws.{entry_after}
 use Rattle.runs.proofs.conditions.image_end.Statement.{statement}
 use Rattle.runs.proofs.conditions.image_end.Tie as tie
 
@@ -32,7 +32,7 @@ sub_wide c =
     omega (
       arith,
       a.requires.1.lasting a.args.x a.requires.0,
-      entry-after a.args.starts.now a.args.x a.args.n,
+      entry_after a.args.starts.now a.args.x a.args.n,
     )
 
 wide-requires-2 : tie.Need-wide-requires-2
@@ -44,10 +44,10 @@ add-result c = search rules
 returns : tie.Need-returns
 returns c =
     let a = c.before.before.before.before.before.before.before.args in
-    omega (arith, entry-after a.starts.now a.x a.n)
+    omega (arith, entry_after a.starts.now a.x a.n)
 
-pub image-end-spec : {M : Type 1} → statement M
-image-end-spec =
+pub image_end_spec : {M : Type 1} → statement M
+image_end_spec =
     tie.close
     (tie.spec
     add-entry-or

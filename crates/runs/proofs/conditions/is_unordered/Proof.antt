@@ -16,9 +16,9 @@ returns : tie.Need-returns
 unfolding unordered
 returns c = simp (le-leb _ _ c.if1.true)
 
-returns-2 : tie.Need-returns-2
+returns_2 : tie.Need-returns-2
 unfolding unordered
-returns-2 c =
+returns_2 c =
     let a = c.before.before.before.args in simp (lt-leb _ _ c.before.if1.false, le-ltb 0 a.x (omega arith))
 
 sub-result : tie.Need-overflow-sub-result
@@ -35,14 +35,14 @@ unfolding unordered
 returns-3 c =
     let a = c.before.before.before.before.args in simp (lt-leb _ _ c.before.before.if1.false, lt-ltb 0 a.x (omega arith))
 
-pub is-unordered-spec : {M : Type 1} → statement M
-is-unordered-spec =
+pub is_unordered_spec : {M : Type 1} → statement M
+is_unordered_spec =
     tie.close
     (tie.spec
     mul-start
     shared-slice-read-start
     returns
-    returns-2
+    returns_2
     sub-result
     mul-result
     shared-slice-read-result

@@ -19,7 +19,7 @@ sort-by-key-requires c κs =
     record {
       few = omega (arith, p.0.paired);
       in_order = omega (arith, p.0.paired, p.2);
-      in-spare = omega (arith, p.0.paired, p.3);
+      in_spare = omega (arith, p.0.paired, p.3);
     }
 
 lowest-overlap-requires : tie.Need-lowest-overlap-requires
@@ -30,12 +30,12 @@ lowest-overlap-requires c κs =
 same_length : tie.Need-same-length
 same_length c = search rules
 
-same-length-2 : tie.Need-same-length-2
-same-length-2 c = search rules
+same_length_2 : tie.Need-same-length-2
+same_length_2 c = search rules
 
 returns : tie.Need-returns
 returns c = record { lowest = c.lowest-overlap.ensures; ordered = left c.before.before.before.before.before.before }
 
-pub first-overlap-spec : {M : Type 1} → statement M
-first-overlap-spec =
-    tie.close (tie.spec sort-by-key-requires lowest-overlap-requires same_length same-length-2 returns)
+pub first_overlap_spec : {M : Type 1} → statement M
+first_overlap_spec =
+    tie.close (tie.spec sort-by-key-requires lowest-overlap-requires same_length same_length_2 returns)

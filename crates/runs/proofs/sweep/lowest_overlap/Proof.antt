@@ -4,8 +4,8 @@ use mathlib.Core.Logic.{⊎_elim}
 use native.Mathlib.Omega.{arith}
 use lib.ListN.{length}
 use Rattle.runs.specs.Runs.{runs}
-use Rattle.runs.proofs.Ranking.{ordered-room, entry-is, entry-below}
-use Rattle.runs.proofs.Sweeping.{Swept, swept_none, swept-turn, swept-end, lowered, kept}
+use Rattle.runs.proofs.Ranking.{ordered_room, entry_is, entry_below}
+use Rattle.runs.proofs.Sweeping.{Swept, swept_none, swept_turn, swept_end, lowered, kept}
 use Rattle.runs.proofs.sweep.lowest_overlap.Statement.{statement}
 use Rattle.runs.proofs.sweep.lowest_overlap.Tie as tie
 
@@ -23,7 +23,7 @@ mul-x c = omega arith
 
 shared-slice-read-x : tie.Need-shared-slice-read-x invariant-loop decreases-loop
 shared-slice-read-x c =
-    let o = ordered-room _ _ c.before.before.before.before.before.before.requires.1 in omega arith
+    let o = ordered_room _ _ c.before.before.before.before.before.before.requires.1 in omega arith
 
 cast-x : tie.Need-overflow-cast-x invariant-loop decreases-loop
 cast-x c = omega (arith, c.shared-slice-known4.given c.before.before.loop.t)
@@ -31,7 +31,7 @@ cast-x c = omega (arith, c.shared-slice-known4.given c.before.before.loop.t)
 image-end-requires : tie.Need-image-end-requires invariant-loop decreases-loop
 image-end-requires c κs =
     let a = c.before.before.before.before.before.before in
-    let b = entry-below _ _ a.requires.1 c.before.before.loop.t (omega arith) in
+    let b = entry_below _ _ a.requires.1 c.before.before.loop.t (omega arith) in
     (omega (arith, a.requires.0.paired), a.requires.0)
 
 meets-another-requires : tie.Need-meets-another-requires invariant-loop decreases-loop
@@ -54,16 +54,16 @@ loop-again c =
     let a = c.before.before.before.before.before.before.before.before.before.before in
     let l = c.before.before.before.before.before.before.loop in
     let b = c.before.before.meets-another in
-    swept-turn _ _ a.requires.0 _ _ _ l.invariant (omega arith) _ _ _ _ b.result
-    (entry-is _ _ a.requires.1 l.t (omega arith)) c.before.before.before.image-end.ensures b.ensures
+    swept_turn _ _ a.requires.0 _ _ _ l.invariant (omega arith) _ _ _ _ b.result
+    (entry_is _ _ a.requires.1 l.t (omega arith)) c.before.before.before.image-end.ensures b.ensures
     c.higher.ensures
     (⊎_elim (λ w. lowered _ _ _ _ _ w.0.taken w.1.ensures w.2) (λ w. kept _ _ _ _ w.0.left w.1) c.before.if1.branch)
 
 returns : tie.Need-returns invariant-loop decreases-loop
-returns c = swept-end _ _ c.before.before.before.before.before.requires.0 _ _ _ c.before.loop.invariant (omega arith)
+returns c = swept_end _ _ c.before.before.before.before.before.requires.0 _ _ _ c.before.loop.invariant (omega arith)
 
-pub lowest-overlap-spec : {M : Type 1} → statement M
-lowest-overlap-spec =
+pub lowest_overlap_spec : {M : Type 1} → statement M
+lowest_overlap_spec =
     tie.close
     (tie.spec
     invariant-loop

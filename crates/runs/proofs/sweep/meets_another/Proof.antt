@@ -4,8 +4,8 @@ use mathlib.Core.Path.{sym, ap, ◌∙◌}
 use native.Mathlib.Omega.{arith}
 use lib.Dec.{ltb}
 use borrow.Author.Rules.{rules}
-use Rattle.runs.proofs.Ranking.{ordered-room, entry-below, entry-image, entry_next}
-use Rattle.runs.proofs.Sweeping.{meets-before, meets-none, meets-next}
+use Rattle.runs.proofs.Ranking.{ordered_room, entry_below, entry_image, entry_next}
+use Rattle.runs.proofs.Sweeping.{meets_before, meets_none, meets_next}
 use Rattle.runs.proofs.sweep.meets_another.Statement.{statement}
 use Rattle.runs.proofs.sweep.meets_another.Tie as tie
 
@@ -13,7 +13,7 @@ mul-x : tie.Need-overflow-mul-x
 mul-x c = search rules
 
 shared-slice-read-x : tie.Need-shared-slice-read-x
-shared-slice-read-x c = let o = ordered-room _ _ c.before.before.before.before.requires.1 in omega arith
+shared-slice-read-x c = let o = ordered_room _ _ c.before.before.before.before.requires.1 in omega arith
 
 cast-x : tie.Need-overflow-cast-x
 cast-x c = omega (arith, c.shared-slice-known4.given c.before.before.before.before.args.t)
@@ -23,7 +23,7 @@ mul_wide c = omega (arith, c.shared-slice-known4.given c.before.before.before.be
 
 shared-slice-read-wide : tie.Need-shared-slice-read-wide
 shared-slice-read-wide c =
-    let a = c.before.before.before.before.before in entry-below _ _ a.requires.1 a.args.t (omega arith)
+    let a = c.before.before.before.before.before in entry_below _ _ a.requires.1 a.args.t (omega arith)
 
 wide-requires : tie.Need-wide-requires
 wide-requires c κs = search rules
@@ -31,17 +31,17 @@ wide-requires c κs = search rules
 returns : tie.Need-returns
 returns c =
     let a = c.before.before.before.before.before.before.before in
-    let e = entry-image _ _ a.requires.1 a.args.t a.requires.0 in
-    sym (meets-before _ _ _ _ (omega arith))
+    let e = entry_image _ _ a.requires.1 a.args.t a.requires.0 in
+    sym (meets_before _ _ _ _ (omega arith))
 
 add-if2 : tie.Need-overflow-add-if2
 add-if2 c = search rules
 
-returns-2 : tie.Need-returns-2
-returns-2 c =
+returns_2 : tie.Need-returns-2
+returns_2 c =
     let a = c.before.before.before.before.before.before.before.before in
-    let e = entry-image _ _ a.requires.1 a.args.t a.requires.0 in
-    sym (meets-none _ _ _ _ (omega arith) (omega arith))
+    let e = entry_image _ _ a.requires.1 a.args.t a.requires.0 in
+    sym (meets_none _ _ _ _ (omega arith) (omega arith))
 
 add-y : tie.Need-overflow-add-y
 add-y c = search rules
@@ -51,7 +51,7 @@ mul-y c = search rules
 
 shared-slice-read-y : tie.Need-shared-slice-read-y
 shared-slice-read-y c =
-    let o = ordered-room _ _ c.before.before.before.before.before.before.before.before.before.requires.1 in
+    let o = ordered_room _ _ c.before.before.before.before.before.before.before.before.before.requires.1 in
     omega arith
 
 cast-y : tie.Need-overflow-cast-y
@@ -67,7 +67,7 @@ mul-wide-2 c =
 shared-slice-read-wide-2 : tie.Need-shared-slice-read-wide-2
 shared-slice-read-wide-2 c =
     let a = c.before.before.before.before.before.before.before.before.before.before in
-    entry-below _ _ a.requires.1 (a.args.t + 1) (omega arith)
+    entry_below _ _ a.requires.1 (a.args.t + 1) (omega arith)
 
 wide-requires-2 : tie.Need-wide-requires-2
 wide-requires-2 c κs = search rules
@@ -75,12 +75,12 @@ wide-requires-2 c κs = search rules
 returns-3 : tie.Need-returns-3
 returns-3 c =
     let a = c.before.before.before.before.before.before.before.before.before.before.before in
-    let e = entry-image _ _ a.requires.1 a.args.t a.requires.0 in
+    let e = entry_image _ _ a.requires.1 a.args.t a.requires.0 in
     let f = c.wide2.ensures.0 ∙ entry_next _ _ a.requires.1 a.args.t (omega arith) in
-    sym (meets-next _ _ _ _ (omega arith) (omega arith) ∙ ap (λ (v : ℕ). ltb v a.args.end) (sym f))
+    sym (meets_next _ _ _ _ (omega arith) (omega arith) ∙ ap (λ (v : ℕ). ltb v a.args.end) (sym f))
 
-pub meets-another-spec : {M : Type 1} → statement M
-meets-another-spec =
+pub meets_another_spec : {M : Type 1} → statement M
+meets_another_spec =
     tie.close
     (tie.spec
     mul-x
@@ -91,7 +91,7 @@ meets-another-spec =
     wide-requires
     returns
     add-if2
-    returns-2
+    returns_2
     add-y
     mul-y
     shared-slice-read-y

@@ -1,30 +1,30 @@
 -- `is_any_wrong` meets its contract: before each turn it is known whether all lengths of the intervals so far are right.
 use Rattle.std.proofs.Common.{◌≡◌, ℕ, suc, ◌-◌, ◌≤◌, Bool, true, false, not, ◌&&◌, ◌||◌, List, length, get_or, sym, refl, ap, ◌∙◌, add-one, arith, rules}
 use lib.ListN.{get_or-eq_default}
-use Rattle.order.proofs.Laws.{entry-after, get_d_default}
-use Rattle.outcomes.specs.Search.{anyBelow}
-use Rattle.outcomes.proofs.Searches.{any-more}
-use Rattle.tables.specs.Tables.{mismatch, wrongLength}
+use Rattle.order.proofs.Laws.{entry_after, get_d_default}
+use Rattle.outcomes.specs.Search.{any_below}
+use Rattle.outcomes.proofs.Searches.{any_more}
+use Rattle.tables.specs.Tables.{mismatch, wrong_length}
 use Rattle.tables.proofs.measuring.is_any_wrong.Statement.{statement}
 use Rattle.tables.proofs.measuring.is_any_wrong.Tie as tie
 
 abbrev invariant-loop : tie.invariant-loop
-invariant-loop n starts lengths last right₀ x₀ right x = (x ≤ last) × (right ≡ not (anyBelow (wrongLength n starts lengths) x))
+invariant-loop n starts lengths last right₀ x₀ right x = (x ≤ last) × (right ≡ not (any_below (wrong_length n starts lengths) x))
 
 abbrev decreases-loop : tie.decreases-loop
 decreases-loop n starts lengths last right₀ x₀ right x = last - x
 
 -- with one interval more, which ends at e
 module _ (n : ℕ) (l m : List ℕ) (x e : ℕ) (q : e ≡ get_or l (suc x) n) (a b : Bool)
-    (f : a ≡ not (anyBelow (wrongLength n l m) x)) (g : b ≡ mismatch (get_or l x 0) e (get_or m x 0)) where
-  further : (not a || b) ≡ anyBelow (wrongLength n l m) (suc x)
-  further = rw (f, g, q) (twice (anyBelow (wrongLength n l m) x) _ ∙ sym (any-more (wrongLength n l m) x))
+    (f : a ≡ not (any_below (wrong_length n l m) x)) (g : b ≡ mismatch (get_or l x 0) e (get_or m x 0)) where
+  further : (not a || b) ≡ any_below (wrong_length n l m) (suc x)
+  further = rw (f, g, q) (twice (any_below (wrong_length n l m) x) _ ∙ sym (any_more (wrong_length n l m) x))
     where
       twice : (t u : Bool) → (not (not t) || u) ≡ (t || u)
       twice true u = refl
       twice false u = refl
 
-  still : (a && not b) ≡ not (anyBelow (wrongLength n l m) (suc x))
+  still : (a && not b) ≡ not (any_below (wrong_length n l m) (suc x))
   still = both a b ∙ ap not further
     where
       both : (t u : Bool) → (t && not u) ≡ not (not t || u)
@@ -73,7 +73,7 @@ loop-again c =
     let a = l.before.before.before.args in
     let x = l.loop.x in
     let s = a.starts.now in
-    let e = entry-after s x 0 ∙ get_d_default s (suc x) 0 a.n (omega arith) in
+    let e = entry_after s x 0 ∙ get_d_default s (suc x) 0 a.n (omega arith) in
     (omega arith, rw add-one (still a.n s a.lengths.now x _ e _ _ l.loop.invariant.1 c.differs.ensures))
 
 mul-differs-4 : tie.Need-overflow-mul-differs-4 invariant-loop decreases-loop
@@ -101,11 +101,11 @@ returns c =
     let z : suc last ≡ length s = omega arith in
     let e : a.n ≡ get_or s (suc last) a.n = sym (get_or-eq_default s a.n (omega arith)) in
     further a.n s a.lengths.now last a.n e _ _
-    (l.loop.invariant.1 ∙ ap (λ (k : ℕ). not (anyBelow (wrongLength a.n s a.lengths.now) k)) x) c.differs2.ensures
-    ∙ ap (anyBelow (wrongLength a.n s a.lengths.now)) z
+    (l.loop.invariant.1 ∙ ap (λ (k : ℕ). not (any_below (wrong_length a.n s a.lengths.now) k)) x) c.differs2.ensures
+    ∙ ap (any_below (wrong_length a.n s a.lengths.now)) z
 
-pub is-any-wrong-spec : {M : Type 1} → statement M
-is-any-wrong-spec =
+pub is_any_wrong_spec : {M : Type 1} → statement M
+is_any_wrong_spec =
     tie.close
     (tie.spec
     invariant-loop

@@ -3,8 +3,8 @@ use mathlib.Core.Path.{◌≡◌, ◌∙◌}
 use mathlib.Core.List.{◌++◌}
 use native.Mathlib.Omega.{arith}
 use Rattle.text.specs.Text.{decimal as Text·decimal}
-use Rattle.text.proofs.Writing.{fits-first, fits-second, wrote-both}
-use Rattle.text.proofs.Digits.{lastDigit, decimal-small, decimal-large}
+use Rattle.text.proofs.Writing.{fits_first, fits_second, wrote_both}
+use Rattle.text.proofs.Digits.{last_digit, decimal_small, decimal_large}
 use Prim.Native.Nat.{ℕ, ◌/◌, ◌<◌}
 use borrow.Fn.Kinds.{In}
 use borrow.Fn.PlainCycle.{Measures, is, falls, and}
@@ -32,19 +32,19 @@ module _ (t : ℕ) where
 
   -- a tenth has one digit less
   large : (c : lts.Else1 (claims t) (asked t) decimal.Post)
-      → Text·decimal (start c).args.v ≡ Text·decimal ((start c).args.v / 10) ++ lastDigit (start c).args.v
-  large c = decimal-large (start c).args.v c.if1.false (start c).ranges.v.fits
+      → Text·decimal (start c).args.v ≡ Text·decimal ((start c).args.v / 10) ++ last_digit (start c).args.v
+  large c = decimal_large (start c).args.v c.if1.false (start c).ranges.v.fits
 
-  add-last : lts.Need-overflow-add-last (claims t) (asked t) decimal.Post
-  add-last c = omega arith
+  add_last : lts.Need-overflow-add-last (claims t) (asked t) decimal.Post
+  add_last c = omega arith
 
-  cast-last : lts.Need-overflow-cast-last (claims t) (asked t) decimal.Post
-  cast-last c = omega arith
+  cast_last : lts.Need-overflow-cast-last (claims t) (asked t) decimal.Post
+  cast_last c = omega arith
 
-  put-requires : lts.Need-put-requires (claims t) (asked t) decimal.Post
-  put-requires c κs =
+  put_requires : lts.Need-put-requires (claims t) (asked t) decimal.Post
+  put_requires c κs =
       let a = c.before.before.before in
-      rw (decimal-small a.args.v c.before.if1.true) at a.requires.1
+      rw (decimal_small a.args.v c.before.if1.true) at a.requires.1
 
   same_length : lts.Need-same-length (claims t) (asked t) decimal.Post
   same_length c = c.before.before.put.auto.0
@@ -52,30 +52,30 @@ module _ (t : ℕ) where
   returns : lts.Need-returns (claims t) (asked t) decimal.Post
   returns c =
       let a = c.before.before.before.before.before.before in
-      rw (decimal-small a.args.v c.before.before.before.before.if1.true) c.before.before.put.ensures
+      rw (decimal_small a.args.v c.before.before.before.before.if1.true) c.before.before.put.ensures
 
-  decimal-requires : lts.Need-decimal-requires (claims t) (asked t) decimal.Post
-  decimal-requires c κs =
+  decimal_requires : lts.Need-decimal-requires (claims t) (asked t) decimal.Post
+  decimal_requires c κs =
       let a = start c.before in
-      (omega (arith, a.pre.0), fits-first _ _ _ _ (rw (large c.before) at a.pre.1))
+      (omega (arith, a.pre.0), fits_first _ _ _ _ (rw (large c.before) at a.pre.1))
 
-  put-requires-2 : lts.Need-put-requires-2 (claims t) (asked t) decimal.Post
-  put-requires-2 c κs =
+  put_requires_2 : lts.Need-put-requires-2 (claims t) (asked t) decimal.Post
+  put_requires_2 c κs =
       let d = c.before.before.before in
       let e = d.before.before in
-      fits-second _ _ _ _ (rw (large e) at (start e).requires.1) _ _ d.decimal.ensures
+      fits_second _ _ _ _ (rw (large e) at (start e).requires.1) _ _ d.decimal.ensures
 
-  same-length-2 : lts.Need-same-length-2 (claims t) (asked t) decimal.Post
-  same-length-2 c = c.before.before.put2.auto.0 ∙ c.before.before.before.before.before.before.decimal.auto.0
+  same_length_2 : lts.Need-same-length-2 (claims t) (asked t) decimal.Post
+  same_length_2 c = c.before.before.put2.auto.0 ∙ c.before.before.before.before.before.before.decimal.auto.0
 
-  returns-2 : lts.Need-returns-2 (claims t) (asked t) decimal.Post
-  returns-2 c =
+  returns_2 : lts.Need-returns-2 (claims t) (asked t) decimal.Post
+  returns_2 c =
       let p = c.before.before in
       let d = p.before.before.before.before in
       let e = d.before.before in
-      rw (large e) (wrote-both _ _ _ _ (rw (large e) at (start e).requires.1) _ _ d.decimal.ensures _ _ p.put2.ensures)
+      rw (large e) (wrote_both _ _ _ _ (rw (large e) at (start e).requires.1) _ _ d.decimal.ensures _ _ p.put2.ensures)
 
 pub +decimal-spec : {M : Type 1} → statement M
 +decimal-spec = close μ-decimal λ t.
-    lts.spec (claims t) (asked t) decimal.Post (add-last t) (cast-last t) (put-requires t) (same_length t) (returns t) (decimal-requires t)
-    (put-requires-2 t) (same-length-2 t) (returns-2 t)
+    lts.spec (claims t) (asked t) decimal.Post (add_last t) (cast_last t) (put_requires t) (same_length t) (returns t) (decimal_requires t)
+    (put_requires_2 t) (same_length_2 t) (returns_2 t)

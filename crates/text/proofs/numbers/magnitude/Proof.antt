@@ -2,29 +2,29 @@
 use mathlib.Core.Path.{sym, ap, ◌∙◌}
 use native.Mathlib.Omega.{arith}
 use lib.IntN.{nat_abs}
-use Rattle.text.proofs.Signs.{bits_back, bits-sign, bits_positive, opposite-fits, opposite-back}
+use Rattle.text.proofs.Signs.{bits_back, bits_sign, bits_positive, opposite_fits, opposite_back}
 use borrow.Author.Rules.{rules}
 use Rattle.text.proofs.numbers.magnitude.Statement.{statement}
 use Rattle.text.proofs.numbers.magnitude.Tie as tie
 
 sub-result : tie.Need-overflow-sub-result
-sub-result c = opposite-fits _ c.before.ranges.v c.before.requires (sym (bits-sign _ c.before.ranges.v) ∙ c.if1.true)
+sub-result c = opposite_fits _ c.before.ranges.v c.before.requires (sym (bits_sign _ c.before.ranges.v) ∙ c.if1.true)
 
 cast-result : tie.Need-overflow-cast-result
 cast-result c =
-    rw (opposite-back _ c.before.ranges.v c.before.requires (sym (bits-sign _ c.before.ranges.v) ∙ c.if1.true))
+    rw (opposite_back _ c.before.ranges.v c.before.requires (sym (bits_sign _ c.before.ranges.v) ∙ c.if1.true))
     (tt, record { fits = omega arith })
 
 returns : tie.Need-returns
-returns c = ap nat_abs (opposite-back _ c.before.ranges.v c.before.requires (sym (bits-sign _ c.before.ranges.v) ∙ c.if1.true))
+returns c = ap nat_abs (opposite_back _ c.before.ranges.v c.before.requires (sym (bits_sign _ c.before.ranges.v) ∙ c.if1.true))
 
 cast-result-2 : tie.Need-overflow-cast-result-2
 cast-result-2 c =
     let f = c.before.ranges.v in
-    (bits_positive _ f (sym (bits-sign _ f) ∙ c.if1.false), rw (bits_back _ f) (record { fits = omega arith }))
+    (bits_positive _ f (sym (bits_sign _ f) ∙ c.if1.false), rw (bits_back _ f) (record { fits = omega arith }))
 
-returns-2 : tie.Need-returns-2
-returns-2 c = search rules
+returns_2 : tie.Need-returns-2
+returns_2 c = search rules
 
-pub magnitude-spec : {M : Type 1} → statement M
-magnitude-spec = tie.close (tie.spec sub-result cast-result returns cast-result-2 returns-2)
+pub magnitude_spec : {M : Type 1} → statement M
+magnitude_spec = tie.close (tie.spec sub-result cast-result returns cast-result-2 returns_2)

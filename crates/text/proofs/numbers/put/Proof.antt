@@ -1,6 +1,6 @@
 -- `put` meets its contract: a store is a text of one byte.
 use native.Mathlib.Omega.{arith}
-use Rattle.text.proofs.Writing.{wrote-byte}
+use Rattle.text.proofs.Writing.{wrote_byte}
 use borrow.Author.Rules.{rules}
 use Rattle.text.proofs.numbers.put.Statement.{statement}
 use Rattle.text.proofs.numbers.put.Tie as tie
@@ -15,7 +15,7 @@ same_length : tie.Need-same-length
 same_length c = search rules
 
 returns : tie.Need-returns
-returns c = wrote-byte _ _ _ (omega arith)
+returns c = wrote_byte _ _ _ (omega arith)
 
 pub put_spec : {M : Type 1} → statement M
 put_spec = tie.close (tie.spec slice-write-page add-result same_length returns)

@@ -1,6 +1,6 @@
 -- `locate` meets its contract: an outcome law for each way to return.
-use Rattle.walks.proofs.Steps.{starting, locate-shape, locate-index, locate-length, locate-place, locate-in}
-use Rattle.tables.proofs.Passing.{shaped, outside-far, outside_low, outside_high}
+use Rattle.walks.proofs.Steps.{starting, locate_shape, locate_index, locate_length, locate_place, locate_in}
+use Rattle.tables.proofs.Passing.{shaped, outside_far, outside_low, outside_high}
 use mathlib.Core.Path.{sym, ap, ◌∙◌}
 use native.Mathlib.Omega.{arith}
 use Rattle.outcomes.specs.Outcome.{done}
@@ -12,12 +12,12 @@ is-misshapen-requires : tie.Need-is-misshapen-requires
 is-misshapen-requires c κs = search rules
 
 returns : tie.Need-returns
-returns c = locate-shape _ _ _ _ _ c.before.is-misshapen.ensures c.if1.true
+returns c = locate_shape _ _ _ _ _ c.before.is-misshapen.ensures c.if1.true
 
-returns-2 : tie.Need-returns-2
-returns-2 c =
+returns_2 : tie.Need-returns-2
+returns_2 c =
     let e = c.before in
-    locate-index _ _ _ _ (shaped _ _ _ e.before.is-misshapen.ensures e.if1.false) (omega arith)
+    locate_index _ _ _ _ (shaped _ _ _ e.before.is-misshapen.ensures e.if1.false) (omega arith)
 
 is-wrong-length-requires : tie.Need-is-wrong-length-requires
 is-wrong-length-requires c κs =
@@ -29,7 +29,7 @@ returns-3 : tie.Need-returns-3
 returns-3 c =
     let e = c.before.before.before in
     let s = shaped _ _ _ e.before.is-misshapen.ensures e.if1.false in
-    locate-length _ _ _ _ s (omega arith) (sym c.before.is-wrong-length.ensures ∙ c.if3.true)
+    locate_length _ _ _ _ s (omega arith) (sym c.before.is-wrong-length.ensures ∙ c.if3.true)
 
 returns-4 : tie.Need-returns-4
 returns-4 c =
@@ -37,7 +37,7 @@ returns-4 c =
     let e = w.before.before.before in
     let s = shaped _ _ _ e.before.is-misshapen.ensures e.if1.false in
     let right = sym w.before.is-wrong-length.ensures ∙ w.if3.false in
-    locate-place _ _ _ _ s (omega arith) right (outside-far _ _ _ _ (omega arith))
+    locate_place _ _ _ _ s (omega arith) right (outside_far _ _ _ _ (omega arith))
 
 mul-if5 : tie.Need-overflow-mul-if5
 mul-if5 c = search rules
@@ -51,7 +51,7 @@ returns-5 c =
     let e = w.before.before.before in
     let s = shaped _ _ _ e.before.is-misshapen.ensures e.if1.false in
     let right = sym w.before.is-wrong-length.ensures ∙ w.if3.false in
-    locate-place _ _ _ _ s (omega arith) right (outside_low _ _ _ _ (omega arith) (omega arith))
+    locate_place _ _ _ _ s (omega arith) right (outside_low _ _ _ _ (omega arith) (omega arith))
 
 mul-if6 : tie.Need-overflow-mul-if6
 mul-if6 c = search rules
@@ -77,7 +77,7 @@ returns-6 c =
     let e = w.before.before.before in
     let s = shaped _ _ _ e.before.is-misshapen.ensures e.if1.false in
     let right = sym w.before.is-wrong-length.ensures ∙ w.if3.false in
-    locate-place _ _ _ _ s (omega arith) right (outside_high _ _ _ _ (omega arith) (omega arith) (omega arith))
+    locate_place _ _ _ _ s (omega arith) right (outside_high _ _ _ _ (omega arith) (omega arith) (omega arith))
 
 stand-requires : tie.Need-stand-requires
 stand-requires c κs = search rules
@@ -89,15 +89,15 @@ returns-7 c =
     let s = shaped _ _ _ e.before.is-misshapen.ensures e.if1.false in
     let right = sym w.before.is-wrong-length.ensures ∙ w.if3.false in
     ap done c.stand.ensures
-    ∙ locate-in _ _ _ _ (starting _ _ _ _ s (omega arith) right (omega arith, omega arith, omega arith))
+    ∙ locate_in _ _ _ _ (starting _ _ _ _ s (omega arith) right (omega arith, omega arith, omega arith))
 
-pub locate-spec : {M : Type 1} → statement M
-locate-spec =
+pub locate_spec : {M : Type 1} → statement M
+locate_spec =
     tie.close
     (tie.spec
     is-misshapen-requires
     returns
-    returns-2
+    returns_2
     is-wrong-length-requires
     returns-3
     returns-4

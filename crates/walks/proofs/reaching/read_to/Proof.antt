@@ -1,5 +1,5 @@
 -- `read_to` meets its contract: by whether the interval reached is the last.
-use Rattle.order.proofs.Laws.{bit-lt, bit-ge}
+use Rattle.order.proofs.Laws.{bit_lt, bit_ge}
 use Prim.Native.Nat.{suc}
 use native.Mathlib.Omega.{arith}
 use borrow.Author.Rules.{rules}
@@ -21,12 +21,12 @@ add-result c = search rules
 returns : tie.Need-returns
 returns c =
     let a = c.before.args in
-    omega (arith, bit-lt (suc a.reached) a.intervals (omega arith))
+    omega (arith, bit_lt (suc a.reached) a.intervals (omega arith))
 
-returns-2 : tie.Need-returns-2
-returns-2 c =
+returns_2 : tie.Need-returns-2
+returns_2 c =
     let a = c.before.args in
-    omega (arith, bit-ge (suc a.reached) a.intervals (omega arith))
+    omega (arith, bit_ge (suc a.reached) a.intervals (omega arith))
 
-pub read-to-spec : {M : Type 1} → statement M
-read-to-spec = tie.close (tie.spec sub-past cast-past add-if1 add-result returns returns-2)
+pub read_to_spec : {M : Type 1} → statement M
+read_to_spec = tie.close (tie.spec sub-past cast-past add-if1 add-result returns returns_2)

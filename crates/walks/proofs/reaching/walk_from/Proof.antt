@@ -1,7 +1,7 @@
 -- `walk_from` meets its contract: there is no next interval, or it starts above the place, or the walk goes on behind it.
-use Rattle.walks.proofs.Reached.{passed_is, passed-more, passed-stop, passed_none}
+use Rattle.walks.proofs.Reached.{passed_is, passed_more, passed_stop, passed_none}
 use Rattle.walks.proofs.StartsRead.{walked_by}
-use Rattle.order.proofs.Laws.{bit-lt, bit-ge}
+use Rattle.order.proofs.Laws.{bit_lt, bit_ge}
 use Prim.Native.Nat.{suc, ◌+◌}
 use lib.ListN.{length}
 use native.Mathlib.Omega.{arith}
@@ -17,7 +17,7 @@ returns c =
     let a = c.before.before.args in
     let l = a.starts.now in
     walked_by _ _ _ (omega arith) _ _ (omega (arith, passed_none l a.x a.i (omega arith)))
-    (omega (arith, bit-ge (suc a.x) (length l) (omega arith)))
+    (omega (arith, bit_ge (suc a.x) (length l) (omega arith)))
 
 mul-if2 : tie.Need-overflow-mul-if2
 mul-if2 c = search rules
@@ -25,12 +25,12 @@ mul-if2 c = search rules
 shared-slice-read-if2 : tie.Need-shared-slice-read-if2
 shared-slice-read-if2 c = search rules
 
-returns-2 : tie.Need-returns-2
-returns-2 c =
+returns_2 : tie.Need-returns-2
+returns_2 c =
     let a = c.before.before.before.before.args in
     let l = a.starts.now in
-    walked_by _ _ _ (omega arith) _ _ (omega (arith, passed-stop l a.x a.i (omega arith) (omega arith)))
-    (omega (arith, bit-lt (suc a.x) (length l) (omega arith)))
+    walked_by _ _ _ (omega arith) _ _ (omega (arith, passed_stop l a.x a.i (omega arith) (omega arith)))
+    (omega (arith, bit_lt (suc a.x) (length l) (omega arith)))
 
 add-stretch-length : tie.Need-overflow-add-stretch-length
 add-stretch-length c = search rules
@@ -59,19 +59,19 @@ returns-3 c =
       arith,
       e.stretch-length.ensures.0,
       passed_is a.starts.now (a.x + 1) a.i,
-      passed-more a.starts.now a.x a.i (omega arith) (omega arith),
+      passed_more a.starts.now a.x a.i (omega arith) (omega arith),
     ))
     c.read-to.ensures
 
-pub walk-from-spec : {M : Type 1} → statement M
-walk-from-spec =
+pub walk_from_spec : {M : Type 1} → statement M
+walk_from_spec =
     tie.close
     (tie.spec
     add-next
     returns
     mul-if2
     shared-slice-read-if2
-    returns-2
+    returns_2
     add-stretch-length
     stretch-length-requires
     cast-reached

@@ -1,5 +1,5 @@
 -- `leave` meets its contract: the test of the length, and what is left where it passes.
-use Rattle.walks.proofs.Steps.{leave-wrong, leave-on}
+use Rattle.walks.proofs.Steps.{leave_wrong, leave_on}
 use mathlib.Core.Path.{sym, ◌∙◌}
 use borrow.Author.Rules.{rules}
 use Rattle.walks.proofs.walk.leave.Statement.{statement}
@@ -9,15 +9,15 @@ is-wrong-length-requires : tie.Need-is-wrong-length-requires
 is-wrong-length-requires c κs = search rules
 
 returns : tie.Need-returns
-returns c = leave-wrong _ _ _ _ (sym c.before.is-wrong-length.ensures ∙ c.if1.true)
+returns c = leave_wrong _ _ _ _ (sym c.before.is-wrong-length.ensures ∙ c.if1.true)
 
 advance-requires : tie.Need-advance-requires
 advance-requires c κs = search rules
 
-returns-2 : tie.Need-returns-2
-returns-2 c =
+returns_2 : tie.Need-returns-2
+returns_2 c =
     let e = c.before in
-    c.advance.ensures ∙ leave-on _ _ _ _ (sym e.before.is-wrong-length.ensures ∙ e.if1.false)
+    c.advance.ensures ∙ leave_on _ _ _ _ (sym e.before.is-wrong-length.ensures ∙ e.if1.false)
 
 pub leave_spec : {M : Type 1} → statement M
-leave_spec = tie.close (tie.spec is-wrong-length-requires returns advance-requires returns-2)
+leave_spec = tie.close (tie.spec is-wrong-length-requires returns advance-requires returns_2)

@@ -1,7 +1,7 @@
 -- `moves_from` meets its contract. The invariant is `Walking`: the place lies in its interval, and standing there is what so
 -- many moves come to.
-use Rattle.walks.proofs.Moves.{Walking, walking_start, walking-fits, walking-more, walking-refused, walking-end}
-use Rattle.walks.specs.Move.{movedSays, standAt}
+use Rattle.walks.proofs.Moves.{Walking, walking_start, walking_fits, walking_more, walking_refused, walking_end}
+use Rattle.walks.specs.Move.{moved_says, stand_at}
 use Rattle.tables.specs.Tables.{tables}
 use Rattle.outcomes.specs.Outcome.{done}
 use borrow.Author.Rules.{rules}
@@ -13,7 +13,7 @@ use Rattle.walks.proofs.walk.moves_from.Tie as tie
 
 abbrev invariant-loop : tie.invariant-loop
 invariant-loop n starts images holders lengths x i m place₀ interval₀ count₀ made₀ place interval count made =
-    Walking n (tables starts images holders lengths) x i m (standAt starts interval place count) made
+    Walking n (tables starts images holders lengths) x i m (stand_at starts interval place count) made
 
 abbrev decreases-loop : tie.decreases-loop
 decreases-loop n starts images holders lengths x i m place₀ interval₀ count₀ made₀ place interval count made = m - made
@@ -31,8 +31,8 @@ returns : tie.Need-returns invariant-loop decreases-loop
 returns c =
     let a = c.before.before.before in
     let l = a.before.before in
-    let e = ap movedSays (sym c.before.r.given.1) ∙ a.leave.ensures in
-    walking-refused _ _ _ _ _ _ _ l.loop.invariant _ _ e (omega arith)
+    let e = ap moved_says (sym c.before.r.given.1) ∙ a.leave.ensures in
+    walking_refused _ _ _ _ _ _ _ l.loop.invariant _ _ e (omega arith)
 
 enum-known-next : tie.Need-enum-known-next invariant-loop decreases-loop
 enum-known-next c = search rules
@@ -42,9 +42,9 @@ add-count c =
     let s = c.before.before in
     let a = s.before.before in
     let l = a.before.before in
-    let e = ap movedSays (sym s.next.given.1) ∙ a.leave.ensures in
+    let e = ap moved_says (sym s.next.given.1) ∙ a.leave.ensures in
     let m = l.before.before.before.before.before.ranges.m in
-    omega (arith, walking-fits _ _ _ _ _ _ _ l.loop.invariant _ e a.before.loop-test.true (omega arith))
+    omega (arith, walking_fits _ _ _ _ _ _ _ l.loop.invariant _ e a.before.loop-test.true (omega arith))
 
 add-made : tie.Need-overflow-add-made invariant-loop decreases-loop
 add-made c = omega arith
@@ -57,19 +57,19 @@ loop-again c =
     let s = c.before.before in
     let a = s.before.before in
     let l = a.before.before in
-    let e = ap movedSays (sym s.next.given.1) ∙ a.leave.ensures in
-    walking-more _ _ _ _ _ _ _ l.loop.invariant _ e a.before.loop-test.true
+    let e = ap moved_says (sym s.next.given.1) ∙ a.leave.ensures in
+    walking_more _ _ _ _ _ _ _ l.loop.invariant _ e a.before.loop-test.true
 
 stand-requires : tie.Need-stand-requires invariant-loop decreases-loop
 stand-requires c κs =
     let here = c.before.loop.invariant.here in
     (here.at.entered.index, here.at.low)
 
-returns-2 : tie.Need-returns-2 invariant-loop decreases-loop
-returns-2 c = ap done c.stand.ensures ∙ walking-end _ _ _ _ _ _ _ c.before.before.loop.invariant (omega arith)
+returns_2 : tie.Need-returns-2 invariant-loop decreases-loop
+returns_2 c = ap done c.stand.ensures ∙ walking_end _ _ _ _ _ _ _ c.before.before.loop.invariant (omega arith)
 
-pub moves-from-spec : {M : Type 1} → statement M
-moves-from-spec =
+pub moves_from_spec : {M : Type 1} → statement M
+moves_from_spec =
     tie.close
     (tie.spec
     invariant-loop
@@ -84,4 +84,4 @@ moves-from-spec =
     loop-less
     loop-again
     stand-requires
-    returns-2)
+    returns_2)
