@@ -4,6 +4,8 @@
 // What balancing is stands in the crate cuts (specs/Balance), and where to cut is planned by the crate plans; the tests, and what
 // stands in each lent table at exit, in specs/Lent. All is decided before one of the four tables is written.
 
+#![tactic(auto)]
+
 mod fill;
 
 ghost use Rattle.std.specs.Prelude.{◌≡◌, ◌+◌, length};

@@ -2,6 +2,9 @@
 //
 // Each operation's contract gives the answer and the bookmark after it by their definitions in specs/, for any bookmark
 // and any tables. On the tables of a legal list a bookmark follows the list's function (demand 2).
+
+#![tactic(auto)]
+
 mod marking;
 
 ghost use Rattle.tables.specs.Tables.{tables};

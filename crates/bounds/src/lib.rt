@@ -4,6 +4,8 @@
 // How many cuts are certain stands in the crate cuts (specs/Certain), and what `first_degree` asks and promises in
 // specs/Bound. It is for our own crates, which have had the list checked.
 
+#![tactic(auto)]
+
 ghost use Rattle.std.specs.Prelude.{◌≡◌, ◌≤◌, length};
 ghost use Rattle.order.specs.Order.{order_of};
 ghost use Rattle.runs.specs.Parts.{Ordered};

@@ -5,6 +5,8 @@
 // What balancing is stands in specs/Balance, and what `find_cuts` asks and promises in specs/Cuts.
 // It is for our own crates, which have had the list checked.
 
+#![tactic(auto)]
+
 mod fronts;
 mod marks;
 mod pieces;

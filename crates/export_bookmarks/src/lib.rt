@@ -1,5 +1,8 @@
 // A bookmark's move as a C function on numbers, slices and a lent bookmark, for a host program in Rust or C: thin above the proved
 // operation. docs/BOUNDARY.md says what a caller owes and how an answer is read.
+
+#![tactic(auto)]
+
 mod answers;
 
 ghost use Rattle.tables.specs.Tables.{tables};

@@ -2,6 +2,9 @@
 // docs/BOUNDARY.md says what a caller owes and how an answer is read.
 //
 // The listing answers no struct, but how many bytes it wrote; a refusal is its text.
+
+#![tactic(auto)]
+
 mod answers;
 
 ghost use Rattle.std.specs.Prelude.{◌≡◌};

@@ -1,6 +1,9 @@
 // The next list and the fold as C functions on numbers and slices, for a host program in Rust or C: thin above the proved operations.
 // docs/BOUNDARY.md says what a caller owes and how an answer is read. Both stand in one crate, so that `lists::with_room` has two callers
 // and its large tables stay out of their frames (docs/DECISIONS.md, "Few runs get small tables").
+
+#![tactic(auto)]
+
 mod answers;
 mod written;
 

@@ -2,6 +2,9 @@
 // operation. docs/BOUNDARY.md says what a caller owes and how an answer is read.
 //
 // The records are a slice too, and are filled in where they lie. A refusal's `place` is a place, an interval or a record's index.
+
+#![tactic(auto)]
+
 mod answers;
 
 ghost use Rattle.tables.specs.Tables.{tables};

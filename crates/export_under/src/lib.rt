@@ -4,6 +4,9 @@
 // A part of a slice has no C form, so it passes as an index and a count. The export has an archive of its own so that
 // `weights::weight`, which it calls, has one caller here and one in that of the walks: with two the compiler makes it a
 // function, and a weight takes longer.
+
+#![tactic(auto)]
+
 mod answers;
 
 ghost use Rattle.std.specs.Prelude.{◌≡◌};

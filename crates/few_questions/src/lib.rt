@@ -3,6 +3,9 @@
 // A function that lends a slice of records is proved by a walk of its code by hand. This crate has one, so that the
 // programs above need none. An array has a fixed number of records: a count says how many of them are asked about.
 // specs/Few says what becomes of each.
+
+#![tactic(auto)]
+
 ghost use Rattle.std.specs.Prelude.{◌≤◌, min};
 ghost use Rattle.tables.specs.Tables.{tables};
 ghost use Rattle.few_questions.specs.Few.{AnswersFew};

@@ -1,6 +1,9 @@
 // The check of a file of a run list: any bytes are accepted or refused.
 //
 // The definitions that its contract cites, and which files are right, stand with the file (crate files).
+
+#![tactic(auto)]
+
 ghost use Rattle.std.specs.Prelude.{◌≡◌, [], ◌∷◌, ◌≤◌, length};
 ghost use Rattle.outcomes.specs.Outcome.{Long};
 ghost use Rattle.outcomes.specs.Refusal.{checked_says};

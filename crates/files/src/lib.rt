@@ -2,6 +2,9 @@
 //
 // What a file is, and the tests that it is held to, stand in specs/Words and specs/File; specs/Right says in plain facts
 // which files are accepted, and specs/Parts what the functions here ask.
+
+#![tactic(auto)]
+
 mod layout;
 mod words;
 

@@ -2,6 +2,9 @@
 // permutation can have.
 //
 // The definitions that the contracts cite are in specs/.
+
+#![tactic(auto)]
+
 ghost use Rattle.std.specs.Prelude.{◌≡◌, [], ◌∷◌, ◌≤◌, ◌<◌, length};
 ghost use Rattle.outcomes.specs.Outcome.{Long};
 ghost use Rattle.outcomes.specs.Refusal.{checked_says};

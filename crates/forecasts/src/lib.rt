@@ -4,6 +4,8 @@
 // Both plan as balancing does (crate plans) and clear the working table instead of reading it. Their tests and results stand in
 // specs/Sizing and specs/Seeking.
 
+#![tactic(auto)]
+
 ghost use Rattle.runs.specs.Runs.{runs};
 ghost use Rattle.forecasts.specs.Sizing.{Forecasts};
 ghost use Rattle.forecasts.specs.Seeking.{Seeks};

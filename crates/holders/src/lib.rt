@@ -5,6 +5,8 @@
 // mostly the one of its bucket or one of the few before it. Where it is not, all starts are searched.
 // What is noted is promised to be high enough (specs/Buckets). That it is not too high is a matter of time alone.
 
+#![tactic(auto)]
+
 mod buckets;
 
 ghost use Rattle.std.specs.Prelude.{◌≡◌, map, ◌+◌, ◌≤◌, ◌<◌, length};

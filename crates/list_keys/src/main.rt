@@ -11,6 +11,9 @@
 //     fold n, the sizes of two lent tables : starts : images
 //
 // A file is answered by its check, and then by how many bytes its listing has.
+
+#![tactic(auto)]
+
 mod answers;
 mod lent;
 

@@ -1,5 +1,8 @@
 // Reads the file of a run list on standard input, and writes its listing, or the line of its refusal, on standard output.
 // Of a longer file than can be listed the first bytes decide (listings, specs/Listing).
+
+#![tactic(auto)]
+
 fn main() {
     let mut file: [u8; listings::DECIDING_BYTES] = [0; listings::DECIDING_BYTES];
     let got = io::read_full(0, &mut file);

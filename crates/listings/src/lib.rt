@@ -1,6 +1,9 @@
 // The listing of a file of a run list: bytes in, bytes out.
 //
 // specs/Listing says what the text is and what `list_file` promises.
+
+#![tactic(auto)]
+
 mod lines;
 mod table;
 

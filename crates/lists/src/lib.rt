@@ -1,6 +1,8 @@
 // The operations on a run list: its check, its inverse list, and the shift of a run. Each works in room of its own, as large
 // as the list needs.
 
+#![tactic(auto)]
+
 mod inverse;
 
 ghost use Rattle.std.specs.Prelude.{◌≡◌};

@@ -1,6 +1,9 @@
 // A list's starts and the cuts made in it, as one rising sequence: marks along it.
 //
 // Both public functions have a `requires` and are for our own crates: starts and cuts rise, and the mark is one of theirs.
+
+#![tactic(auto)]
+
 ghost use Rattle.std.specs.Prelude.{◌≡◌, ◌+◌, get_or};
 ghost use Rattle.merging.specs.Merged.{merged, Starts};
 ghost use Rattle.merging.specs.Marks.{At, Follows};

@@ -3,6 +3,8 @@
 // An operation is defined as a list of tests and a result (specs/Outcome); its answer is an enum of its own, and a
 // definition beside that says in the paper's numbers what each case is.
 
+#![tactic(auto)]
+
 ghost use Rattle.std.specs.Prelude.{◌≡◌, not};
 ghost use Rattle.outcomes.specs.Degree.{no_degree};
 ghost use Rattle.outcomes.specs.Refusal.{number_of, place_of};

@@ -2,6 +2,8 @@
 // each as a list of fewest runs. `next_list` writes the list after a given one. That from the identity each permutation comes once
 // is proved (specs/SmallLists).
 
+#![tactic(auto)]
+
 mod after;
 mod values;
 

@@ -5,6 +5,8 @@
 // degree asks from 2 on. Which tests there are and what the working table holds afterwards stands in specs/Working, the degree in
 // specs/Fitting, and what `plan` promises in specs/Plan.
 
+#![tactic(auto)]
+
 mod deciding;
 mod rooms;
 mod seeking;

@@ -2,6 +2,9 @@
 //
 // The contract is one equation with the definition in specs/. On the tables of a legal list it is the inverse of the
 // list's function (proofs/LegalPreimages).
+
+#![tactic(auto)]
+
 ghost use Rattle.std.specs.Prelude.{◌≡◌, ◌<◌, length};
 ghost use Rattle.outcomes.specs.Search.{first_below};
 ghost use Rattle.tables.specs.Tables.{tables};

@@ -5,6 +5,9 @@
 // record: one pass along the starts then finds all intervals, and counts the answer (specs/Agree). It is made once to judge and
 // once to fill in, since nothing is lent to keep the intervals in. specs/Questions says the order of the tests, the answer and
 // each record; specs/Agree that each record agrees with find and move done alone.
+
+#![tactic(auto)]
+
 mod filling;
 mod finding;
 mod judging;

@@ -10,6 +10,9 @@
 // answers: 0 and its values, or the number and the place of the refusal. What is lent has at most 256 entries, sevens
 // before the call (a text: #), and is printed after it, refused or not. A heading has no answer, and any row that is no
 // call is answered by `no call`.
+
+#![tactic(auto)]
+
 mod fields;
 pub mod out;
 mod words;

@@ -4,6 +4,8 @@
 // end, the next start or n, to as many places from its image on. The definitions that the contracts cite are in
 // specs/, one idea a file.
 
+#![tactic(auto)]
+
 mod conditions;
 mod sweep;
 

@@ -1,5 +1,8 @@
 // The move table of a run list (starts, images, holders, lengths), with any numbers in it, and the tests that operations on it
 // share: all functions are for our own crates. A function is handed the columns that it reads.
+
+#![tactic(auto)]
+
 mod measuring;
 
 ghost use Rattle.std.specs.Prelude.{◌≡◌, ◌<◌, length};

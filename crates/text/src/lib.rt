@@ -2,6 +2,9 @@
 //
 // Each function asks that there is room for what it writes, writes that from `at` on, and answers where to go on
 // (specs/Page). So they are for our own crates, which know how long a text can be. specs/Text says what the text is.
+
+#![tactic(auto)]
+
 mod numbers;
 
 ghost use Rattle.std.specs.Prelude.{[], ◌∷◌, ◌++◌, ◌<◌, nat_abs};

@@ -15,6 +15,9 @@
 // `starts-under` is answered by how many starts there are, and which; `under` by the first one's index and how many there are.
 // A bookmark and the records of questions are printed after the call. `trail` makes m moves of a bookmark, at least one, and is
 // answered by the last.
+
+#![tactic(auto)]
+
 mod answers;
 mod asking;
 

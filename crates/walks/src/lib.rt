@@ -3,6 +3,9 @@
 // Each operation's contract is one equation with its definition in specs/, for every input. On the tables of a legal
 // list these are the list's function and its powers (proofs/LegalTables). What questions share with them stands last, and asks for
 // what the tests before it show: find's test 11, the walk that its definition speaks of, and the step of a move.
+
+#![tactic(auto)]
+
 mod locating;
 mod reaching;
 mod walk;

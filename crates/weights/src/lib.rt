@@ -3,6 +3,9 @@
 //
 // Each contract on tables is one equation with its definition in specs/. On the tables of a legal list the weight is that of
 // the list (proofs/LegalWeights).
+
+#![tactic(auto)]
+
 ghost use Rattle.std.specs.Prelude.{◌≡◌, ◌≤◌, false, eqb};
 ghost use Rattle.outcomes.specs.Outcome.{◌then◌else◌};
 ghost use Rattle.tables.specs.Tables.{links, tables, unheld};

@@ -7,39 +7,39 @@ use Rattle.merging.proofs.step.Statement.{statement}
 use Rattle.merging.proofs.step.Tie as tie
 
 -- the call, from after its two reads
-abbrev start : tie.After-entry-or2 → tie.Start
+abbrev start : tie.After-entry_or-u → tie.Start
 start c = c.before.before.before.before
 
-entry-or-requires : tie.Need-entry-or-requires
+entry-or-requires : tie.Need-entry_or-s-requires
 entry-or-requires c κs = search rules
 
-entry-or-requires-2 : tie.Need-entry-or-requires-2
+entry-or-requires-2 : tie.Need-entry_or-u-requires
 entry-or-requires-2 c κs = search rules
 
-add-t10 : tie.Need-overflow-add-t10
+add-t10 : tie.Need-overflow_add-behind
 add-t10 c = let a = start c.before.before in
-    omega (arith, a.pre.1.within, a.good, merged_length a.args.starts.now a.args.cuts.now)
+    omega (arith, a.requires.1.within, a.well_formed, merged_length a.args.starts.now a.args.cuts.now)
 
-returns : tie.Need-returns
+returns : tie.Need-returns-then-u-s
 returns c =
     let r = c.before.before in
     let a = start r in
     record {
-      entry_is = r.entry-or2.ensures ∙ at_cut _ _ _ a.pre.0 _ _ a.pre.1 (omega (arith, r.before.entry-or.ensures, r.entry-or2.ensures, c.before.if1.true));
-      behind = λ h. next_cut _ _ _ a.pre.0 _ _ a.pre.1 h (omega (arith, r.before.entry-or.ensures, r.entry-or2.ensures, c.before.if1.true));
+      entry_is = r.entry_or-u.ensures ∙ at_cut _ _ _ a.requires.0 _ _ a.requires.1 (omega (arith, r.before.entry_or-s.ensures, r.entry_or-u.ensures, c.before.if-u-s.true));
+      behind = λ h. next_cut _ _ _ a.requires.0 _ _ a.requires.1 h (omega (arith, r.before.entry_or-s.ensures, r.entry_or-u.ensures, c.before.if-u-s.true));
     }
 
-add-t11 : tie.Need-overflow-add-t11
+add-t11 : tie.Need-overflow_add-behind-2
 add-t11 c = let a = start c.before.before in
-    omega (arith, a.pre.1.within, a.good, merged_length a.args.starts.now a.args.cuts.now)
+    omega (arith, a.requires.1.within, a.well_formed, merged_length a.args.starts.now a.args.cuts.now)
 
-returns_2 : tie.Need-returns-2
+returns_2 : tie.Need-returns
 returns_2 c =
     let r = c.before.before in
     let a = start r in
     record {
-      entry_is = r.before.entry-or.ensures ∙ at_start _ _ _ a.pre.0 _ _ a.pre.1 (omega (arith, r.before.entry-or.ensures, r.entry-or2.ensures, c.before.if1.false));
-      behind = λ h. next_start _ _ _ a.pre.0 _ _ a.pre.1 h (omega (arith, r.before.entry-or.ensures, r.entry-or2.ensures, c.before.if1.false));
+      entry_is = r.before.entry_or-s.ensures ∙ at_start _ _ _ a.requires.0 _ _ a.requires.1 (omega (arith, r.before.entry_or-s.ensures, r.entry_or-u.ensures, c.before.if-u-s.false));
+      behind = λ h. next_start _ _ _ a.requires.0 _ _ a.requires.1 h (omega (arith, r.before.entry_or-s.ensures, r.entry_or-u.ensures, c.before.if-u-s.false));
     }
 
 pub step_spec : {M : Type 1} → statement M

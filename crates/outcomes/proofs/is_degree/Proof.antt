@@ -9,11 +9,11 @@ use Rattle.order.proofs.Laws.{lt_or_le}
 use Rattle.outcomes.proofs.is_degree.Statement.{statement}
 use Rattle.outcomes.proofs.is_degree.Tie as tie
 
-returns : tie.Need-returns
-returns c = rw (lt-ltb c.before.args.d 2 c.if1.true)
+returns : tie.Need-returns-then-d-lt2
+returns c = rw (lt-ltb c.before.args.d 2 c.if-d-lt2.true)
 
-returns_2 : tie.Need-returns-2
-returns_2 c = rw (le-ltb c.before.args.d 2 c.if1.false) (go (lt_or_le 64 c.before.args.d))
+returns_2 : tie.Need-returns
+returns_2 c = rw (le-ltb c.before.args.d 2 c.if-d-lt2.false) (go (lt_or_le 64 c.before.args.d))
   where
     go : (64 < c.before.args.d) ⊎ (c.before.args.d ≤ 64) → leb c.before.args.d 64 ≡ not (ltb 64 c.before.args.d)
     go (inl h) = rw (lt-leb c.before.args.d 64 h, lt-ltb 64 c.before.args.d h)
