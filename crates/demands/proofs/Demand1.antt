@@ -14,7 +14,7 @@ use Rattle.outcomes.specs.Refusal.{checked_says}
 use Rattle.runs.specs.Runs.{Runs, count_of}
 use Rattle.runs.specs.Check.{list_tests, tests_up_to}
 use Rattle.runs.specs.Written.{written_says}
-use Rattle.runs.specs.contracts.Written.{writes_kept}
+use Rattle.runs.proofs.WritesList.{writes_kept}
 use Rattle.lists.specs.Inverse.{inverse_list_of}
 use Rattle.permutations.specs.Next.{next_of, next_says}
 use Rattle.folds.specs.Lent.{fold_of}

@@ -14,7 +14,7 @@ use Rattle.runs.specs.Written.{written_says}
 use Rattle.runs.specs.declared.Written.{Written}
 use Rattle.runs.proofs.Accepted.{accepted_legal, legal_accepted}
 use Rattle.runs.proofs.Bijection.{map_below, map_injective}
-use Rattle.runs.specs.contracts.Written.{writes_list}
+use Rattle.runs.proofs.WritesList.{writes_list}
 use Rattle.runs.proofs.WritesList.{written_given, written_only, list_over}
 use Rattle.folds.specs.Fold.{folded}
 use Rattle.folds.specs.Lent.{fold_of, Folds}

@@ -9,7 +9,7 @@ use Rattle.runs.specs.Check.{max_runs, check_of}
 use Rattle.runs.specs.Written.{written_says, WritesList, if_room}
 use Rattle.runs.specs.declared.Written.TheVariants.{RunCount}
 use Rattle.runs.proofs.Accepted.{accepted_legal}
-use Rattle.runs.specs.contracts.Written.{writes_done}
+use Rattle.runs.proofs.WritesList.{writes_done}
 use Rattle.runs.proofs.WritesList.{room_for}
 use Rattle.folds.specs.Fold.{folded}
 use Rattle.folds.specs.Parts.{Foldable, FoldWritten}

@@ -22,7 +22,7 @@ use Rattle.outcomes.specs.declared.Checked.{Checked}
 use Rattle.outcomes.specs.declared.Checked.TheVariants.{Accepted, Refused}
 use Rattle.outcomes.proofs.Judging.{judge_append}
 use Rattle.runs.proofs.Ranking.{ordered_room, entry_below}
-use Rattle.runs.specs.contracts.Written.{writes_refused, writes_done}
+use Rattle.runs.proofs.WritesList.{writes_refused, writes_done}
 
 -- the order by image serves to gather as many numbers as there are runs
 pub ordered_gathers : (r : Runs) (order : List ℕ) → Ordered r order → (from to : List ℕ) → length from ≡ count_of r

@@ -16,7 +16,7 @@ use Rattle.runs.specs.Legal.{Legal}
 use Rattle.runs.specs.Check.{check_of}
 use Rattle.runs.proofs.Legality.{legal_few}
 use Rattle.runs.proofs.Accepted.{legal_accepted}
-use Rattle.runs.specs.contracts.Written.{writes_list}
+use Rattle.runs.proofs.WritesList.{writes_list}
 use Rattle.folds.specs.Fold.{maximal_runs}
 use Rattle.permutations.specs.Values.{values_of, value_at, Before}
 use Rattle.permutations.specs.Next.{ascent_of, successor, falls, max_places, size_test, last_test, next_runs, next_of, next_says, NextListed}

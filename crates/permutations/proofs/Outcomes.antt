@@ -23,7 +23,7 @@ use Rattle.runs.specs.Check.{check_tests, check_of, list_tests, tests_up_to}
 use Rattle.runs.specs.Written.{WritesList}
 use Rattle.runs.proofs.Legality.{legal_few}
 use Rattle.runs.proofs.Accepted.{accepted_legal}
-use Rattle.runs.specs.contracts.Written.{writes_refused}
+use Rattle.runs.proofs.WritesList.{writes_refused}
 use Rattle.folds.specs.Fold.{maximal_runs}
 use Rattle.permutations.specs.declared.Next.{Next}
 use Rattle.permutations.specs.declared.Next.TheVariants.{Refused}

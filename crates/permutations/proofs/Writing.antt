@@ -11,7 +11,7 @@ use Rattle.outcomes.specs.Outcome.{done, Long, over}
 use Rattle.outcomes.specs.declared.Refusal.TheVariants.{LastPermutation}
 use Rattle.runs.specs.Runs.{Runs, runs, count_of}
 use Rattle.runs.specs.Written.{WritesList}
-use Rattle.runs.specs.contracts.Written.{writes_refused, writes_done}
+use Rattle.runs.proofs.WritesList.{writes_refused, writes_done}
 use Rattle.folds.specs.Fold.{folded, maximal_runs}
 use Rattle.folds.specs.Parts.{Foldable, FoldWritten}
 use Rattle.folds.proofs.Maximal.{maximal_few}

@@ -11,5 +11,4 @@ pub mod Bijection
 pub mod Walks
 pub mod Tiling
 pub mod Sequences
-pub mod Written
 pub mod WritesList

@@ -14,130 +14,130 @@ use Rattle.holders.proofs.Holding.{runs_below, holder_counted, tops_above}
 use Rattle.holders.proofs.write_by_tops.Statement.{statement}
 use Rattle.holders.proofs.write_by_tops.Tie as tie
 
-abbrev invariant-loop : tie.invariant-loop
-invariant-loop n starts images scale tops to₀ x₀ to x = Filling (map (run_at n (runs starts images)) images) to₀ to x
+abbrev invariant-loop-x : tie.invariant-loop-x
+invariant-loop-x n starts images scale tops to₀ x₀ to x = Filling (map (run_at n (runs starts images)) images) to₀ to x
 
-abbrev decreases-loop : tie.decreases-loop
-decreases-loop n starts images scale tops to₀ x₀ to x = length images - x
+abbrev decreases-loop-x : tie.decreases-loop-x
+decreases-loop-x n starts images scale tops to₀ x₀ to x = length images - x
 
 -- the places: the call, from where the loop stands, and a turn, from after its holder is found
-abbrev start : tie.At-loop invariant-loop decreases-loop → tie.Start invariant-loop decreases-loop
+abbrev start : tie.At-loop-x invariant-loop-x decreases-loop-x → tie.Start invariant-loop-x decreases-loop-x
 start c = c.before.before.before.before.before
 
-abbrev turn : tie.After-holder-up-to invariant-loop decreases-loop → tie.In-loop invariant-loop decreases-loop
+abbrev turn : tie.After-holder_up_to invariant-loop-x decreases-loop-x → tie.In-loop-x invariant-loop-x decreases-loop-x
 turn c = c.before.before.before.before
 
-abbrev list_of : tie.Start invariant-loop decreases-loop → Runs
+abbrev list_of : tie.Start invariant-loop-x decreases-loop-x → Runs
 list_of a = runs a.args.starts.now a.args.images.now
 
-abbrev holder_of : tie.Start invariant-loop decreases-loop → ℕ → ℕ
+abbrev holder_of : tie.Start invariant-loop-x decreases-loop-x → ℕ → ℕ
 holder_of a = run_at a.args.n (list_of a)
 
 -- the image of a turn
-abbrev image_at : tie.In-loop invariant-loop decreases-loop → ℕ
-image_at e = get_or (start e.before).args.images.now e.before.loop.x 0
+abbrev image_at : tie.In-loop-x invariant-loop-x decreases-loop-x → ℕ
+image_at e = get_or (start e.before).args.images.now e.loop-x.x 0
 
-within : (e : tie.In-loop invariant-loop decreases-loop) → e.before.loop.x < length (start e.before).args.starts.now
-within e = omega (arith, e.loop-test.true, (start e.before).pre.0.paired)
+within : (e : tie.In-loop-x invariant-loop-x decreases-loop-x) → e.loop-x.x < length (start e.before).args.starts.now
+within e = omega (arith, e.loop-x-test.true, (start e.before).requires.0.paired)
 
 -- its bucket has an entry
-bucketed : (e : tie.In-loop invariant-loop decreases-loop) → let a = (start e.before).args in
+bucketed : (e : tie.In-loop-x invariant-loop-x decreases-loop-x) → let a = (start e.before).args in
     bucket_of a.scale (image_at e) < length a.tops.now
 bucketed e = let a = start e.before in
-    a.pre.1.scaled.inside (image_at e) (image_below a.args.n (list_of a) a.pre.0 e.before.loop.x (within e))
+    a.requires.1.scaled.inside (image_at e) (image_below a.args.n (list_of a) a.requires.0 e.loop-x.x (within e))
 
 -- what is found is its holder
-found : (c : tie.After-holder-up-to invariant-loop decreases-loop)
-    → c.holder-up-to.result ≡ holder_of (start (turn c).before) (image_at (turn c))
+found : (c : tie.After-holder_up_to invariant-loop-x decreases-loop-x)
+    → c.holder_up_to.result ≡ holder_of (start (turn c).before) (image_at (turn c))
 found c =
     let e = turn c in
     let a = start e.before in
-    omega (arith, c.holder-up-to.ensures, holder_counted a.args.n (list_of a) a.pre.0 e.before.loop.x (within e))
+    omega (arith, c.holder_up_to.ensures, holder_counted a.args.n (list_of a) a.requires.0 e.loop-x.x (within e))
 
-loop-holds : tie.Need-loop-init invariant-loop decreases-loop
-loop-holds c = let a = c.before.before.before.before in
-    filling_none _ _ (omega (arith, length-map a.args.images.now (holder_of a), a.requires.0.paired, a.requires.2))
+loop-holds : tie.Need-loop-x-init invariant-loop-x decreases-loop-x
+loop-holds c = let a = c in
+    filling_none _ _ (omega (arith, length-map a.args.images.now (holder_of a.before.before.before.before), a.requires.0.paired, a.requires.2))
 
-mul-p : tie.Need-overflow-mul-p invariant-loop decreases-loop
+mul-p : tie.Need-offset_bounds-images-x invariant-loop-x decreases-loop-x
 mul-p c = omega arith
 
-shared-slice-read-p : tie.Need-shared-slice-read-p invariant-loop decreases-loop
+shared-slice-read-p : tie.Need-bounds-images-x invariant-loop-x decreases-loop-x
 shared-slice-read-p c = omega arith
 
-bucket-of-requires : tie.Need-bucket-of-requires invariant-loop decreases-loop
-bucket-of-requires c κs = let e = c.before in
-    omega (arith, bucketed e, (start e.before).pre.1.scaled.few)
+bucket-of-requires : tie.Need-bucket_of-requires invariant-loop-x decreases-loop-x
+bucket-of-requires c κs = let e = c in
+    omega (arith, bucketed e.before, (start e.before).requires.1.scaled.few)
 
-mul-top : tie.Need-overflow-mul-top invariant-loop decreases-loop
-mul-top c = let e = c.before.before in
-    omega (arith, c.bucket-of.ensures, bucketed e, (start e.before).pre.1.scaled.few)
+mul-top : tie.Need-offset_bounds-tops-bucket_of invariant-loop-x decreases-loop-x
+mul-top c = let e = c in
+    omega (arith, c.bucket_of.ensures, bucketed e.before.before, (start e.before).requires.1.scaled.few)
 
-shared-slice-read-top : tie.Need-shared-slice-read-top invariant-loop decreases-loop
-shared-slice-read-top c = omega (arith, c.before.bucket-of.ensures, bucketed c.before.before.before)
+shared-slice-read-top : tie.Need-bounds-tops-bucket_of invariant-loop-x decreases-loop-x
+shared-slice-read-top c = omega (arith, c.bucket_of.ensures, bucketed c.before.before.before)
 
-cast-holder-up-to : tie.Need-overflow-cast-holder-up-to invariant-loop decreases-loop
-cast-holder-up-to c = omega (arith, c.shared-slice-known5.given c.before.bucket-of.result)
+cast-holder-up-to : tie.Need-overflow_cast-top invariant-loop-x decreases-loop-x
+cast-holder-up-to c = omega (arith, c.shared_slice_known-in-loop-x-2-1.given c.bucket_of.result)
 
-holder-up-to-requires : tie.Need-holder-up-to-requires invariant-loop decreases-loop
+holder-up-to-requires : tie.Need-holder_up_to-requires invariant-loop-x decreases-loop-x
 holder-up-to-requires c κs =
-    let b = c.before in
-    let e = b.before.before in
+    let b = c in
+    let e = b in
     let a = start e.before in
-    let x = e.before.loop.x in
+    let x = e.loop-x.x in
     let tops = a.args.tops.now in
-    let top = tops_above a.args.n (list_of a) a.pre.0 _ tops a.pre.1 x (within e) in (
-      subst (λ (u : ℕ). NotBelow a.args.starts.now (image_at e) (get_or tops u 0)) (sym b.bucket-of.ensures) top,
-      omega (arith, image_below a.args.n (list_of a) a.pre.0 x (within e)),
+    let top = tops_above a.args.n (list_of a) a.requires.0 _ tops a.requires.1 x (within e.before.before.before) in (
+      subst (λ (u : ℕ). NotBelow a.args.starts.now (image_at e.before.before.before) (get_or tops u 0)) (sym b.bucket_of.ensures) top,
+      omega (arith, image_below a.args.n (list_of a) a.requires.0 x (within e.before.before.before)),
     )
 
-cast-to : tie.Need-overflow-cast-to invariant-loop decreases-loop
+cast-to : tie.Need-overflow_cast-to invariant-loop-x decreases-loop-x
 cast-to c =
     let e = turn c in
     let a = start e.before in
     omega (
       arith,
-      c.holder-up-to.ensures,
+      c.holder_up_to.ensures,
       count_le_length (image_at e + 1) a.args.starts.now,
-      runs_below a.args.n (list_of a) a.pre.0,
+      runs_below a.args.n (list_of a) a.requires.0,
     )
 
-mul-to : tie.Need-overflow-mul-to invariant-loop decreases-loop
+mul-to : tie.Need-offset_bounds-to-x invariant-loop-x decreases-loop-x
 mul-to c = let e = turn c in
-    omega (arith, (start e.before).pre.2, within e)
+    omega (arith, (start e.before).requires.2, within e)
 
-slice-write-to : tie.Need-slice-write-to invariant-loop decreases-loop
+slice-write-to : tie.Need-bounds-to-x invariant-loop-x decreases-loop-x
 slice-write-to c =
     let e = turn c in
-    let l = e.before.loop in
-    omega (arith, (start e.before).pre.2, within e, filling_length _ _ l.to l.x l.inv)
+    let l = e.loop-x in
+    omega (arith, (start e.before).requires.2, within e, filling_length _ _ l.to l.x l.inv)
 
-add-x : tie.Need-overflow-add-x invariant-loop decreases-loop
+add-x : tie.Need-overflow_add-x invariant-loop-x decreases-loop-x
 add-x c = omega arith
 
-loop-less : tie.Need-loop-smaller invariant-loop decreases-loop
+loop-less : tie.Need-loop-x-smaller invariant-loop-x decreases-loop-x
 loop-less c = omega arith
 
-loop-again : tie.Need-loop-preserved invariant-loop decreases-loop
+loop-again : tie.Need-loop-x-preserved invariant-loop-x decreases-loop-x
 loop-again c =
     let e = turn c in
     let a = start e.before in
-    let l = e.before.loop in
+    let l = e.loop-x in
     filling_next _ _ _ _ l.inv (omega (arith, length-map a.args.images.now (holder_of a))) _
-    (found c ∙ sym (get_d_map (holder_of a) a.args.images.now l.x 0 e.loop-test.taken))
+    (found c ∙ sym (get_d_map (holder_of a) a.args.images.now l.x 0 e.loop-x-test.true))
 
-same_length : tie.Need-same-length invariant-loop decreases-loop
-same_length c = filling_length _ _ _ _ c.before.loop.invariant
+same_length : tie.Need-shape_of-to invariant-loop-x decreases-loop-x
+same_length c = filling_length _ _ _ _ c.loop-x.invariant
 
-returns : tie.Need-returns invariant-loop decreases-loop
+returns : tie.Need-returns invariant-loop-x decreases-loop-x
 returns c = let a = start c.before in
-    filling_all _ _ _ _ c.before.loop.invariant (omega (arith, length-map a.args.images.now (holder_of a)))
+    filling_all _ _ _ _ c.loop-x.invariant (omega (arith, length-map a.args.images.now (holder_of a)))
 
 pub write_by_tops_spec : {M : Type 1} → statement M
 write_by_tops_spec =
     tie.close
     (tie.spec
-    invariant-loop
-    decreases-loop
+    invariant-loop-x
+    decreases-loop-x
     loop-holds
     mul-p
     shared-slice-read-p

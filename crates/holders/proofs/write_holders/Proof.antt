@@ -5,9 +5,9 @@ use Rattle.holders.proofs.Holding.{runs_below}
 use Rattle.holders.proofs.write_holders.Statement.{statement}
 use Rattle.holders.proofs.write_holders.Tie as tie
 
-note-tops-requires : tie.Need-note-tops-requires
+note-tops-requires : tie.Need-note_tops-scale-requires
 note-tops-requires c κs =
-    let a = c.before.before.before.before.before in
+    let a = c in
     let legal = a.requires.0 in
     record {
       some = legal.some;
@@ -16,13 +16,13 @@ note-tops-requires c κs =
       fits = a.requires.2;
     }
 
-write-by-tops-requires : tie.Need-write-by-tops-requires
+write-by-tops-requires : tie.Need-write_by_tops-requires
 write-by-tops-requires c κs = search rules
 
-same_length : tie.Need-same-length
+same_length : tie.Need-shape_of-to
 same_length c = search rules
 
-same_length_2 : tie.Need-same-length-2
+same_length_2 : tie.Need-shape_of-room
 same_length_2 c = search rules
 
 returns : tie.Need-returns

@@ -14,80 +14,80 @@ use Rattle.lists.proofs.check_or_invert.Statement.{statement}
 use Rattle.lists.proofs.check_or_invert.Tie as tie
 
 -- the check, and the list that it is of
-abbrev checking : tie.After-slice-known6 → tie.After-check-order
+abbrev checking : tie.After-slice_known-6-1 → tie.After-check_order-checked
 checking c = c.before.before.before.before
 
-abbrev list_of : tie.After-check-order → Runs
+abbrev list_of : tie.After-check_order-checked → Runs
 list_of c =
-    let a = c.before.before.before.before.before.before.before.before.before.args in
+    let a = c.args in
     runs a.starts.now a.images.now
 
 -- the list is accepted
-passed : (c : tie.After-enum-told)
+passed : (c : tie.In-Accepted)
     → let o = checking c.before.before.before in
-    done tt ≡ check_of o.before.before.before.before.before.before.before.before.before.args.n (list_of o)
-passed c = ap checked_says (sym c.enum_told.given.1) ∙ (checking c.before.before.before).check-order.ensures.says
+    done tt ≡ check_of o.args.n (list_of o)
+passed c = ap checked_says (sym c.enum_told-1.given.1) ∙ (checking c.before.before.before).check_order-checked.ensures.says
 
-check-order-requires : tie.Need-check-order-requires
+check-order-requires : tie.Need-check_order-checked-requires
 check-order-requires c κs = search rules
 
-same_length : tie.Need-same-length
+same_length : tie.Need-shape_of-order-then-not-inverts
 same_length c = search rules
 
-same_length_2 : tie.Need-same-length-2
+same_length_2 : tie.Need-shape_of-spare-then-not-inverts
 same_length_2 c = search rules
 
-returns : tie.Need-returns
+returns : tie.Need-returns-then-not-inverts
 returns c = record {
-  checked = λ e. (checking c.before).check-order.ensures.says;
-  inverted = λ e. absurd (false≢true (sym (not-true _ c.if1.true) ∙ e));
+  checked = λ e. (checking c.before).check_order-checked.ensures.says;
+  inverted = λ e. absurd (false≢true (sym (not-true _ c.if-not-inverts.true) ∙ e));
 }
 
-enum-known-checked : tie.Need-enum-known-checked
+enum-known-checked : tie.Need-enum_known-checked
 enum-known-checked c = search rules
 
-enum_told : tie.Need-enum-told
+enum_told : tie.Need-enum_told-1
 enum_told c = search rules
 
 write-requires : tie.Need-write-requires
 write-requires c κs =
-    let t = c.before.before.before in
-    let e = sym (passed t) in
-    ((checking t.before.before.before).check-order.ensures.ordered e, (accepted_legal _ _ e).1)
+    let t = c in
+    let e = sym (passed t.before.before) in
+    ((checking t.before.before.before.before.before).check_order-checked.ensures.ordered e, (accepted_legal _ _ e).1)
 
-same-length-3 : tie.Need-same-length-3
+same-length-3 : tie.Need-shape_of-order-in-Refused
 same-length-3 c = search rules
 
-same-length-4 : tie.Need-same-length-4
+same-length-4 : tie.Need-shape_of-spare-in-Refused
 same-length-4 c = search rules
 
-returns_2 : tie.Need-returns-2
+returns_2 : tie.Need-returns-in-Refused
 returns_2 c =
     record {
-      checked = λ e. absurd (false≢true (sym e ∙ not-false _ c.before.before.before.if1.false));
+      checked = λ e. absurd (false≢true (sym e ∙ not-false _ c.if-not-inverts.false));
       inverted = λ e. listed_refused _ _ _ _ _
-          (ap checked_says (sym c.before.checked.given.1) ∙ (checking c.before.before.before.before).check-order.ensures.says);
+          (ap checked_says (sym c.checked-1.given.1) ∙ (checking c.before.before.before.before).check_order-checked.ensures.says);
     }
 
-same-length-5 : tie.Need-same-length-5
+same-length-5 : tie.Need-shape_of-order-in-Accepted
 same-length-5 c = search rules
 
-same-length-6 : tie.Need-same-length-6
+same-length-6 : tie.Need-shape_of-spare-in-Accepted
 same-length-6 c = search rules
 
-same-length-7 : tie.Need-same-length-7
+same-length-7 : tie.Need-shape_of-to_starts
 same-length-7 c = search rules
 
-same-length-8 : tie.Need-same-length-8
+same-length-8 : tie.Need-shape_of-to_images
 same-length-8 c = search rules
 
-returns-3 : tie.Need-returns-3
+returns-3 : tie.Need-returns-in-Accepted
 returns-3 c =
-    let w = c.before.before.before.before in
-    let t = w.before.before.before.before in
+    let w = c in
+    let t = w in
     record {
-      checked = λ e. absurd (false≢true (sym e ∙ not-false _ t.before.before.if1.false));
-      inverted = λ e. listed_written _ _ _ _ _ _ _ (passed t) w.write.ensures;
+      checked = λ e. absurd (false≢true (sym e ∙ not-false _ t.if-not-inverts.false));
+      inverted = λ e. listed_written _ _ _ _ _ _ _ (passed t.before.before.before.before.before.before.before) w.write.ensures;
     }
 
 pub check_or_invert_spec : {M : Type 1} → statement M

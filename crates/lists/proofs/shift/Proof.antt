@@ -5,13 +5,13 @@ use Rattle.lists.proofs.Shifting.{minus_fits, minus_exact}
 use Rattle.lists.proofs.shift.Statement.{statement}
 use Rattle.lists.proofs.shift.Tie as tie
 
-cast-result : tie.Need-overflow-cast-result
+cast-result : tie.Need-overflow_cast-result
 cast-result c = search rules
 
-cast-result-2 : tie.Need-overflow-cast-result-2
+cast-result-2 : tie.Need-overflow_cast-result-2
 cast-result-2 c = search rules
 
-sub-result : tie.Need-overflow-sub-result
+sub-result : tie.Need-overflow_sub-result
 sub-result c = minus_fits c.args.image c.args.start (omega arith) (omega arith)
 
 returns : tie.Need-returns

@@ -8,54 +8,54 @@ use Rattle.tables.specs.Tables.{wrong_length}
 use Rattle.tables.proofs.first_wrong_length.Statement.{statement}
 use Rattle.tables.proofs.first_wrong_length.Tie as tie
 
-abbrev invariant-loop : tie.invariant-loop
-invariant-loop n starts lengths x₀ x = Searched (wrong_length n starts lengths) (length starts) x
+abbrev invariant-loop-x : tie.invariant-loop-x
+invariant-loop-x n starts lengths x₀ x = Searched (wrong_length n starts lengths) (length starts) x
 
-abbrev decreases-loop : tie.decreases-loop
-decreases-loop n starts lengths x₀ x = length starts - x
+abbrev decreases-loop-x : tie.decreases-loop-x
+decreases-loop-x n starts lengths x₀ x = length starts - x
 
-is-any-wrong-requires : tie.Need-is-any-wrong-requires invariant-loop decreases-loop
+is-any-wrong-requires : tie.Need-is_any_wrong-requires invariant-loop-x decreases-loop-x
 is-any-wrong-requires c κs = search rules
 
-returns : tie.Need-returns invariant-loop decreases-loop
+returns : tie.Need-returns-then-not-is_any_wrong invariant-loop-x decreases-loop-x
 returns c =
-    let a = c.before.before.before.before.args in
+    let a = c.args in
     let w = wrong_length a.n a.starts.now a.lengths.now in
     let k = length a.starts.now in
-    let none = ltb-false (first_below w k) k (sym c.before.is-any-wrong.ensures ∙ not-true _ c.if1.true) in
+    let none = ltb-false (first_below w k) k (sym c.is_any_wrong.ensures ∙ not-true _ c.if-not-is_any_wrong.true) in
     omega (arith, first_le w k)
 
-loop-holds : tie.Need-loop-init invariant-loop decreases-loop
+loop-holds : tie.Need-loop-x-init invariant-loop-x decreases-loop-x
 loop-holds c = searched_none _ _
 
-is-wrong-length-requires : tie.Need-is-wrong-length-requires invariant-loop decreases-loop
+is-wrong-length-requires : tie.Need-is_wrong_length-requires invariant-loop-x decreases-loop-x
 is-wrong-length-requires c κs = omega arith
 
-returns_2 : tie.Need-returns-2 invariant-loop decreases-loop
+returns_2 : tie.Need-returns-then-is_wrong_length invariant-loop-x decreases-loop-x
 returns_2 c =
-    let l = c.before.before.before in
-    searched_hit _ _ _ l.loop.invariant (omega arith) (sym c.before.is-wrong-length.ensures ∙ c.if2.true)
+    let l = c in
+    searched_hit _ _ _ l.loop-x.invariant (omega arith) (sym c.is_wrong_length.ensures ∙ c.if-is_wrong_length.true)
 
-add-x : tie.Need-overflow-add-x invariant-loop decreases-loop
+add-x : tie.Need-overflow_add-x invariant-loop-x decreases-loop-x
 add-x c = omega arith
 
-loop-less : tie.Need-loop-smaller invariant-loop decreases-loop
+loop-less : tie.Need-loop-x-smaller invariant-loop-x decreases-loop-x
 loop-less c = omega arith
 
-loop-again : tie.Need-loop-preserved invariant-loop decreases-loop
+loop-again : tie.Need-loop-x-preserved invariant-loop-x decreases-loop-x
 loop-again c =
-    let l = c.before.before.before in
-    searched_next _ _ _ l.loop.invariant (omega arith) (sym c.before.is-wrong-length.ensures ∙ c.if2.false)
+    let l = c in
+    searched_next _ _ _ l.loop-x.invariant (omega arith) (sym c.is_wrong_length.ensures ∙ c.if-is_wrong_length.false)
 
-returns-3 : tie.Need-returns-3 invariant-loop decreases-loop
-returns-3 c = searched_end _ _ _ c.before.loop.invariant (omega arith)
+returns-3 : tie.Need-returns invariant-loop-x decreases-loop-x
+returns-3 c = searched_end _ _ _ c.loop-x.invariant (omega arith)
 
 pub first_wrong_length_spec : {M : Type 1} → statement M
 first_wrong_length_spec =
     tie.close
     (tie.spec
-    invariant-loop
-    decreases-loop
+    invariant-loop-x
+    decreases-loop-x
     is-any-wrong-requires
     returns
     loop-holds

@@ -4,44 +4,44 @@ use borrow.Author.Rules.{rules}
 use Rattle.files.proofs.layout.is_laid.Statement.{statement}
 use Rattle.files.proofs.layout.is_laid.Tie as tie
 
-word-requires : tie.Need-word-requires
+word-requires : tie.Need-word-starts-requires
 word-requires c κs = search rules
 
-word-requires-2 : tie.Need-word-requires-2
+word-requires-2 : tie.Need-word-images-requires
 word-requires-2 c κs = search rules
 
-mul-images-at : tie.Need-overflow-mul-images-at
+mul-images-at : tie.Need-overflow_mul-images_at
 mul-images-at c = search rules
 
-add-images-at : tie.Need-overflow-add-images-at
+add-images-at : tie.Need-overflow_add-images_at
 add-images-at c = search rules
 
-mul-end : tie.Need-overflow-mul-end
+mul-end : tie.Need-overflow_mul-end
 mul-end c = search rules
 
-add-end : tie.Need-overflow-add-end
+add-end : tie.Need-overflow_add-end
 add-end c = search rules
 
-returns : tie.Need-returns
-returns c = layout_starts _ _ _ c.before.before.word.ensures c.if1.true
+returns : tie.Need-returns-then-starts-ne20
+returns c = layout_starts _ _ _ c.word-starts.ensures c.if-starts-ne20.true
 
-returns_2 : tie.Need-returns-2
+returns_2 : tie.Need-returns-then-images-images_at
 returns_2 c =
-    let e = c.before in
-    let w = e.before in
-    layout_images _ _ _ w.before.word.ensures e.if1.false _ w.word2.ensures c.if2.true
+    let e = c in
+    let w = e in
+    layout_images _ _ _ w.word-starts.ensures e.if-starts-ne20.false _ w.word-images.ensures c.if-images-images_at.true
 
-returns-3 : tie.Need-returns-3
+returns-3 : tie.Need-returns-then-size-end
 returns-3 c =
-    let f = c.before in
-    let w = f.before.before in
-    layout_long _ _ _ w.before.word.ensures f.before.if1.false _ w.word2.ensures f.if2.false c.if3.true
+    let f = c in
+    let w = f in
+    layout_long _ _ _ w.word-starts.ensures f.if-starts-ne20.false _ w.word-images.ensures f.if-images-images_at.false c.if-size-end.true
 
-returns-4 : tie.Need-returns-4
+returns-4 : tie.Need-returns
 returns-4 c =
-    let f = c.before in
-    let w = f.before.before in
-    layout_right _ _ _ w.before.word.ensures f.before.if1.false _ w.word2.ensures f.if2.false c.if3.false
+    let f = c in
+    let w = f in
+    layout_right _ _ _ w.word-starts.ensures f.if-starts-ne20.false _ w.word-images.ensures f.if-images-images_at.false c.if-size-end.false
 
 pub is_laid_spec : {M : Type 1} → statement M
 is_laid_spec =

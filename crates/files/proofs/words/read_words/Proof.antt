@@ -10,53 +10,53 @@ use Rattle.files.proofs.Reading.{from_length, from_at_lem, filling_whole}
 use Rattle.files.proofs.words.read_words.Statement.{statement}
 use Rattle.files.proofs.words.read_words.Tie as tie
 
-abbrev invariant-loop : tie.invariant-loop
-invariant-loop bytes first to₀ i₀ to i =
+abbrev invariant-loop-i : tie.invariant-loop-i
+invariant-loop-i bytes first to₀ i₀ to i =
     Filling (words_from bytes first (length to₀)) to₀ to i × (length to ≡ length to₀) × (i ≤ length to₀)
 
-abbrev decreases-loop : tie.decreases-loop
-decreases-loop bytes first to₀ i₀ to i = length to₀ - i
+abbrev decreases-loop-i : tie.decreases-loop-i
+decreases-loop-i bytes first to₀ i₀ to i = length to₀ - i
 
-loop-holds : tie.Need-loop-init invariant-loop decreases-loop
+loop-holds : tie.Need-loop-i-init invariant-loop-i decreases-loop-i
 loop-holds c =
-    let a = c.before.before.args in
+    let a = c.args in
     let e = from_length a.bytes.now a.first (length a.to.now) (omega arith) in
     (filling_none _ _ (omega arith), refl, omega arith)
 
-add-word : tie.Need-overflow-add-word invariant-loop decreases-loop
+add-word : tie.Need-overflow_add-first invariant-loop-i decreases-loop-i
 add-word c = search rules
 
-word-requires : tie.Need-word-requires invariant-loop decreases-loop
+word-requires : tie.Need-word-requires invariant-loop-i decreases-loop-i
 word-requires c κs = search rules
 
-mul-to : tie.Need-overflow-mul-to invariant-loop decreases-loop
+mul-to : tie.Need-offset_bounds-to-i invariant-loop-i decreases-loop-i
 mul-to c = search rules
 
-slice-write-to : tie.Need-slice-write-to invariant-loop decreases-loop
+slice-write-to : tie.Need-bounds-to-i invariant-loop-i decreases-loop-i
 slice-write-to c = search rules
 
-add-i : tie.Need-overflow-add-i invariant-loop decreases-loop
+add-i : tie.Need-overflow_add-i invariant-loop-i decreases-loop-i
 add-i c = search rules
 
-loop-less : tie.Need-loop-smaller invariant-loop decreases-loop
+loop-less : tie.Need-loop-i-smaller invariant-loop-i decreases-loop-i
 loop-less c = search rules
 
-loop-again : tie.Need-loop-preserved invariant-loop decreases-loop
+loop-again : tie.Need-loop-i-preserved invariant-loop-i decreases-loop-i
 loop-again c =
-    let l = c.before.before.loop in
-    let a = c.before.before.before.before.before.args in
+    let l = c.loop-i in
+    let a = c.args in
     let k = length a.to.now in
     let e = from_length a.bytes.now a.first k (omega arith) in
     let v = from_at_lem a.bytes.now a.first k (omega arith) l.i (omega arith) in
     (filling_next _ _ _ _ l.invariant.0 (omega arith) _ (c.word.ensures ∙ sym v), simp length-set l.invariant.1, omega arith)
 
-same_length : tie.Need-same-length invariant-loop decreases-loop
+same_length : tie.Need-shape_of-to invariant-loop-i decreases-loop-i
 same_length c = search rules
 
-returns : tie.Need-returns invariant-loop decreases-loop
+returns : tie.Need-returns invariant-loop-i decreases-loop-i
 returns c =
-    let l = c.before.loop in
-    let a = c.before.before.before.before.args in
+    let l = c.loop-i in
+    let a = c.args in
     let e = from_length a.bytes.now a.first (length a.to.now) (omega arith) in
     filling_whole _ a.to.now l.to l.i l.invariant.0 (omega arith) e
 
@@ -64,8 +64,8 @@ pub read_words_spec : {M : Type 1} → statement M
 read_words_spec =
     tie.close
     (tie.spec
-    invariant-loop
-    decreases-loop
+    invariant-loop-i
+    decreases-loop-i
     loop-holds
     add-word
     word-requires

@@ -7,34 +7,34 @@ use Rattle.holders.proofs.buckets.note_tops.Statement.{statement}
 use Rattle.holders.proofs.buckets.note_tops.Tie as tie
 
 -- the places: the call, from after its scale, and after the runs are noted
-abbrev start : tie.After-scale-of → tie.Start
+abbrev start : tie.After-scale_of-scale → tie.Start
 start c = c.before.before.before
 
-abbrev noted : tie.After-slice-known3 → tie.After-note-runs
+abbrev noted : tie.After-slice_known-3-1 → tie.After-note_runs
 noted c = c.before.before.before.before.before.before
 
-scale-of-requires : tie.Need-scale-of-requires
+scale-of-requires : tie.Need-scale_of-scale-requires
 scale-of-requires c κs = search rules
 
-note-runs-requires : tie.Need-note-runs-requires
+note-runs-requires : tie.Need-note_runs-requires
 note-runs-requires c κs =
-    let s = c.before.scale_of.ensures in
+    let s = c.scale_of-scale.ensures in
     let a = start c.before in
-    (a.pre.some, s.few, omega (arith, s.few, a.pre.fits), λ y h. omega (arith, s.inside _ (a.pre.below y h), a.pre.fits))
+    (a.requires.some, s.few, omega (arith, s.few, a.requires.fits), λ y h. omega (arith, s.inside _ (a.requires.below y h), a.requires.fits))
 
 raise-requires : tie.Need-raise-requires
 raise-requires c κs = search rules
 
-same_length : tie.Need-same-length
+same_length : tie.Need-shape_of-tops
 same_length c = search rules
 
 returns : tie.Need-returns
 returns c =
     let w = noted c in
-    let s = w.before.before in
-    let r = c.before.before.raise in
-    tops_noted _ _ _ _ _ (start s).pre.some (w.note-runs.kept.1.1.0 ∙ (start s).pre.fits) r.auto.0 s.scale_of.ensures
-    w.note-runs.ensures r.ensures
+    let s = w in
+    let r = c.raise in
+    tops_noted _ _ _ _ _ (start s.before.before).requires.some (w.note_runs.auto.1.1.0 ∙ (start s.before.before).requires.fits) r.auto.tops s.scale_of-scale.ensures
+    w.note_runs.ensures r.ensures
 
 pub note_tops_spec : {M : Type 1} → statement M
 note_tops_spec = tie.close (tie.spec scale-of-requires note-runs-requires raise-requires same_length returns)

@@ -7,54 +7,54 @@ use Rattle.holders.proofs.Noting.{Raising, raising_none, raising_next, raising_e
 use Rattle.holders.proofs.buckets.raise.Statement.{statement}
 use Rattle.holders.proofs.buckets.raise.Tie as tie
 
-abbrev invariant-loop : tie.invariant-loop
-invariant-loop tops₀ most₀ b₀ tops most b = Raising tops₀ tops most b
+abbrev invariant-loop-b : tie.invariant-loop-b
+invariant-loop-b tops₀ most₀ b₀ tops most b = Raising tops₀ tops most b
 
-abbrev decreases-loop : tie.decreases-loop
-decreases-loop tops₀ most₀ b₀ tops most b = length tops₀ - b
+abbrev decreases-loop-b : tie.decreases-loop-b
+decreases-loop-b tops₀ most₀ b₀ tops most b = length tops₀ - b
 
-loop-holds : tie.Need-loop-init invariant-loop decreases-loop
+loop-holds : tie.Need-loop-b-init invariant-loop-b decreases-loop-b
 loop-holds c = raising_none _
 
-mul-larger : tie.Need-overflow-mul-larger invariant-loop decreases-loop
+mul-larger : tie.Need-offset_bounds-tops-b invariant-loop-b decreases-loop-b
 mul-larger c = omega arith
 
-slice-read-larger : tie.Need-slice-read-larger invariant-loop decreases-loop
+slice-read-larger : tie.Need-bounds-tops-b invariant-loop-b decreases-loop-b
 slice-read-larger c = omega arith
 
-larger-requires : tie.Need-larger-requires invariant-loop decreases-loop
+larger-requires : tie.Need-larger-most-requires invariant-loop-b decreases-loop-b
 larger-requires c κs = search rules
 
-mul-tops : tie.Need-overflow-mul-tops invariant-loop decreases-loop
+mul-tops : tie.Need-offset_bounds-tops-b-in-loop-b invariant-loop-b decreases-loop-b
 mul-tops c = omega arith
 
-slice-write-tops : tie.Need-slice-write-tops invariant-loop decreases-loop
+slice-write-tops : tie.Need-bounds-tops-b-in-loop-b invariant-loop-b decreases-loop-b
 slice-write-tops c = omega arith
 
-add-b : tie.Need-overflow-add-b invariant-loop decreases-loop
+add-b : tie.Need-overflow_add-b invariant-loop-b decreases-loop-b
 add-b c = omega arith
 
-loop-less : tie.Need-loop-smaller invariant-loop decreases-loop
-loop-less c = omega (arith, c.before.before.before.loop.invariant.long)
+loop-less : tie.Need-loop-b-smaller invariant-loop-b decreases-loop-b
+loop-less c = omega (arith, c.loop-b.invariant.long)
 
-loop-again : tie.Need-loop-preserved invariant-loop decreases-loop
+loop-again : tie.Need-loop-b-preserved invariant-loop-b decreases-loop-b
 loop-again c =
-    let e = c.before.before in
-    let p = c.larger.ensures in
-    raising_next _ _ _ _ e.before.loop.invariant _ e.loop-test.true p.0 p.1 p.2
+    let e = c in
+    let p = c.larger-most.ensures in
+    raising_next _ _ _ _ e.loop-b.invariant _ e.loop-b-test.true p.0 p.1 p.2
 
-same_length : tie.Need-same-length invariant-loop decreases-loop
-same_length c = c.before.loop.invariant.long
+same_length : tie.Need-shape_of-tops invariant-loop-b decreases-loop-b
+same_length c = c.loop-b.invariant.long
 
-returns : tie.Need-returns invariant-loop decreases-loop
-returns c = raising_end _ _ _ _ c.before.loop.invariant (omega arith)
+returns : tie.Need-returns invariant-loop-b decreases-loop-b
+returns c = raising_end _ _ _ _ c.loop-b.invariant (omega arith)
 
 pub raise_spec : {M : Type 1} → statement M
 raise_spec =
     tie.close
     (tie.spec
-    invariant-loop
-    decreases-loop
+    invariant-loop-b
+    decreases-loop-b
     loop-holds
     mul-larger
     slice-read-larger

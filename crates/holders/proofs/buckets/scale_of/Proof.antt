@@ -7,10 +7,10 @@ use Rattle.holders.proofs.Noting.{scale_inside}
 use Rattle.holders.proofs.buckets.scale_of.Statement.{statement}
 use Rattle.holders.proofs.buckets.scale_of.Tie as tie
 
-mul-result : tie.Need-overflow-mul-result
+mul-result : tie.Need-overflow_mul-result
 mul-result c = search rules
 
-div-result : tie.Need-nonzero-div-result
+div-result : tie.Need-nonzero_div-result
 div-result c = search rules
 
 returns : tie.Need-returns

@@ -10,45 +10,45 @@ use Rattle.outcomes.proofs.Searching.{Searched, searched_none, searched_hit, sea
 use Rattle.runs.proofs.conditions.first_out_of_range.Statement.{statement}
 use Rattle.runs.proofs.conditions.first_out_of_range.Tie as tie
 
-abbrev invariant-loop : tie.invariant-loop
-invariant-loop n starts images x₀ x = Searched (out_of_range n (runs starts images)) (length starts) x
+abbrev invariant-loop-x : tie.invariant-loop-x
+invariant-loop-x n starts images x₀ x = Searched (out_of_range n (runs starts images)) (length starts) x
 
-abbrev decreases-loop : tie.decreases-loop
-decreases-loop n starts images x₀ x = length starts - x
+abbrev decreases-loop-x : tie.decreases-loop-x
+decreases-loop-x n starts images x₀ x = length starts - x
 
-loop-holds : tie.Need-loop-init invariant-loop decreases-loop
+loop-holds : tie.Need-loop-x-init invariant-loop-x decreases-loop-x
 loop-holds c = searched_none _ _
 
-wide-requires : tie.Need-wide-requires invariant-loop decreases-loop
+wide-requires : tie.Need-wide-requires invariant-loop-x decreases-loop-x
 wide-requires c κs = search rules
 
-image-end-requires : tie.Need-image-end-requires invariant-loop decreases-loop
-image-end-requires c κs = (omega arith, c.before.before.before.before.before.requires)
+image-end-requires : tie.Need-image_end-requires invariant-loop-x decreases-loop-x
+image-end-requires c κs = (omega arith, c.requires)
 
-returns : tie.Need-returns invariant-loop decreases-loop
+returns : tie.Need-returns-then-wide-image_end invariant-loop-x decreases-loop-x
 returns c =
-    searched_hit _ _ _ c.before.before.before.before.loop.invariant (omega arith) (out_of_range_true _ _ _ (omega arith))
+    searched_hit _ _ _ c.loop-x.invariant (omega arith) (out_of_range_true _ _ _ (omega arith))
 
-add-x : tie.Need-overflow-add-x invariant-loop decreases-loop
+add-x : tie.Need-overflow_add-x invariant-loop-x decreases-loop-x
 add-x c = omega arith
 
-loop-less : tie.Need-loop-smaller invariant-loop decreases-loop
+loop-less : tie.Need-loop-x-smaller invariant-loop-x decreases-loop-x
 loop-less c = omega arith
 
-loop-again : tie.Need-loop-preserved invariant-loop decreases-loop
+loop-again : tie.Need-loop-x-preserved invariant-loop-x decreases-loop-x
 loop-again c =
-    searched_next _ _ _ c.before.before.before.before.loop.invariant (omega arith)
+    searched_next _ _ _ c.loop-x.invariant (omega arith)
     (out_of_range_false _ _ _ (omega arith))
 
-returns_2 : tie.Need-returns-2 invariant-loop decreases-loop
-returns_2 c = searched_end _ _ _ c.before.loop.invariant (omega arith)
+returns_2 : tie.Need-returns invariant-loop-x decreases-loop-x
+returns_2 c = searched_end _ _ _ c.loop-x.invariant (omega arith)
 
 pub first_out_of_range_spec : {M : Type 1} → statement M
 first_out_of_range_spec =
     tie.close
     (tie.spec
-    invariant-loop
-    decreases-loop
+    invariant-loop-x
+    decreases-loop-x
     loop-holds
     wide-requires
     image-end-requires

@@ -5,30 +5,30 @@ use Rattle.order.proofs.Laws.{entry_after}
 use Rattle.runs.proofs.conditions.image_end.Statement.{statement}
 use Rattle.runs.proofs.conditions.image_end.Tie as tie
 
-add-entry-or : tie.Need-overflow-add-entry-or
+add-entry-or : tie.Need-overflow_add-x
 add-entry-or c = search rules
 
-entry-or-requires : tie.Need-entry-or-requires
+entry-or-requires : tie.Need-entry_or-end-requires
 entry-or-requires c κs = search rules
 
-mul_wide : tie.Need-overflow-mul-wide
+mul_wide : tie.Need-offset_bounds-images-x
 mul_wide c = search rules
 
-shared-slice-read-wide : tie.Need-shared-slice-read-wide
+shared-slice-read-wide : tie.Need-bounds-images-x
 shared-slice-read-wide c = search rules
 
 wide-requires : tie.Need-wide-requires
 wide-requires c κs = search rules
 
-mul-wide-2 : tie.Need-overflow-mul-wide-2
+mul-wide-2 : tie.Need-offset_bounds-starts-x
 mul-wide-2 c = search rules
 
-shared-slice-read-wide-2 : tie.Need-shared-slice-read-wide-2
+shared-slice-read-wide-2 : tie.Need-bounds-starts-x
 shared-slice-read-wide-2 c = search rules
 
-sub_wide : tie.Need-overflow-sub-wide
+sub_wide : tie.Need-overflow_sub-end
 sub_wide c =
-    let a = c.before.before.before.before.before.before in
+    let a = c in
     omega (
       arith,
       a.requires.1.lasting a.args.x a.requires.0,
@@ -38,12 +38,12 @@ sub_wide c =
 wide-requires-2 : tie.Need-wide-requires-2
 wide-requires-2 c κs = search rules
 
-add-result : tie.Need-overflow-add-result
+add-result : tie.Need-overflow_add-result
 add-result c = search rules
 
 returns : tie.Need-returns
 returns c =
-    let a = c.before.before.before.before.before.before.before.args in
+    let a = c.args in
     omega (arith, entry_after a.starts.now a.x a.n)
 
 pub image_end_spec : {M : Type 1} → statement M

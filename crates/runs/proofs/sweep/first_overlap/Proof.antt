@@ -8,33 +8,33 @@ use Rattle.runs.proofs.sweep.first_overlap.Statement.{statement}
 use Rattle.runs.proofs.sweep.first_overlap.Tie as tie
 
 -- the order that is left
-left : (c : tie.After-sort-by-key)
-    → let a = c.before.before.before.before.before.before.before in
-    Ordered (runs a.args.starts.now a.args.images.now) c.sort-by-key.new.0
-left c = ordered _ _ _ c.before.before.before.before.before.before.before.requires.0.paired c.sort-by-key.ensures
+left : (c : tie.After-sort_by_key)
+    → let a = c in
+    Ordered (runs a.args.starts.now a.args.images.now) c.sort_by_key.new.order
+left c = ordered _ _ _ c.requires.0.paired c.sort_by_key.ensures
 
-sort-by-key-requires : tie.Need-sort-by-key-requires
+sort-by-key-requires : tie.Need-sort_by_key-requires
 sort-by-key-requires c κs =
-    let p = c.before.before.before.before.before.before.requires in
+    let p = c.requires in
     record {
       few = omega (arith, p.0.paired);
       in_order = omega (arith, p.0.paired, p.2);
       in_spare = omega (arith, p.0.paired, p.3);
     }
 
-lowest-overlap-requires : tie.Need-lowest-overlap-requires
+lowest-overlap-requires : tie.Need-lowest_overlap-requires
 lowest-overlap-requires c κs =
-    let o = c.before.before.before.before.before in
-    (o.before.before.before.before.before.before.before.requires.0, left o)
+    let o = c in
+    (o.requires.0, left o.before.before.before.before)
 
-same_length : tie.Need-same-length
+same_length : tie.Need-shape_of-order
 same_length c = search rules
 
-same_length_2 : tie.Need-same-length-2
+same_length_2 : tie.Need-shape_of-spare
 same_length_2 c = search rules
 
 returns : tie.Need-returns
-returns c = record { lowest = c.lowest-overlap.ensures; ordered = left c.before.before.before.before.before.before }
+returns c = record { lowest = c.lowest_overlap.ensures; ordered = left c.before.before.before.before.before }
 
 pub first_overlap_spec : {M : Type 1} → statement M
 first_overlap_spec =

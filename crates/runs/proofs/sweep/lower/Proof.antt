@@ -5,10 +5,10 @@ use native.Mathlib.Omega.{arith}
 use Rattle.runs.proofs.sweep.lower.Statement.{statement}
 use Rattle.runs.proofs.sweep.lower.Tie as tie
 
-returns : tie.Need-returns
+returns : tie.Need-returns-then-a-b
 returns c = (omega arith, omega arith, inl refl)
 
-returns_2 : tie.Need-returns-2
+returns_2 : tie.Need-returns-else-a-b
 returns_2 c = (omega arith, omega arith, inr refl)
 
 pub lower_spec : {M : Type 1} → statement M

@@ -6,68 +6,71 @@ use lib.ListN.{length}
 use Rattle.runs.specs.Runs.{runs}
 use Rattle.runs.proofs.Ranking.{ordered_room, entry_is, entry_below}
 use Rattle.runs.proofs.Sweeping.{Swept, swept_none, swept_turn, swept_end, lowered, kept}
+use Rattle.runs.proofs.sweep.lowest_overlap.Lts.{then-meets_another, else-meets_another}
 use Rattle.runs.proofs.sweep.lowest_overlap.Statement.{statement}
 use Rattle.runs.proofs.sweep.lowest_overlap.Tie as tie
 
-abbrev invariant-loop : tie.invariant-loop
-invariant-loop n starts images order lowest₀ reached₀ t₀ lowest reached t = Swept n (runs starts images) lowest reached t
+abbrev invariant-loop-t : tie.invariant-loop-t
+invariant-loop-t n starts images order lowest₀ reached₀ t₀ lowest reached t = Swept n (runs starts images) lowest reached t
 
-abbrev decreases-loop : tie.decreases-loop
-decreases-loop n starts images order lowest₀ reached₀ t₀ lowest reached t = length starts - t
+abbrev decreases-loop-t : tie.decreases-loop-t
+decreases-loop-t n starts images order lowest₀ reached₀ t₀ lowest reached t = length starts - t
 
-loop-holds : tie.Need-loop-init invariant-loop decreases-loop
-loop-holds c = swept_none _ _ c.before.before.before.requires.0
+loop-holds : tie.Need-loop-t-init invariant-loop-t decreases-loop-t
+loop-holds c = swept_none _ _ c.requires.0
 
-mul-x : tie.Need-overflow-mul-x invariant-loop decreases-loop
+mul-x : tie.Need-offset_bounds-order-t invariant-loop-t decreases-loop-t
 mul-x c = omega arith
 
-shared-slice-read-x : tie.Need-shared-slice-read-x invariant-loop decreases-loop
+shared-slice-read-x : tie.Need-bounds-order-t invariant-loop-t decreases-loop-t
 shared-slice-read-x c =
-    let o = ordered_room _ _ c.before.before.before.before.before.before.requires.1 in omega arith
+    let o = ordered_room _ _ c.requires.1 in omega arith
 
-cast-x : tie.Need-overflow-cast-x invariant-loop decreases-loop
-cast-x c = omega (arith, c.shared-slice-known4.given c.before.before.loop.t)
+cast-x : tie.Need-overflow_cast-x invariant-loop-t decreases-loop-t
+cast-x c = omega (arith, c.shared_slice_known-in-loop-t-1.given c.loop-t.t)
 
-image-end-requires : tie.Need-image-end-requires invariant-loop decreases-loop
+image-end-requires : tie.Need-image_end-end-requires invariant-loop-t decreases-loop-t
 image-end-requires c κs =
-    let a = c.before.before.before.before.before.before in
-    let b = entry_below _ _ a.requires.1 c.before.before.loop.t (omega arith) in
+    let a = c in
+    let b = entry_below _ _ a.requires.1 c.loop-t.t (omega arith) in
     (omega (arith, a.requires.0.paired), a.requires.0)
 
-meets-another-requires : tie.Need-meets-another-requires invariant-loop decreases-loop
-meets-another-requires c κs = (omega arith, c.before.before.before.before.before.before.before.requires.1)
+meets-another-requires : tie.Need-meets_another-requires invariant-loop-t decreases-loop-t
+meets-another-requires c κs = (omega arith, c.requires.1)
 
-lower-requires : tie.Need-lower-requires invariant-loop decreases-loop
+lower-requires : tie.Need-lower-lowest-requires invariant-loop-t decreases-loop-t
 lower-requires c κs = tt
 
-higher-requires : tie.Need-higher-requires invariant-loop decreases-loop
+higher-requires : tie.Need-higher-reached-requires invariant-loop-t decreases-loop-t
 higher-requires c κs = tt
 
-add-t : tie.Need-overflow-add-t invariant-loop decreases-loop
+add-t : tie.Need-overflow_add-t invariant-loop-t decreases-loop-t
 add-t c = omega arith
 
-loop-less : tie.Need-loop-smaller invariant-loop decreases-loop
+loop-less : tie.Need-loop-t-smaller invariant-loop-t decreases-loop-t
 loop-less c = omega arith
 
-loop-again : tie.Need-loop-preserved invariant-loop decreases-loop
+loop-again : tie.Need-loop-t-preserved invariant-loop-t decreases-loop-t
 loop-again c =
-    let a = c.before.before.before.before.before.before.before.before.before.before in
-    let l = c.before.before.before.before.before.before.loop in
-    let b = c.before.before.meets-another in
+    let a = c in
+    let l = c.loop-t in
+    let b = c.meets_another in
     swept_turn _ _ a.requires.0 _ _ _ l.invariant (omega arith) _ _ _ _ b.result
-    (entry_is _ _ a.requires.1 l.t (omega arith)) c.before.before.before.image-end.ensures b.ensures
-    c.higher.ensures
-    (⊎_elim (λ w. lowered _ _ _ _ _ w.0.taken w.1.ensures w.2) (λ w. kept _ _ _ _ w.0.left w.1) c.before.if1.branch)
+    (entry_is _ _ a.requires.1 l.t (omega arith)) c.image_end-end.ensures b.ensures
+    c.higher-reached.ensures
+    (elim c.if-meets_another.branch [
+      then-meets_another w ↦ lowered _ _ _ _ _ w.if-meets_another.true w.lower-lowest.ensures w.lowest-is
+    | else-meets_another w ↦ kept _ _ _ _ w.if-meets_another.false w.lowest-is ])
 
-returns : tie.Need-returns invariant-loop decreases-loop
-returns c = swept_end _ _ c.before.before.before.before.before.requires.0 _ _ _ c.before.loop.invariant (omega arith)
+returns : tie.Need-returns invariant-loop-t decreases-loop-t
+returns c = swept_end _ _ c.requires.0 _ _ _ c.loop-t.invariant (omega arith)
 
 pub lowest_overlap_spec : {M : Type 1} → statement M
 lowest_overlap_spec =
     tie.close
     (tie.spec
-    invariant-loop
-    decreases-loop
+    invariant-loop-t
+    decreases-loop-t
     loop-holds
     mul-x
     shared-slice-read-x

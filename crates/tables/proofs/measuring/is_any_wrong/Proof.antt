@@ -8,11 +8,11 @@ use Rattle.tables.specs.Tables.{mismatch, wrong_length}
 use Rattle.tables.proofs.measuring.is_any_wrong.Statement.{statement}
 use Rattle.tables.proofs.measuring.is_any_wrong.Tie as tie
 
-abbrev invariant-loop : tie.invariant-loop
-invariant-loop n starts lengths last right₀ x₀ right x = (x ≤ last) × (right ≡ not (any_below (wrong_length n starts lengths) x))
+abbrev invariant-loop-x : tie.invariant-loop-x
+invariant-loop-x n starts lengths last right₀ x₀ right x = (x ≤ last) × (right ≡ not (any_below (wrong_length n starts lengths) x))
 
-abbrev decreases-loop : tie.decreases-loop
-decreases-loop n starts lengths last right₀ x₀ right x = last - x
+abbrev decreases-loop-x : tie.decreases-loop-x
+decreases-loop-x n starts lengths last right₀ x₀ right x = last - x
 
 -- with one interval more, which ends at e
 module _ (n : ℕ) (l m : List ℕ) (x e : ℕ) (q : e ≡ get_or l (suc x) n) (a b : Bool)
@@ -31,85 +31,85 @@ module _ (n : ℕ) (l m : List ℕ) (x e : ℕ) (q : e ≡ get_or l (suc x) n) (
       both true u = refl
       both false u = refl
 
-sub-last : tie.Need-overflow-sub-last invariant-loop decreases-loop
+sub-last : tie.Need-overflow_sub-last invariant-loop-x decreases-loop-x
 sub-last c = search rules
 
-loop-holds : tie.Need-loop-init invariant-loop decreases-loop
+loop-holds : tie.Need-loop-x-init invariant-loop-x decreases-loop-x
 loop-holds c = (omega arith, refl)
 
-mul-differs : tie.Need-overflow-mul-differs invariant-loop decreases-loop
+mul-differs : tie.Need-offset_bounds-starts-x invariant-loop-x decreases-loop-x
 mul-differs c = omega arith
 
-shared-slice-read-differs : tie.Need-shared-slice-read-differs invariant-loop decreases-loop
+shared-slice-read-differs : tie.Need-bounds-starts-x invariant-loop-x decreases-loop-x
 shared-slice-read-differs c = omega arith
 
-add-differs : tie.Need-overflow-add-differs invariant-loop decreases-loop
+add-differs : tie.Need-overflow_add-x invariant-loop-x decreases-loop-x
 add-differs c = omega arith
 
-mul-differs-2 : tie.Need-overflow-mul-differs-2 invariant-loop decreases-loop
+mul-differs-2 : tie.Need-offset_bounds-starts-x-in-loop-x invariant-loop-x decreases-loop-x
 mul-differs-2 c = omega arith
 
-shared-slice-read-differs-2 : tie.Need-shared-slice-read-differs-2 invariant-loop decreases-loop
+shared-slice-read-differs-2 : tie.Need-bounds-starts-x-in-loop-x invariant-loop-x decreases-loop-x
 shared-slice-read-differs-2 c = omega arith
 
-mul-differs-3 : tie.Need-overflow-mul-differs-3 invariant-loop decreases-loop
+mul-differs-3 : tie.Need-offset_bounds-lengths-x invariant-loop-x decreases-loop-x
 mul-differs-3 c = omega arith
 
-shared-slice-read-differs-3 : tie.Need-shared-slice-read-differs-3 invariant-loop decreases-loop
+shared-slice-read-differs-3 : tie.Need-bounds-lengths-x invariant-loop-x decreases-loop-x
 shared-slice-read-differs-3 c = omega arith
 
-differs-requires : tie.Need-differs-requires invariant-loop decreases-loop
+differs-requires : tie.Need-differs-requires invariant-loop-x decreases-loop-x
 differs-requires c κs = search rules
 
-add-x : tie.Need-overflow-add-x invariant-loop decreases-loop
+add-x : tie.Need-overflow_add-x-in-loop-x invariant-loop-x decreases-loop-x
 add-x c = omega arith
 
-loop-less : tie.Need-loop-smaller invariant-loop decreases-loop
+loop-less : tie.Need-loop-x-smaller invariant-loop-x decreases-loop-x
 loop-less c = omega arith
 
-loop-again : tie.Need-loop-preserved invariant-loop decreases-loop
+loop-again : tie.Need-loop-x-preserved invariant-loop-x decreases-loop-x
 loop-again c =
-    let l = c.before.before.before.before.before in
-    let a = l.before.before.before.args in
-    let x = l.loop.x in
+    let l = c in
+    let a = l.args in
+    let x = l.loop-x.x in
     let s = a.starts.now in
     let e = entry_after s x 0 ∙ get_d_default s (suc x) 0 a.n (omega arith) in
-    (omega arith, rw add-one (still a.n s a.lengths.now x _ e _ _ l.loop.invariant.1 c.differs.ensures))
+    (omega arith, rw add-one (still a.n s a.lengths.now x _ e _ _ l.loop-x.invariant.1 c.differs.ensures))
 
-mul-differs-4 : tie.Need-overflow-mul-differs-4 invariant-loop decreases-loop
+mul-differs-4 : tie.Need-offset_bounds-starts-last invariant-loop-x decreases-loop-x
 mul-differs-4 c = omega arith
 
-shared-slice-read-differs-4 : tie.Need-shared-slice-read-differs-4 invariant-loop decreases-loop
+shared-slice-read-differs-4 : tie.Need-bounds-starts-last invariant-loop-x decreases-loop-x
 shared-slice-read-differs-4 c = omega arith
 
-mul-differs-5 : tie.Need-overflow-mul-differs-5 invariant-loop decreases-loop
+mul-differs-5 : tie.Need-offset_bounds-lengths-last invariant-loop-x decreases-loop-x
 mul-differs-5 c = omega arith
 
-shared-slice-read-differs-5 : tie.Need-shared-slice-read-differs-5 invariant-loop decreases-loop
+shared-slice-read-differs-5 : tie.Need-bounds-lengths-last invariant-loop-x decreases-loop-x
 shared-slice-read-differs-5 c = omega arith
 
-differs-requires-2 : tie.Need-differs-requires-2 invariant-loop decreases-loop
+differs-requires-2 : tie.Need-differs-requires-2 invariant-loop-x decreases-loop-x
 differs-requires-2 c κs = search rules
 
-returns : tie.Need-returns invariant-loop decreases-loop
+returns : tie.Need-returns invariant-loop-x decreases-loop-x
 returns c =
-    let l = c.before.before.before.before in
-    let a = l.before.before.before.args in
+    let l = c in
+    let a = l.args in
     let s = a.starts.now in
     let last = length s - 1 in
-    let x : l.loop.x ≡ last = omega arith in
+    let x : l.loop-x.x ≡ last = omega arith in
     let z : suc last ≡ length s = omega arith in
     let e : a.n ≡ get_or s (suc last) a.n = sym (get_or-eq_default s a.n (omega arith)) in
     further a.n s a.lengths.now last a.n e _ _
-    (l.loop.invariant.1 ∙ ap (λ (k : ℕ). not (any_below (wrong_length a.n s a.lengths.now) k)) x) c.differs2.ensures
+    (l.loop-x.invariant.1 ∙ ap (λ (k : ℕ). not (any_below (wrong_length a.n s a.lengths.now) k)) x) c.differs-2.ensures
     ∙ ap (any_below (wrong_length a.n s a.lengths.now)) z
 
 pub is_any_wrong_spec : {M : Type 1} → statement M
 is_any_wrong_spec =
     tie.close
     (tie.spec
-    invariant-loop
-    decreases-loop
+    invariant-loop-x
+    decreases-loop-x
     sub-last
     loop-holds
     mul-differs
