@@ -19,14 +19,14 @@ ghost use Rattle.balance.specs.Parts.{all_sizes, Fillable, Fills};
 use plans::Planned;
 
 // How many intervals the balanced list has.
-#[derive(Drop)]
+#[derive(Clone, Copy)]
 pub enum Balanced {
     Intervals(u32),
     Refused(outcomes::Refusal),
 }
 
 // The sizes of the four tables.
-#[derive(Drop)]
+#[derive(Clone, Copy)]
 struct Sizes {
     starts: usize,
     images: usize,

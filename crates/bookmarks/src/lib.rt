@@ -16,7 +16,7 @@ use walks::Moved;
 // from the interval's start and never looks at it, so that a bookmark may begin with any number there. It passes to hosts as it is,
 // with no gap between its fields.
 #[repr(C)]
-#[derive(Drop)]
+#[derive(Clone, Copy)]
 pub struct Bookmark {
     pub place: u32,
     pub interval: u32,
@@ -26,7 +26,7 @@ pub struct Bookmark {
 }
 
 // What a bookmark's move answers, and the bookmark after it.
-#[derive(Drop)]
+#[derive(Clone, Copy)]
 pub struct Marked {
     pub bookmark: Bookmark,
     pub moved: Moved,

@@ -15,7 +15,7 @@ ghost use Rattle.bounds.specs.Parts.{PerDegree, certain_of, image_from, Addable,
 
 // A degree before which all are ruled out, and one from there on at which the list is known not to be cut; 65 for either, if there
 // is none.
-#[derive(Drop)]
+#[derive(Clone, Copy)]
 pub struct First {
     pub degree: u32,
     pub whole: u32,

@@ -18,28 +18,28 @@ ghost use Rattle.cuts.specs.Cuts.{Cuttable, BalancingCuts};
 use merging::Mark;
 
 // A place, and the run that has it.
-#[derive(Drop)]
+#[derive(Clone, Copy)]
 struct Origin {
     run: usize,
     place: u32,
 }
 
 // A piece of a run after cuts: where it starts, and where its image ends.
-#[derive(Drop)]
+#[derive(Clone, Copy)]
 struct Piece {
     start: u32,
     to: u32,
 }
 
 // Where an image begins, and the piece that it is of.
-#[derive(Drop)]
+#[derive(Clone, Copy)]
 struct Spot {
     p: u32,
     piece: Piece,
 }
 
 // A piece, and the mark before its image.
-#[derive(Drop)]
+#[derive(Clone, Copy)]
 struct Here {
     piece: Piece,
     mark: Mark,
@@ -47,7 +47,7 @@ struct Here {
 
 // What two looks along the starts under a piece's image tell: whether it is heavy, and how far it is passed. That is where it is
 // to be cut if it is heavy, and else the end of its image. The mark stands before that place.
-#[derive(Drop)]
+#[derive(Clone, Copy)]
 struct Looked {
     heavy: bool,
     to: u32,
@@ -55,7 +55,7 @@ struct Looked {
 }
 
 // The front of the sweep: the place that it has come to, the rank of the run whose image has it, and the mark before it.
-#[derive(Drop)]
+#[derive(Clone, Copy)]
 struct Front {
     q: u32,
     rank: usize,
@@ -63,7 +63,7 @@ struct Front {
 }
 
 // Where the sweep stands: at `p`, which is its front or lies behind it. Behind it `piece` is the piece at `p`.
-#[derive(Drop)]
+#[derive(Clone, Copy)]
 struct Stand {
     p: u32,
     piece: Piece,

@@ -12,7 +12,7 @@ ghost use Rattle.export_balance.specs.Answers.{BalanceAnswered, ForecastAnswered
 
 // The answer of balance: how many intervals the balanced list has.
 #[repr(C)]
-#[derive(Drop)]
+#[derive(Clone, Copy)]
 pub struct BalanceAnswer {
     pub number: u32,
     pub place: u32,
@@ -21,7 +21,7 @@ pub struct BalanceAnswer {
 
 // The answer of the forecast: how many intervals the balanced list has, and how many cuts make them.
 #[repr(C)]
-#[derive(Drop)]
+#[derive(Clone, Copy)]
 pub struct ForecastAnswer {
     pub number: u32,
     pub place: u32,
@@ -31,7 +31,7 @@ pub struct ForecastAnswer {
 
 // The answer of the search: a degree, and how many intervals the list balanced at it has.
 #[repr(C)]
-#[derive(Drop)]
+#[derive(Clone, Copy)]
 pub struct DegreeAnswer {
     pub number: u32,
     pub place: u32,

@@ -13,7 +13,7 @@ use bookmarks::Bookmark;
 // The answer: how many starts the move itself read. The bookmark tells the place, the interval and the distance, so that the
 // answer's own place is 0 where it is done.
 #[repr(C)]
-#[derive(Drop)]
+#[derive(Clone, Copy)]
 pub struct AdvanceAnswer {
     pub number: u32,
     pub place: u32,

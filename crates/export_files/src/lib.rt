@@ -15,7 +15,7 @@ ghost use Rattle.export_files.specs.Answers.{file_answer};
 
 // The answer of the check: what the file's header says. Its place is 0 where it is done.
 #[repr(C)]
-#[derive(Drop)]
+#[derive(Clone, Copy)]
 pub struct FileAnswer {
     pub number: u32,
     pub place: u32,

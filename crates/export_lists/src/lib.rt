@@ -13,7 +13,7 @@ ghost use Rattle.export_lists.specs.Lent.{InverseListAnswered};
 
 // The answer of check and inverse list.
 #[repr(C)]
-#[derive(Drop)]
+#[derive(Clone, Copy)]
 pub struct ListAnswer {
     pub number: u32,
     pub place: u32,

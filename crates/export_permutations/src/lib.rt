@@ -13,7 +13,7 @@ ghost use Rattle.export_permutations.specs.Answers.{NextAnswered, RunsAnswered};
 
 // The answer: how many runs the next list has.
 #[repr(C)]
-#[derive(Drop)]
+#[derive(Clone, Copy)]
 pub struct NextAnswer {
     pub number: u32,
     pub place: u32,
@@ -22,7 +22,7 @@ pub struct NextAnswer {
 
 // The answer: how many runs the fold has.
 #[repr(C)]
-#[derive(Drop)]
+#[derive(Clone, Copy)]
 pub struct RunsAnswer {
     pub number: u32,
     pub place: u32,

@@ -14,7 +14,7 @@ use questions::Question;
 
 // The answer: the count is of the starts passed in finding. A record's index may pass 32 bits, so that the place has 64.
 #[repr(C)]
-#[derive(Drop)]
+#[derive(Clone, Copy)]
 pub struct QuestionsAnswer {
     pub number: u32,
     pub count: u32,

@@ -16,7 +16,7 @@ ghost use Rattle.export_under.specs.Answers.{under_answer};
 
 // The answer: the starts are so many entries of the table of starts, from the first on. Its place is 0 where it is done.
 #[repr(C)]
-#[derive(Drop)]
+#[derive(Clone, Copy)]
 pub struct UnderAnswer {
     pub number: u32,
     pub place: u32,

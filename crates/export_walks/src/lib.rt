@@ -14,7 +14,7 @@ ghost use Rattle.export_walks.specs.Answers.{find_answer, move_answer, moves_ans
 
 // The answer of find and inverse. Find's place is the one asked about, inverse's the one that it was reached from.
 #[repr(C)]
-#[derive(Drop)]
+#[derive(Clone, Copy)]
 pub struct IntervalAnswer {
     pub number: u32,
     pub place: u32,
@@ -23,7 +23,7 @@ pub struct IntervalAnswer {
 
 // The answer of weight; its place is 0 where it is done.
 #[repr(C)]
-#[derive(Drop)]
+#[derive(Clone, Copy)]
 pub struct WeightAnswer {
     pub number: u32,
     pub place: u32,
@@ -32,7 +32,7 @@ pub struct WeightAnswer {
 
 // The answer of a move: the count is of the starts read.
 #[repr(C)]
-#[derive(Drop)]
+#[derive(Clone, Copy)]
 pub struct MoveAnswer {
     pub number: u32,
     pub place: u32,
@@ -43,7 +43,7 @@ pub struct MoveAnswer {
 
 // The answer of a repeated move: the count is of the starts that all moves read.
 #[repr(C)]
-#[derive(Drop)]
+#[derive(Clone, Copy)]
 pub struct MovesAnswer {
     pub number: u32,
     pub place: u32,

@@ -13,7 +13,7 @@ ghost use Rattle.few_questions.specs.Few.{AnswersFew};
 use questions::{Answered, Question};
 
 // The answer, and the records: those asked about as the answer leaves them, and the rest as they were.
-#[derive(Drop)]
+#[derive(Clone, Copy)]
 pub struct Few {
     pub answered: Answered,
     pub questions: [Question; 8],

@@ -17,14 +17,14 @@ pub use layout::read_header;
 use words::read_words;
 
 // What the header of an accepted file says.
-#[derive(Drop)]
+#[derive(Clone, Copy)]
 pub struct Header {
     pub n: u32,
     pub k: u32,
     pub d: u32,
 }
 
-#[derive(Drop)]
+#[derive(Clone, Copy)]
 pub enum FileChecked {
     Read(Header),
     Refused(outcomes::Refusal),

@@ -13,26 +13,26 @@ ghost use Rattle.forecasts.specs.Seeking.{Seeks};
 use plans::Planned;
 
 // How many intervals the balanced list has, and how many cuts make them.
-#[derive(Drop)]
+#[derive(Clone, Copy)]
 pub struct BalancedSize {
     pub intervals: u32,
     pub cuts: u32,
 }
 
-#[derive(Drop)]
+#[derive(Clone, Copy)]
 pub enum Forecasted {
     Size(BalancedSize),
     Refused(outcomes::Refusal),
 }
 
 // A degree, and how many intervals the list balanced at it has.
-#[derive(Drop)]
+#[derive(Clone, Copy)]
 pub struct LeastDegree {
     pub degree: u32,
     pub intervals: u32,
 }
 
-#[derive(Drop)]
+#[derive(Clone, Copy)]
 pub enum Sought {
     Degree(LeastDegree),
     Refused(outcomes::Refusal),

@@ -37,7 +37,7 @@ fn fold_into(n: u32, starts: &[u32], images: &[u32], to_starts: &mut [u32], to_i
 }
 
 // The lists that a call writes to two lent tables.
-#[derive(Drop)]
+#[derive(Clone, Copy)]
 pub(crate) enum Listed {
     Inverse,
     Next,

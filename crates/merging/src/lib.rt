@@ -11,14 +11,14 @@ ghost use Rattle.merging.specs.Marks.{At, Follows};
 use order::entry_or;
 
 // A mark in the list's starts and the cuts, merged: how many of each come before it.
-#[derive(Drop)]
+#[derive(Clone, Copy)]
 pub struct Mark {
     pub starts: usize,
     pub cuts: usize,
 }
 
 // An entry, and the mark after it.
-#[derive(Drop)]
+#[derive(Clone, Copy)]
 pub struct Stepped {
     pub entry: u32,
     pub mark: Mark,

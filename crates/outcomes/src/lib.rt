@@ -10,7 +10,7 @@ ghost use Rattle.outcomes.specs.Degree.{no_degree};
 ghost use Rattle.outcomes.specs.Refusal.{number_of, place_of};
 
 // Why a call is refused. specs/Refusal.antt gives the paper's number and place of each.
-#[derive(Drop)]
+#[derive(Clone, Copy)]
 pub enum Refusal {
     ListShape,
     TooManyRuns,
@@ -87,7 +87,7 @@ impl Refusal {
 }
 
 // What becomes of a run list that is handed in.
-#[derive(Drop)]
+#[derive(Clone, Copy)]
 pub enum Checked {
     Accepted,
     Refused(Refusal),

@@ -19,7 +19,7 @@ ghost use Rattle.permutations.specs.Parts.{Writable, NoneListed, later_of, after
 use outcomes::{Checked, Refusal};
 
 // What becomes of a list whose next one is asked for.
-#[derive(Drop)]
+#[derive(Clone, Copy)]
 pub enum Next {
     RunCount(u32),
     Refused(Refusal),

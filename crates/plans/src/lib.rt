@@ -22,14 +22,14 @@ ghost use Rattle.plans.specs.Plan.{Plans};
 pub const NO_LIMIT: u32 = 4294967295;
 
 // A degree, and how many cuts stand in the working table for it.
-#[derive(Drop)]
+#[derive(Clone, Copy)]
 pub struct CutsAt {
     pub degree: u32,
     pub cuts: usize,
 }
 
 // What becomes of a list that is to be cut.
-#[derive(Drop)]
+#[derive(Clone, Copy)]
 pub enum Planned {
     Cuts(CutsAt),
     Refused(outcomes::Refusal),

@@ -14,13 +14,13 @@ ghost use Rattle.preimages.specs.Parts.{image_has};
 use outcomes::Refusal;
 
 // A place and the interval that has it.
-#[derive(Drop)]
+#[derive(Clone, Copy)]
 pub struct Source {
     pub place: u32,
     pub interval: u32,
 }
 
-#[derive(Drop)]
+#[derive(Clone, Copy)]
 pub enum Inverted {
     From(Source),
     Refused(Refusal),

@@ -8,7 +8,7 @@ use super::{Answered, Question, finding};
 use outcomes::Refusal;
 
 // Which refusal the tables and the records so far have met. A record further on changes it only by an earlier test.
-#[derive(Drop)]
+#[derive(Clone, Copy)]
 pub enum Standing {
     // 9: no record can change it
     Misshapen,
@@ -27,7 +27,7 @@ pub enum Standing {
 // That; the interval of the last record that was found, which 12 of a record gives too; the place of the last record; and the index of the
 // one whose place fell. They stand beside the standing and not in its cases, so that the interval, which each turn waits
 // for, stays in a register of its own.
-#[derive(Drop)]
+#[derive(Clone, Copy)]
 pub struct Judging {
     pub standing: Standing,
     pub interval: u32,

@@ -21,7 +21,7 @@ use outcomes::Refusal;
 // leads: the place and the interval reached, how many starts that walk read, and the distance of the place reached from the
 // start of that interval.
 #[repr(C)]
-#[derive(Drop)]
+#[derive(Clone, Copy)]
 pub struct Question {
     pub place: u32,
     pub interval: u32,
@@ -33,7 +33,7 @@ pub struct Question {
 
 // How many starts were passed in finding all intervals, or why no question is answered. The index of a record whose place
 // falls may pass 32 bits, so that it stands in a case of its own.
-#[derive(Drop)]
+#[derive(Clone, Copy)]
 pub enum Answered {
     Passed(u32),
     PlaceOrder(usize),

@@ -24,7 +24,7 @@ use order::entry_or;
 pub use words::bytes_of;
 
 // What was read of a row.
-#[derive(Drop)]
+#[derive(Clone, Copy)]
 pub struct Row {
     // Part g has the entries from ends[g] up to ends[g + 1]: part 0 are the numbers, and each other one is a slice.
     ends: [usize; 10],

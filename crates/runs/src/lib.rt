@@ -15,7 +15,7 @@ ghost use Rattle.runs.specs.Parts.{HoldsRuns, OrderChecked};
 use outcomes::{Checked, Refusal};
 
 // What becomes of a list that a call writes to lent tables: its run count, or a refusal. Folds and permutations answer so.
-#[derive(Drop)]
+#[derive(Clone, Copy)]
 pub enum Written {
     RunCount(u32),
     Refused(Refusal),

@@ -19,7 +19,7 @@ use outcomes::Refusal;
 
 // Where a move or a repeated move ends: the place, the interval that has it and the place's distance from the interval's
 // start; and how many interval starts it read, which is how many it compared with the places that it reached.
-#[derive(Drop)]
+#[derive(Clone, Copy)]
 pub struct Step {
     pub place: u32,
     pub interval: u32,
@@ -27,13 +27,13 @@ pub struct Step {
     pub count: u64,
 }
 
-#[derive(Drop)]
+#[derive(Clone, Copy)]
 pub enum Found {
     At(u32),
     Refused(Refusal),
 }
 
-#[derive(Drop)]
+#[derive(Clone, Copy)]
 pub enum Moved {
     To(Step),
     Refused(Refusal),

@@ -4,7 +4,7 @@ ghost use Rattle.tables.specs.Tables.{max_intervals};
 ghost use Rattle.walks.specs.Move.{read_to, walked_to};
 
 // The interval that a walk reaches, and how many starts it reads.
-#[derive(Drop)]
+#[derive(Clone, Copy)]
 pub struct Walked {
     pub interval: u32,
     pub count: u64,

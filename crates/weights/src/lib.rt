@@ -16,7 +16,7 @@ ghost use Rattle.weights.specs.Parts.{size_under};
 use order::wide;
 use outcomes::Refusal;
 
-#[derive(Drop)]
+#[derive(Clone, Copy)]
 pub enum Weighed {
     Weight(u32),
     Refused(Refusal),
@@ -24,13 +24,13 @@ pub enum Weighed {
 
 // Entries of a table that stand together: the first one's index, and how many. Where there are none it is the index that they
 // would begin at, which may be the table's end.
-#[derive(Drop)]
+#[derive(Clone, Copy)]
 pub struct Stretch {
     pub first: u32,
     pub count: u32,
 }
 
-#[derive(Drop)]
+#[derive(Clone, Copy)]
 pub enum Stretched {
     At(Stretch),
     Refused(Refusal),

@@ -12,11 +12,11 @@ use Rattle.cuts.proofs.find_cuts.Statement.{statement}
 use Rattle.cuts.proofs.find_cuts.Tie as tie
 
 -- the places: the call, and after the images are gathered
-abbrev start : tie.After-gather-arg → tie.Start
+abbrev start : tie.After-gather-arg-1 → tie.Start
 start c = c.before.before.before.before.before.before
 
-abbrev gathered : tie.After-sweep-arg → tie.After-gather
-gathered c = c.before.before.before
+abbrev gathered : tie.After-slice_known-3-1 → tie.After-gather
+gathered c = c.before.before
 
 abbrev images-of : tie.Start → List ℕ
 images-of a = a.args.images.now
@@ -31,7 +31,7 @@ taken a = length-take-le (length (images-of a)) a.args.order.now
 
 -- and `ranked` with the images in that order
 ranks : (c : tie.After-gather) → let a = start c.before in
-    take (length (images-of a)) c.gather.new.1.1.0 ≡ map (key_of (images-of a)) (order_of (images-of a))
+    take (length (images-of a)) c.gather.new.to ≡ map (key_of (images-of a)) (order_of (images-of a))
 ranks c =
     let a = start c.before in
     let i = images-of a in
@@ -45,8 +45,8 @@ gather-requires c κs =
     let a = start c in
     let i = images-of a in
     record {
-      room = omega (arith, a.pre.ordered.paired, a.pre.in_ranked);
-      indexes = omega (arith, a.pre.ordered.paired, a.pre.in_order);
+      room = omega (arith, a.requires.ordered.paired, a.requires.in_ranked);
+      indexes = omega (arith, a.requires.ordered.paired, a.requires.in_order);
       below = λ t h. omega (
         arith,
         get_or-take (length i) a.args.order.now t 0 h,
@@ -55,33 +55,33 @@ gather-requires c κs =
       );
     }
 
-slice-aggregate-sweep : tie.Need-slice-aggregate-sweep
+slice-aggregate-sweep : tie.Need-slice_bounds-sweep-end
 slice-aggregate-sweep c = sym (taken (start (gathered c).before))
 
-slice-reshare-prefix-sweep : tie.Need-slice-reshare-prefix-sweep
+slice-reshare-prefix-sweep : tie.Need-slice_bounds-sweep-end-2
 slice-reshare-prefix-sweep c = search rules
 
-slice-aggregate-sweep-2 : tie.Need-slice-aggregate-sweep-2
+slice-aggregate-sweep-2 : tie.Need-slice_bounds-sweep-end-3
 slice-aggregate-sweep-2 c =
-    let g = gathered c.before in
+    let g = gathered c in
     let a = start g.before in
-    sym (length-take-le (length (images-of a)) g.gather.last.1.1.0
-    (omega (arith, g.gather.kept.1.1.0, a.pre.ordered.paired, a.pre.in_ranked)))
+    sym (length-take-le (length (images-of a)) g.gather.new.to
+    (omega (arith, g.gather.auto.to, a.requires.ordered.paired, a.requires.in_ranked)))
 
 sweep-requires : tie.Need-sweep-requires
 sweep-requires c κs =
-    let g = gathered c.before.before in
+    let g = gathered c.before in
     let a = start g.before in (
-      record { legal = a.pre.legal; order_is = ordered a; ranked_is = ranks g },
-      a.pre.low,
-      a.pre.high,
-      a.pre.in_working,
+      record { legal = a.requires.legal; order_is = ordered a; ranked_is = ranks g },
+      a.requires.low,
+      a.requires.high,
+      a.requires.in_working,
     )
 
-same_length : tie.Need-same-length
+same_length : tie.Need-shape_of-ranked
 same_length c = search rules
 
-same_length_2 : tie.Need-same-length-2
+same_length_2 : tie.Need-shape_of-working
 same_length_2 c = search rules
 
 returns : tie.Need-returns

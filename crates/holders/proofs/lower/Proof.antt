@@ -14,7 +14,7 @@ shared-slice-read-if1 c = search rules
 
 -- on the arm where the run at `top` starts above the place
 passed : (c : tie.Then-p-starts) → let a = c.args in (0 < a.top) × NotBelow a.starts.now a.p (a.top - 1)
-passed c = let a = c.before.before in not_below_lower _ _ _ a.requires c.if-p-starts.true
+passed c = let a = c in not_below_lower _ _ _ a.requires c.if-p-starts.true
 
 sub-result : tie.Need-overflow_sub-result
 sub-result c = (passed c).0

@@ -66,11 +66,11 @@ shared-slice-read-p c = omega arith
 
 bucket-of-requires : tie.Need-bucket_of-requires invariant-loop-x decreases-loop-x
 bucket-of-requires c κs = let e = c in
-    omega (arith, bucketed e.before, (start e.before).requires.1.scaled.few)
+    omega (arith, bucketed e.before, (start e.before.before).requires.1.scaled.few)
 
 mul-top : tie.Need-offset_bounds-tops-bucket_of invariant-loop-x decreases-loop-x
 mul-top c = let e = c in
-    omega (arith, c.bucket_of.ensures, bucketed e.before.before, (start e.before).requires.1.scaled.few)
+    omega (arith, c.bucket_of.ensures, bucketed e.before.before, (start e.before.before.before).requires.1.scaled.few)
 
 shared-slice-read-top : tie.Need-bounds-tops-bucket_of invariant-loop-x decreases-loop-x
 shared-slice-read-top c = omega (arith, c.bucket_of.ensures, bucketed c.before.before.before)
@@ -82,7 +82,7 @@ holder-up-to-requires : tie.Need-holder_up_to-requires invariant-loop-x decrease
 holder-up-to-requires c κs =
     let b = c in
     let e = b in
-    let a = start e.before in
+    let a = start e.before.before.before.before in
     let x = e.loop-x.x in
     let tops = a.args.tops.now in
     let top = tops_above a.args.n (list_of a) a.requires.0 _ tops a.requires.1 x (within e.before.before.before) in (
@@ -109,7 +109,7 @@ slice-write-to : tie.Need-bounds-to-x invariant-loop-x decreases-loop-x
 slice-write-to c =
     let e = turn c in
     let l = e.loop-x in
-    omega (arith, (start e.before).requires.2, within e, filling_length _ _ l.to l.x l.inv)
+    omega (arith, (start e.before).requires.2, within e, filling_length _ _ l.to l.x l.invariant)
 
 add-x : tie.Need-overflow_add-x invariant-loop-x decreases-loop-x
 add-x c = omega arith
@@ -122,7 +122,7 @@ loop-again c =
     let e = turn c in
     let a = start e.before in
     let l = e.loop-x in
-    filling_next _ _ _ _ l.inv (omega (arith, length-map a.args.images.now (holder_of a))) _
+    filling_next _ _ _ _ l.invariant (omega (arith, length-map a.args.images.now (holder_of a))) _
     (found c ∙ sym (get_d_map (holder_of a) a.args.images.now l.x 0 e.loop-x-test.true))
 
 same_length : tie.Need-shape_of-to invariant-loop-x decreases-loop-x

@@ -24,9 +24,8 @@ list_of c =
 
 -- the list is accepted
 passed : (c : tie.In-Accepted)
-    → let o = checking c.before.before.before in
-    done tt ≡ check_of o.args.n (list_of o)
-passed c = ap checked_says (sym c.enum_told-1.given.1) ∙ (checking c.before.before.before).check_order-checked.ensures.says
+    → done tt ≡ check_of c.args.n (runs c.args.starts.now c.args.images.now)
+passed c = ap checked_says (sym c.in-Accepted.is) ∙ c.check_order-checked.ensures.says
 
 check-order-requires : tie.Need-check_order-checked-requires
 check-order-requires c κs = search rules
@@ -39,8 +38,8 @@ same_length_2 c = search rules
 
 returns : tie.Need-returns-then-not-inverts
 returns c = record {
-  checked = λ e. (checking c.before).check_order-checked.ensures.says;
-  inverted = λ e. absurd (false≢true (sym (not-true _ c.if-not-inverts.true) ∙ e));
+  checked = λ e. c.check_order-checked.ensures.says;
+  inverted = λ e. absurd (false≢true (sym (c.if-not-inverts.true) ∙ e));
 }
 
 enum-known-checked : tie.Need-enum_known-checked
@@ -53,7 +52,7 @@ write-requires : tie.Need-write-requires
 write-requires c κs =
     let t = c in
     let e = sym (passed t.before.before) in
-    ((checking t.before.before.before.before.before).check_order-checked.ensures.ordered e, (accepted_legal _ _ e).1)
+    (c.check_order-checked.ensures.ordered e, (accepted_legal _ _ e).1)
 
 same-length-3 : tie.Need-shape_of-order-in-Refused
 same-length-3 c = search rules
@@ -64,9 +63,9 @@ same-length-4 c = search rules
 returns_2 : tie.Need-returns-in-Refused
 returns_2 c =
     record {
-      checked = λ e. absurd (false≢true (sym e ∙ not-false _ c.if-not-inverts.false));
+      checked = λ e. absurd (false≢true (sym e ∙ c.if-not-inverts.false));
       inverted = λ e. listed_refused _ _ _ _ _
-          (ap checked_says (sym c.checked-1.given.1) ∙ (checking c.before.before.before.before).check_order-checked.ensures.says);
+          (ap checked_says (sym c.in-Refused.is) ∙ c.check_order-checked.ensures.says);
     }
 
 same-length-5 : tie.Need-shape_of-order-in-Accepted
@@ -86,7 +85,7 @@ returns-3 c =
     let w = c in
     let t = w in
     record {
-      checked = λ e. absurd (false≢true (sym e ∙ not-false _ t.if-not-inverts.false));
+      checked = λ e. absurd (false≢true (sym e ∙ t.if-not-inverts.false));
       inverted = λ e. listed_written _ _ _ _ _ _ _ (passed t.before.before.before.before.before.before.before) w.write.ensures;
     }
 

@@ -22,7 +22,7 @@ returns c =
     let a = c.args in
     let w = wrong_length a.n a.starts.now a.lengths.now in
     let k = length a.starts.now in
-    let none = ltb-false (first_below w k) k (sym c.is_any_wrong.ensures ∙ not-true _ c.if-not-is_any_wrong.true) in
+    let none = ltb-false (first_below w k) k (sym c.is_any_wrong.ensures ∙ c.if-not-is_any_wrong.true) in
     omega (arith, first_le w k)
 
 loop-holds : tie.Need-loop-x-init invariant-loop-x decreases-loop-x

@@ -6,22 +6,22 @@ use Rattle.order.proofs.Laws.{bit_lt, bit_ge}
 use Rattle.cuts.proofs.fronts.count_cut.Statement.{statement}
 use Rattle.cuts.proofs.fronts.count_cut.Tie as tie
 
-returns : tie.Need-returns
+returns : tie.Need-returns-then-front-u
 returns c =
-    let a = c.before.before.args in
+    let a = c.args in
     record {
       q_kept = refl;
       rank_kept = refl;
       starts_kept = refl;
-      counted = omega (arith, bit_ge a.u a.front.q c.if1.true);
+      counted = omega (arith, bit_ge a.u a.front.q c.if-front-u.true);
     }
 
-add-t6 : tie.Need-overflow-add-t6
+add-t6 : tie.Need-overflow_add-mark
 add-t6 c = search rules
 
-returns_2 : tie.Need-returns-2
+returns_2 : tie.Need-returns
 returns_2 c =
-    let a = c.before.before.before.before.args in
+    let a = c.args in
     record {
       q_kept = refl;
       rank_kept = refl;

@@ -10,65 +10,65 @@ use Rattle.merging.proofs.Merged.{at_sum, at_own, at_stop, at_go}
 use Rattle.cuts.proofs.marks.skip.Statement.{statement}
 use Rattle.cuts.proofs.marks.skip.Tie as tie
 
-abbrev invariant-loop : tie.invariant-loop
-invariant-loop n starts cuts count to at₀ i₀ at i = (i ≤ count) × At n starts cuts at (at.starts + at.cuts)
+abbrev invariant-loop-i : tie.invariant-loop-i
+invariant-loop-i n starts cuts count to at₀ i₀ at i = (i ≤ count) × At n starts cuts at (at.starts + at.cuts)
     × (at.starts + at.cuts ≡ at₀.starts + at₀.cuts + i)
     × (at.starts + at.cuts ≤ count_below to (merged starts cuts))
 
-abbrev decreases-loop : tie.decreases-loop
-decreases-loop n starts cuts count to at₀ i₀ at i = count - i
+abbrev decreases-loop-i : tie.decreases-loop-i
+decreases-loop-i n starts cuts count to at₀ i₀ at i = count - i
 
 -- the places: the call that a turn belongs to; the turn, from after its step
-abbrev start : tie.At-loop invariant-loop decreases-loop → tie.Start invariant-loop decreases-loop
+abbrev start : tie.At-loop-i invariant-loop-i decreases-loop-i → tie.Start invariant-loop-i decreases-loop-i
 start c = c.before.before.before
 
-abbrev turn : tie.After-step invariant-loop decreases-loop → tie.At-loop invariant-loop decreases-loop
+abbrev turn : tie.After-step-step invariant-loop-i decreases-loop-i → tie.At-loop-i invariant-loop-i decreases-loop-i
 turn c = c.before.before
 
-loop-holds : tie.Need-loop-init invariant-loop decreases-loop
-loop-holds c = (omega arith, c.before.before.requires.1, omega arith, c.before.before.requires.2)
+loop-holds : tie.Need-loop-i-init invariant-loop-i decreases-loop-i
+loop-holds c = (omega arith, c.requires.1, omega arith, c.requires.2)
 
-step-requires : tie.Need-step-requires invariant-loop decreases-loop
-step-requires c κs = ((start c.before).pre.0, c.before.loop.invariant.1)
+step-requires : tie.Need-step-step-requires invariant-loop-i decreases-loop-i
+step-requires c κs = ((start c.before).requires.0, c.loop-i.invariant.1)
 
-returns : tie.Need-returns invariant-loop decreases-loop
+returns : tie.Need-returns-then-to-step invariant-loop-i decreases-loop-i
 returns c =
-    let k = c.before.before in
-    let l = (turn k).loop in
-    let a = start (turn k) in
-    let h = at_stop _ _ _ a.pre.0 _ _ l.inv.1 a.args.to
-    (omega (arith, c.if1.true, k.step.ensures.entry_is)) in
-    record { at = l.inv.1; below = l.inv.3; far = omega (arith, l.inv); stopped = λ z. omega (arith, l.inv) }
+    let k = c in
+    let l = (turn k.before.before).loop-i in
+    let a = start (turn k.before.before) in
+    let h = at_stop _ _ _ a.requires.0 _ _ l.invariant.1 a.args.to
+    (omega (arith, c.if-to-step.true, k.step-step.ensures.entry_is)) in
+    record { at = l.invariant.1; below = l.invariant.3; far = omega (arith, l.invariant); stopped = λ z. omega (arith, l.invariant) }
 
 -- the next entry is one more that is below `to`
-more : (c : tie.Else1 invariant-loop decreases-loop) → let l = turn c.before.before in let a = (start l).args in
-    let m = merged a.starts.now a.cuts.now in let at = l.loop.at in
+more : (c : tie.Else-to-step invariant-loop-i decreases-loop-i) → let l = turn c.before.before in let a = (start l).args in
+    let m = merged a.starts.now a.cuts.now in let at = l.loop-i.at in
     (at.starts + at.cuts < length m) × (at.starts + at.cuts < count_below a.to m)
 more c =
-    let k = c.before.before in
-    let l = turn k in
+    let k = c in
+    let l = turn k.before.before in
     let a = start l in
-    at_go _ _ _ a.pre.0 _ _ l.loop.inv.1 a.args.to a.pre.3
-    (omega (arith, c.if1.false, k.step.ensures.entry_is))
+    at_go _ _ _ a.requires.0 _ _ l.loop-i.invariant.1 a.args.to a.requires.3
+    (omega (arith, c.if-to-step.false, k.step-step.ensures.entry_is))
 
-add-i : tie.Need-overflow-add-i invariant-loop decreases-loop
+add-i : tie.Need-overflow_add-i invariant-loop-i decreases-loop-i
 add-i c = omega arith
 
-loop-less : tie.Need-loop-smaller invariant-loop decreases-loop
+loop-less : tie.Need-loop-i-smaller invariant-loop-i decreases-loop-i
 loop-less c = omega arith
 
-loop-again : tie.Need-loop-preserved invariant-loop decreases-loop
+loop-again : tie.Need-loop-i-preserved invariant-loop-i decreases-loop-i
 loop-again c =
-    let e = c.before in
-    let k = e.before.before in
-    let l = turn k in
+    let e = c in
+    let k = e in
+    let l = turn k.before.before.before in
     let a = start l in
-    let b = k.step.ensures.behind (more e).0 in
-    let s = at_sum _ _ _ a.pre.0 _ _ b in
-    (omega arith, at_own _ _ _ a.pre.0 _ _ b, omega (arith, l.loop.inv.2), omega (arith, (more e).1))
+    let b = k.step-step.ensures.behind (more e.before).0 in
+    let s = at_sum _ _ _ a.requires.0 _ _ b in
+    (omega arith, at_own _ _ _ a.requires.0 _ _ b, omega (arith, l.loop-i.invariant.2), omega (arith, (more e.before).1))
 
-returns_2 : tie.Need-returns-2 invariant-loop decreases-loop
-returns_2 c = let l = c.before.loop in
+returns_2 : tie.Need-returns invariant-loop-i decreases-loop-i
+returns_2 c = let l = c.loop-i in
     record {
       at = l.invariant.1;
       below = l.invariant.3;
@@ -80,8 +80,8 @@ pub skip_spec : {M : Type 1} → statement M
 skip_spec =
     tie.close
     (tie.spec
-    invariant-loop
-    decreases-loop
+    invariant-loop-i
+    decreases-loop-i
     loop-holds
     step-requires
     returns

@@ -8,59 +8,59 @@ use Rattle.cuts.proofs.Looking.{below_stop, below_go}
 use Rattle.cuts.proofs.marks.starts_below.Statement.{statement}
 use Rattle.cuts.proofs.marks.starts_below.Tie as tie
 
-abbrev invariant-loop : tie.invariant-loop
-invariant-loop n starts from most to passed₀ passed = (passed ≤ most) × (from + passed ≤ count_below to starts)
+abbrev invariant-loop-passed : tie.invariant-loop-passed
+invariant-loop-passed n starts from most to passed₀ passed = (passed ≤ most) × (from + passed ≤ count_below to starts)
 
-abbrev decreases-loop : tie.decreases-loop
-decreases-loop n starts from most to passed₀ passed = most - passed
+abbrev decreases-loop-passed : tie.decreases-loop-passed
+decreases-loop-passed n starts from most to passed₀ passed = most - passed
 
 -- the call, from a turn
-abbrev start : tie.At-loop invariant-loop decreases-loop → tie.Start invariant-loop decreases-loop
+abbrev start : tie.At-loop-passed invariant-loop-passed decreases-loop-passed → tie.Start invariant-loop-passed decreases-loop-passed
 start c = c.before.before
 
-loop-holds : tie.Need-loop-init invariant-loop decreases-loop
-loop-holds c = (omega arith, omega (arith, c.before.requires.1))
+loop-holds : tie.Need-loop-passed-init invariant-loop-passed decreases-loop-passed
+loop-holds c = (omega arith, omega (arith, c.requires.1))
 
-add-entry-or : tie.Need-overflow-add-entry-or invariant-loop decreases-loop
+add-entry-or : tie.Need-overflow_add-from invariant-loop-passed decreases-loop-passed
 add-entry-or c =
     let a = (start c.before).args in
-    omega (arith, c.before.loop.invariant.1, count_le_length a.to a.starts.now)
+    omega (arith, c.loop-passed.invariant.1, count_le_length a.to a.starts.now)
 
-entry-or-requires : tie.Need-entry-or-requires invariant-loop decreases-loop
+entry-or-requires : tie.Need-entry_or-requires invariant-loop-passed decreases-loop-passed
 entry-or-requires c κs = search rules
 
-returns : tie.Need-returns invariant-loop decreases-loop
+returns : tie.Need-returns-then-to-entry_or invariant-loop-passed decreases-loop-passed
 returns c =
-    let l = c.before.before.before in
-    let a = start l in
-    let s = below_stop a.args.starts.now a.pre.0 a.args.n a.args.to (a.args.from + l.loop.passed)
-    (omega (arith, c.if1.true, c.before.entry-or.ensures)) in
-    record { few = l.loop.invariant.0; below = l.loop.invariant.1; stopped = λ z. omega (arith, l.loop.invariant.1) }
+    let l = c in
+    let a = start l.before.before.before in
+    let s = below_stop a.args.starts.now a.requires.0 a.args.n a.args.to (a.args.from + l.loop-passed.passed)
+    (omega (arith, c.if-to-entry_or.true, c.entry_or.ensures)) in
+    record { few = l.loop-passed.invariant.0; below = l.loop-passed.invariant.1; stopped = λ z. omega (arith, l.loop-passed.invariant.1) }
 
-add-passed : tie.Need-overflow-add-passed invariant-loop decreases-loop
+add-passed : tie.Need-overflow_add-passed invariant-loop-passed decreases-loop-passed
 add-passed c = omega arith
 
-loop-less : tie.Need-loop-smaller invariant-loop decreases-loop
+loop-less : tie.Need-loop-passed-smaller invariant-loop-passed decreases-loop-passed
 loop-less c = omega arith
 
-loop-again : tie.Need-loop-preserved invariant-loop decreases-loop
+loop-again : tie.Need-loop-passed-preserved invariant-loop-passed decreases-loop-passed
 loop-again c =
-    let l = c.before.before.before in
-    let a = start l in
-    let g = below_go a.args.starts.now a.pre.0 a.args.n a.args.to (a.args.from + l.loop.passed)
-    a.pre.2 (omega (arith, c.if1.false, c.before.entry-or.ensures)) in
+    let l = c in
+    let a = start l.before.before.before in
+    let g = below_go a.args.starts.now a.requires.0 a.args.n a.args.to (a.args.from + l.loop-passed.passed)
+    a.requires.2 (omega (arith, c.if-to-entry_or.false, c.entry_or.ensures)) in
     (omega arith, omega arith)
 
-returns_2 : tie.Need-returns-2 invariant-loop decreases-loop
-returns_2 c = let l = c.before.loop in
+returns_2 : tie.Need-returns invariant-loop-passed decreases-loop-passed
+returns_2 c = let l = c.loop-passed in
     record { few = l.invariant.0; below = l.invariant.1; stopped = λ z. absurd (omega (arith, l.invariant.0)) }
 
 pub starts_below_spec : {M : Type 1} → statement M
 starts_below_spec =
     tie.close
     (tie.spec
-    invariant-loop
-    decreases-loop
+    invariant-loop-passed
+    decreases-loop-passed
     loop-holds
     add-entry-or
     entry-or-requires

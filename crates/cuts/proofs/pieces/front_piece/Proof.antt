@@ -12,11 +12,11 @@ use Rattle.cuts.proofs.pieces.front_piece.Statement.{statement}
 use Rattle.cuts.proofs.pieces.front_piece.Tie as tie
 
 -- the places: the call, from what comes after it
-abbrev start : tie.After-shared-slice-known5 → tie.Start
+abbrev start : tie.After-shared_slice_known-5-1 → tie.Start
 start c = c.before.before.before.before.before
 
-abbrev reading : tie.After-struct-known → tie.Start
-reading c = start c.before.before.before.before
+abbrev reading : tie.After-struct_known-1 → tie.Start
+reading c = c.before.before.before.before.before.before.before.before.before
 
 abbrev list_of : tie.Start → Runs
 list_of a = runs a.args.starts.now a.args.images.now
@@ -41,43 +41,43 @@ place : (a : tie.Start)
     ≡ carry_back (list_of a) (run_of a) a.args.front.q
 place a = ap (λ (i : ℕ). start_of (list_of a) (run_of a) + (a.args.front.q - i)) (rank a).image_is
 
-mul-x : tie.Need-overflow-mul-x
+mul-x : tie.Need-offset_bounds-order-rank
 mul-x c = let a = start c in omega (arith, (rank a).below, (rank a).in_order)
 
-shared-slice-read-x : tie.Need-shared-slice-read-x
+shared-slice-read-x : tie.Need-bounds-order-rank
 shared-slice-read-x c = let a = start c.before in omega (arith, (rank a).below, (rank a).in_order)
 
-cast-x : tie.Need-overflow-cast-x
+cast-x : tie.Need-overflow_cast-x
 cast-x c = let a = start c.before in omega (arith, (rank a).known)
 
-mul-t10 : tie.Need-overflow-mul-t10
+mul-t10 : tie.Need-offset_bounds-starts-x
 mul-t10 c = let a = start c.before in omega (arith, (rank a).known)
 
-shared-slice-read-t12 : tie.Need-shared-slice-read-t12
+shared-slice-read-t12 : tie.Need-bounds-starts-x
 shared-slice-read-t12 c = (rank (start c.before.before)).known
 
-mul-t14 : tie.Need-overflow-mul-t14
+mul-t14 : tie.Need-offset_bounds-ranked-rank
 mul-t14 c = let a = start c.before.before in omega (arith, (rank a).below, (rank a).in_order)
 
-shared-slice-read-t16 : tie.Need-shared-slice-read-t16
+shared-slice-read-t16 : tie.Need-bounds-ranked-rank
 shared-slice-read-t16 c = let a = start c.before.before.before in omega (arith, (rank a).below, (rank a).in_ranked)
 
-sub-t17 : tie.Need-overflow-sub-t17
-sub-t17 c = let a = reading c in omega (arith, (rank a).image_is, (rank a).first, a.pre.2.from)
+sub-t17 : tie.Need-overflow_sub-result
+sub-t17 c = let a = reading c in omega (arith, (rank a).image_is, (rank a).first, a.requires.2.from)
 
-add-t18 : tie.Need-overflow-add-t18
-add-t18 c = let a = reading c in omega (arith, place a, (sent a).below, a.fits.n)
+add-t18 : tie.Need-overflow_add-result
+add-t18 c = let a = reading c in omega (arith, place a, (sent a).below, a.ranges.n)
 
-add-entry-or : tie.Need-overflow-add-entry-or
-add-entry-or c = let a = reading c in omega (arith, (rank a).below, (rank a).in_order, a.good)
+add-entry-or : tie.Need-overflow_add-rank
+add-entry-or c = let a = reading c in omega (arith, (rank a).below, (rank a).in_order, a.well_formed)
 
-entry-or-requires : tie.Need-entry-or-requires
+entry-or-requires : tie.Need-entry_or-requires
 entry-or-requires c κs = search rules
 
 returns : tie.Need-returns
 returns c = let a = reading c.before in
-    front_piece _ (list_of a) _ _ a.pre.0 _ a.pre.1 _ a.pre.2 (below a) a.pre.3 _ _ (place a)
-    c.entry-or.ensures
+    front_piece _ (list_of a) _ _ a.requires.0 _ a.requires.1 _ a.requires.2 (below a) a.requires.3 _ _ (place a)
+    c.entry_or.ensures
 
 pub front_piece_spec : {M : Type 1} → statement M
 front_piece_spec =

@@ -10,46 +10,46 @@ use Rattle.cuts.proofs.pieces.here.Statement.{statement}
 use Rattle.cuts.proofs.pieces.here.Tie as tie
 
 -- the call, from its test
-abbrev start : tie.After-struct-known2 → tie.Start
+abbrev start : tie.After-struct_known-2-1 → tie.Start
 start c = c.before.before.before.before.before.before.before.before
 
-front-piece-requires : tie.Need-front-piece-requires
+front-piece-requires : tie.Need-front_piece-piece-requires
 front-piece-requires c κs =
     let a = start c.before.before in (
-      a.pre.0,
-      a.pre.1,
-      a.pre.2,
+      a.requires.0,
+      a.requires.1,
+      a.requires.2,
       subst (λ (t : ℕ). Begins (with_cuts a.args.n (runs a.args.starts.now a.args.images.now)
-          a.args.cuts.now) t) c.before.if1.true a.pre.3.begins,
+          a.args.cuts.now) t) c.if-at-front.true a.requires.3.begins,
     )
 
-returns : tie.Need-returns
+returns : tie.Need-returns-then-at-front
 returns c =
     let a = start c.before.before.before in
-    let e = c.before.before.if1.true in
+    let e = c.if-at-front.true in
     subst (λ (t : ℕ). HereAt a.args.n (runs a.args.starts.now a.args.images.now) a.args.cuts.now t
-    (record { piece = c.front_piece.result; mark = a.args.at.front.mark })) (sym e)
+    (record { piece = c.front_piece-piece.result; mark = a.args.at.front.mark })) (sym e)
     (record {
-      piece_at = c.front_piece.ensures;
-      starts_before = a.pre.2.starts_before;
-      cuts_before = a.pre.2.cuts_before;
+      piece_at = c.front_piece-piece.ensures;
+      starts_before = a.requires.2.starts_before;
+      cuts_before = a.requires.2.cuts_before;
     })
 
-mark-at-requires : tie.Need-mark-at-requires
+mark-at-requires : tie.Need-mark_at-mark-requires
 mark-at-requires c κs =
     let a = start c.before in (
-      strict_sorted a.args.starts.now a.pre.1.starts_rise,
-      strict_sorted a.args.cuts.now a.pre.1.cuts_rise,
+      strict_sorted a.args.starts.now a.requires.1.starts_rise,
+      strict_sorted a.args.cuts.now a.requires.1.cuts_rise,
     )
 
-returns_2 : tie.Need-returns-2
+returns_2 : tie.Need-returns
 returns_2 c =
-    let m = c.before in
-    let a = start m.before.before in
+    let m = c in
+    let a = start m.before.before.before in
     record {
-      piece_at = a.pre.3.known (omega (arith, m.before.if1.false, a.pre.3.ordered));
-      starts_before = m.mark-at.ensures.0;
-      cuts_before = m.mark-at.ensures.1;
+      piece_at = a.requires.3.known (omega (arith, m.if-at-front.false, a.requires.3.ordered));
+      starts_before = m.mark_at-mark.ensures.0;
+      cuts_before = m.mark_at-mark.ensures.1;
     }
 
 pub here_spec : {M : Type 1} → statement M

@@ -5,26 +5,26 @@ use native.Mathlib.Omega.{arith}
 use Rattle.cuts.proofs.pieces.later_start.Statement.{statement}
 use Rattle.cuts.proofs.pieces.later_start.Tie as tie
 
-returns : tie.Need-returns
-returns c = record { start_is = λ h. refl; cut_is = λ h l. absurd (omega (arith, c.if1.true)) }
+returns : tie.Need-returns-then-count-eq0
+returns c = record { start_is = λ h. refl; cut_is = λ h l. absurd (omega (arith, c.if-count-eq0.true)) }
 
-sub-cut : tie.Need-overflow-sub-cut
+sub-cut : tie.Need-overflow_sub-cut
 sub-cut c = search rules
 
-mul-cut : tie.Need-overflow-mul-cut
-mul-cut c = omega (arith, c.if1.false)
+mul-cut : tie.Need-offset_bounds-cuts-count
+mul-cut c = omega (arith, c.if-count-eq0.false)
 
-shared-slice-read-cut : tie.Need-shared-slice-read-cut
-shared-slice-read-cut c = omega (arith, c.before.if1.false)
+shared-slice-read-cut : tie.Need-bounds-cuts-count
+shared-slice-read-cut c = omega (arith, c.if-count-eq0.false)
 
-returns_2 : tie.Need-returns-2
+returns_2 : tie.Need-returns-then-start-cut
 returns_2 c = record {
-  start_is = λ h. absurd (omega (arith, c.if2.true, h (omega (arith, c.before.before.if1.false))));
+  start_is = λ h. absurd (omega (arith, c.if-start-cut.true, h (omega (arith, c.if-count-eq0.false))));
   cut_is = λ h l. refl;
 }
 
-returns-3 : tie.Need-returns-3
-returns-3 c = record { start_is = λ h. refl; cut_is = λ h l. absurd (omega (arith, c.if2.false)) }
+returns-3 : tie.Need-returns-else-start-cut
+returns-3 c = record { start_is = λ h. refl; cut_is = λ h l. absurd (omega (arith, c.if-start-cut.false)) }
 
 pub later_start_spec : {M : Type 1} → statement M
 later_start_spec =

@@ -18,91 +18,91 @@ use Rattle.cuts.proofs.pieces.piece_around.Statement.{statement}
 use Rattle.cuts.proofs.pieces.piece_around.Tie as tie
 
 -- the places: the call, and where it comes from
-abbrev start : tie.After-origin-of → tie.Start
+abbrev start : tie.After-origin_of-origin → tie.Start
 start c = c.before.before.before.before.before.before
 
-abbrev counted : tie.After-later-start → tie.After-count-below
+abbrev counted : tie.After-later_start-start → tie.After-count_below-count
 counted c = c.before.before
 
-abbrev origin : tie.After-later-start → tie.After-origin-of
-origin c = (counted c).before.before
+abbrev origin : tie.After-later_start-start → tie.After-origin_of-origin
+origin c = c.before.before.before.before
 
-abbrev begun : tie.After-later-start → tie.Start
-begun c = start (origin c)
+abbrev begun : tie.After-later_start-start → tie.Start
+begun c = c.before.before.before.before.before.before.before.before.before.before
 
 abbrev list_of : tie.Start → Runs
 list_of a = runs a.args.starts.now a.args.images.now
 
-origin-of-requires : tie.Need-origin-of-requires
+origin-of-requires : tie.Need-origin_of-origin-requires
 origin-of-requires c κs = search rules
 
-add-count-below : tie.Need-overflow-add-count-below
+add-count-below : tie.Need-overflow_add-origin
 add-count-below c = search rules
 
-count-below-requires : tie.Need-count-below-requires
-count-below-requires c κs = let a = start c.before in strict_sorted a.args.cuts.now a.pre.1.cuts_rise
+count-below-requires : tie.Need-count_below-count-requires
+count-below-requires c κs = let a = start c.before in strict_sorted a.args.cuts.now a.requires.1.cuts_rise
 
-mul-later-start : tie.Need-overflow-mul-later-start
+mul-later-start : tie.Need-offset_bounds-starts-x
 mul-later-start c = search rules
 
-shared-slice-read-later-start : tie.Need-shared-slice-read-later-start
+shared-slice-read-later-start : tie.Need-bounds-starts-x
 shared-slice-read-later-start c = search rules
 
-later-start-requires : tie.Need-later-start-requires
+later-start-requires : tie.Need-later_start-start-requires
 later-start-requires c κs =
-    let o = c.before.before.before in
+    let o = c in
     omega (
       arith,
-      c.before.count-below.ensures,
-      count_le_length (o.origin-of.result.place + 1) (start o).args.cuts.now,
+      c.count_below-count.ensures,
+      count_le_length (o.origin_of-origin.result.place + 1) (start o.before.before.before).args.cuts.now,
     )
 
-add-t17 : tie.Need-overflow-add-t17
+add-t17 : tie.Need-overflow_add-after
 add-t17 c = search rules
 
 -- the mark after the place
-marked : (c : tie.After-later-start)
+marked : (c : tie.After-later_start-start)
     → let a = (begun c).args in
     At a.n a.starts.now a.cuts.now
-    (record { starts = (origin c).origin-of.result.run + 1; cuts = (counted c).count-below.result })
-    (count_below ((origin c).origin-of.result.place + 1) (merged a.starts.now a.cuts.now))
-marked c = at_counts _ _ _ (begun c).requires.1 _ _ (origin c).origin-of.ensures.counted (counted c).count-below.ensures
+    (record { starts = (origin c).origin_of-origin.result.run + 1; cuts = (counted c).count_below-count.result })
+    (count_below ((origin c).origin_of-origin.result.place + 1) (merged a.starts.now a.cuts.now))
+marked c = at_counts _ _ _ (begun c).requires.1 _ _ (origin c).origin_of-origin.ensures.counted (counted c).count_below-count.ensures
 
-entry-at-requires : tie.Need-entry-at-requires
+entry-at-requires : tie.Need-entry_at-end-requires
 entry-at-requires c κs = ((begun c).requires.1, at_own _ _ _ (begun c).requires.1 _ _ (marked c))
 
-around : (c : tie.After-entry-at)
+around : (c : tie.After-entry_at-end)
     → let a = (begun c.before).args in
-    let v = (origin c.before).origin-of.result.place in
-    let w = c.before.later-start.result in
-    let end = c.entry_at.result in
+    let v = (origin c.before).origin_of-origin.result.place in
+    let w = c.later_start-start.result in
+    let end = c.entry_at-end.result in
     (w ≤ v) × (v - w ≤ a.u) × (w ≤ end) × (a.u - (v - w) + (end - w) ≤ a.n)
     × Around a.n (with_cuts a.n (list_of (begun c.before)) a.cuts.now) a.u
     (record { p = a.u - (v - w); piece = record { start = w; to = a.u - (v - w) + (end - w) } })
 around c =
-    let k = c.before in
-    let b = begun k in
+    let k = c in
+    let b = begun k.before in
     let a = b.args in
-    let o = (origin k).origin-of in
+    let o = (origin k.before).origin_of-origin in
     let h : Higher (get_or a.starts.now o.result.run 0) a.cuts.now
-    (count_below (o.result.place + 1) a.cuts.now) k.later-start.result =
-    subst (λ (i : ℕ). Higher (get_or a.starts.now o.result.run 0) a.cuts.now i k.later-start.result)
-    (counted k).count-below.ensures k.later-start.ensures in
-    piece_around _ (list_of b) _ b.pre.0.legal b.pre.1 _ _ _ _ o.ensures.below o.ensures.sent
-    (higher_last _ _ _ b.pre.1 _ _ _ o.ensures.counted h)
-    (c.entry_at.ensures ∙ ap (λ (i : ℕ). get_or (merged a.starts.now a.cuts.now) i a.n)
-    (at_sum _ _ _ b.pre.1 _ _ (marked k)))
+    (count_below (o.result.place + 1) a.cuts.now) k.later_start-start.result =
+    subst (λ (i : ℕ). Higher (get_or a.starts.now o.result.run 0) a.cuts.now i k.later_start-start.result)
+    (counted k.before).count_below-count.ensures k.later_start-start.ensures in
+    piece_around _ (list_of b) _ b.requires.0.legal b.requires.1 _ _ _ _ o.ensures.below o.ensures.sent
+    (higher_last _ _ _ b.requires.1 _ _ _ o.ensures.counted h)
+    (c.entry_at-end.ensures ∙ ap (λ (i : ℕ). get_or (merged a.starts.now a.cuts.now) i a.n)
+    (at_sum _ _ _ b.requires.1 _ _ (marked k.before)))
 
-sub-p : tie.Need-overflow-sub-p
+sub-p : tie.Need-overflow_sub-p
 sub-p c = (around c.before).0
 
-sub-p-2 : tie.Need-overflow-sub-p-2
+sub-p-2 : tie.Need-overflow_sub-p-2
 sub-p-2 c = (around c.before).1
 
-sub-t16 : tie.Need-overflow-sub-t16
+sub-t16 : tie.Need-overflow_sub-piece
 sub-t16 c = (around c.before).2
 
-add-t19 : tie.Need-overflow-add-t19
+add-t19 : tie.Need-overflow_add-piece
 add-t19 c = omega (arith, (around c.before).3)
 
 returns : tie.Need-returns

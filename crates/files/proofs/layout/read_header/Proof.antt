@@ -33,14 +33,14 @@ returns_2 c =
     let t = c in
     let k = t in
     heading_refused _ _ (omega arith) _ k.word-n.ensures _ k.word-k.ensures _ _
-    (sym (ap checked_says c.r-1.given.1) ∙ t.check_numbers.ensures)
+    (sym (ap checked_says c.in-Refused.is) ∙ t.check_numbers.ensures)
 
 returns-3 : tie.Need-returns-in-Accepted
 returns-3 c =
     let t = c in
     let k = t in
     heading_read _ _ (omega arith) _ k.word-n.ensures _ k.word-k.ensures
-    (sym (ap checked_says c.enum_told-1.given.1) ∙ t.check_numbers.ensures) _ t.word-d.ensures
+    (sym (ap checked_says c.in-Accepted.is) ∙ t.check_numbers.ensures) _ t.word-d.ensures
 
 pub read_header_spec : {M : Type 1} → statement M
 read_header_spec =

@@ -29,7 +29,7 @@ long e = e.loop-x.invariant.1 ∙ e.clear.auto.s
 
 -- the start's bucket has an entry
 bucketed : (e : tie.In-loop-x invariant-loop-x decreases-loop-x) → let a = (start e.before.before).args in
-    bucket_of a.scale (get_or a.starts.now e.loop-x.x 0) < length a.tops-1.now
+    bucket_of a.scale (get_or a.starts.now e.loop-x.x 0) < length a.tops.now
 bucketed e = (start e.before.before).requires.3 e.loop-x.x e.loop-x-test.true
 
 inside : (c : tie.After-bucket_of-b invariant-loop-x decreases-loop-x) → c.bucket_of-b.result < length (at c).loop-x.tops
@@ -70,8 +70,8 @@ loop-again : tie.Need-loop-x-preserved invariant-loop-x decreases-loop-x
 loop-again c =
     let l = (at c).loop-x in
     let more = c.loop-x-test.true in
-    let noted = noted_next _ _ _ l.tops-1 l.x _ l.inv.2 more c.bucket_of-b.ensures (inside c) in
-    (omega arith, length-set l.tops-1 _ _ ∙ l.inv.1, noted)
+    let noted = noted_next _ _ _ l.tops l.x _ l.invariant.2 more c.bucket_of-b.ensures (inside c) in
+    (omega arith, length-set l.tops _ _ ∙ l.invariant.1, noted)
 
 same_length : tie.Need-shape_of-tops invariant-loop-x decreases-loop-x
 same_length c = long c.before

@@ -33,7 +33,7 @@ returns c =
     let w = noted c in
     let s = w in
     let r = c.raise in
-    tops_noted _ _ _ _ _ (start s.before.before).requires.some (w.note_runs.auto.1.1.0 ∙ (start s.before.before).requires.fits) r.auto.tops s.scale_of-scale.ensures
+    tops_noted _ _ _ _ _ (start s.before.before).requires.some (w.note_runs.auto.tops ∙ (start s.before.before).requires.fits) r.auto.tops s.scale_of-scale.ensures
     w.note_runs.ensures r.ensures
 
 pub note_tops_spec : {M : Type 1} → statement M

@@ -32,7 +32,7 @@ wrapping-sub-u32-requires c κs = search rules
 returns : tie.Need-returns
 returns c =
     let a = c.args in
-    difference a.start a.end a.length _ (omega arith) (omega arith) (omega arith) c.«wrapping-sub-u32».ensures
+    difference a.start a.end a.length _ (omega arith) (omega arith) (omega arith) c.wrapping_sub_u32.ensures
 
 pub differs_spec : {M : Type 1} → statement M
 differs_spec = tie.close (tie.spec wrapping-sub-u32-requires returns)
