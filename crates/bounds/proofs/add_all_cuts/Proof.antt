@@ -8,80 +8,80 @@ use Rattle.bounds.proofs.Passing.{Passed, passed_none, passed_few, passed_next, 
 use Rattle.bounds.proofs.add_all_cuts.Statement.{statement}
 use Rattle.bounds.proofs.add_all_cuts.Tie as tie
 
-abbrev invariant-loop : tie.invariant-loop
-invariant-loop n starts images order totals₀ passed₀ j₀ totals passed j =
+abbrev invariant-loop-j : tie.invariant-loop-j
+invariant-loop-j n starts images order totals₀ passed₀ j₀ totals passed j =
     (length totals ≡ length totals₀) × Passed n (runs starts images) totals passed j
 
-abbrev decreases-loop : tie.decreases-loop
-decreases-loop n starts images order totals₀ passed₀ j₀ totals passed j = length starts - j
+abbrev decreases-loop-j : tie.decreases-loop-j
+decreases-loop-j n starts images order totals₀ passed₀ j₀ totals passed j = length starts - j
 
-loop-holds : tie.Need-loop-init invariant-loop decreases-loop
-loop-holds c = let a = c.before.before.before.before.requires in (refl, passed_none _ _ a.legal _ a.cleared)
+loop-holds : tie.Need-loop-j-init invariant-loop-j decreases-loop-j
+loop-holds c = let a = c.requires in (refl, passed_none _ _ a.legal _ a.cleared)
 
-add-image-from : tie.Need-overflow-add-image-from invariant-loop decreases-loop
+add-image-from : tie.Need-overflow_add-j invariant-loop-j decreases-loop-j
 add-image-from c = omega arith
 
-image-from-requires : tie.Need-image-from-requires invariant-loop decreases-loop
-image-from-requires c κs = c.before.before.before.before.before.before.requires.ordered
+image-from-requires : tie.Need-image_from-end-requires invariant-loop-j decreases-loop-j
+image-from-requires c κs = c.requires.ordered
 
-sub-near-end : tie.Need-overflow-sub-near-end invariant-loop decreases-loop
+sub-near-end : tie.Need-overflow_sub-end invariant-loop-j decreases-loop-j
 sub-near-end c =
-    let l = c.before.before in
-    let a = l.before.before.before.before.before in
-    omega (arith, c.image-from.ensures, from_some _ _ a.requires.legal l.loop.j c.before.loop-test.true)
+    let l = c in
+    let a = l in
+    omega (arith, c.image_from-end.ensures, from_some _ _ a.requires.legal l.loop-j.j c.loop-j-test.true)
 
-near-end-requires : tie.Need-near-end-requires invariant-loop decreases-loop
+near-end-requires : tie.Need-near_end-to-requires invariant-loop-j decreases-loop-j
 near-end-requires c κs =
-    let l = c.before.before in passed_few _ _ l.before.before.before.before.before.requires.legal _ _ _ l.loop.invariant.1
+    let l = c in passed_few _ _ l.requires.legal _ _ _ l.loop-j.invariant.1
 
-sub-add-cuts : tie.Need-overflow-sub-add-cuts invariant-loop decreases-loop
-sub-add-cuts c = omega (arith, c.before.near-end.ensures.0)
+sub-add-cuts : tie.Need-overflow_sub-to invariant-loop-j decreases-loop-j
+sub-add-cuts c = omega (arith, c.near_end-to.ensures.0)
 
-cast-add-cuts : tie.Need-overflow-cast-add-cuts invariant-loop decreases-loop
+cast-add-cuts : tie.Need-overflow_cast-to invariant-loop-j decreases-loop-j
 cast-add-cuts c =
-    let a = c.before.before.before.before.before.before.before.before.before in
-    omega (arith, c.before.near-end.ensures.1, a.requires.few)
+    let a = c in
+    omega (arith, c.near_end-to.ensures.1, a.requires.few)
 
-add-cuts-requires : tie.Need-add-cuts-requires invariant-loop decreases-loop
+add-cuts-requires : tie.Need-add_cuts-requires invariant-loop-j decreases-loop-j
 add-cuts-requires c κs =
-    let l = c.before.before.before.before in
-    let a = l.before.before.before.before.before in
-    let e = c.before.near-end.ensures in
+    let l = c in
+    let a = l in
+    let e = c.near_end-to.ensures in
     record {
-      sized = omega (arith, l.loop.invariant.0, a.requires.sized);
-      fits = λ i h. omega (arith, l.loop.invariant.1.small i h, e.0, e.1, a.requires.few);
+      sized = omega (arith, l.loop-j.invariant.0, a.requires.sized);
+      fits = λ i h. omega (arith, l.loop-j.invariant.1.small i h, e.0, e.1, a.requires.few);
     }
 
-add-j : tie.Need-overflow-add-j invariant-loop decreases-loop
+add-j : tie.Need-overflow_add-j-in-loop-j invariant-loop-j decreases-loop-j
 add-j c = omega arith
 
-loop-less : tie.Need-loop-smaller invariant-loop decreases-loop
+loop-less : tie.Need-loop-j-smaller invariant-loop-j decreases-loop-j
 loop-less c = omega arith
 
-loop-again : tie.Need-loop-preserved invariant-loop decreases-loop
+loop-again : tie.Need-loop-j-preserved invariant-loop-j decreases-loop-j
 loop-again c =
-    let e = c.before.before in
-    let m = e.before.before in
-    let l = m.before.before.before in
-    let a = l.before.before.before.before.before in
-    let next = passed_next _ _ a.requires.legal _ _ _ l.loop.invariant.1 m.before.before.loop-test.true _ _
-    m.before.image-from.ensures m.near-end.ensures.0 _ e.add-cuts.ensures in
-    (e.add-cuts.auto.0 ∙ l.loop.invariant.0, next)
+    let e = c in
+    let m = e in
+    let l = m in
+    let a = l in
+    let next = passed_next _ _ a.requires.legal _ _ _ l.loop-j.invariant.1 m.loop-j-test.true _ _
+    m.image_from-end.ensures m.near_end-to.ensures.0 _ e.add_cuts.ensures in
+    (e.add_cuts.auto.totals ∙ l.loop-j.invariant.0, next)
 
-same_length : tie.Need-same-length invariant-loop decreases-loop
-same_length c = c.before.loop.invariant.0
+same_length : tie.Need-shape_of-totals invariant-loop-j decreases-loop-j
+same_length c = c.loop-j.invariant.0
 
-returns : tie.Need-returns invariant-loop decreases-loop
+returns : tie.Need-returns invariant-loop-j decreases-loop-j
 returns c =
-    let l = c.before in
-    passed_all _ _ l.before.before.before.before.before.requires.legal _ _ _ l.loop.invariant.1 c.loop-test.false
+    let l = c in
+    passed_all _ _ l.requires.legal _ _ _ l.loop-j.invariant.1 c.loop-j-test.false
 
 pub add_all_cuts_spec : {M : Type 1} → statement M
 add_all_cuts_spec =
     tie.close
     (tie.spec
-    invariant-loop
-    decreases-loop
+    invariant-loop-j
+    decreases-loop-j
     loop-holds
     add-image-from
     image-from-requires

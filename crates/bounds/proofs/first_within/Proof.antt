@@ -6,51 +6,51 @@ use Rattle.bounds.proofs.Ruling.{above_none, above_next}
 use Rattle.bounds.proofs.first_within.Statement.{statement}
 use Rattle.bounds.proofs.first_within.Tie as tie
 
-abbrev invariant-loop : tie.invariant-loop
-invariant-loop totals low spare d₀ d = Above totals low spare d
+abbrev invariant-loop-d : tie.invariant-loop-d
+invariant-loop-d totals low spare d₀ d = Above totals low spare d
 
-abbrev decreases-loop : tie.decreases-loop
-decreases-loop totals low spare d₀ d = 65 - d
+abbrev decreases-loop-d : tie.decreases-loop-d
+decreases-loop-d totals low spare d₀ d = 65 - d
 
-loop-holds : tie.Need-loop-init invariant-loop decreases-loop
+loop-holds : tie.Need-loop-d-init invariant-loop-d decreases-loop-d
 loop-holds c = above_none _ _ _ (omega arith)
 
-sub-total : tie.Need-overflow-sub-total invariant-loop decreases-loop
+sub-total : tie.Need-overflow_sub-total invariant-loop-d decreases-loop-d
 sub-total c = omega arith
 
-cast-total : tie.Need-overflow-cast-total invariant-loop decreases-loop
+cast-total : tie.Need-overflow_cast-total invariant-loop-d decreases-loop-d
 cast-total c = omega arith
 
-mul-total : tie.Need-overflow-mul-total invariant-loop decreases-loop
+mul-total : tie.Need-offset_bounds-totals-d invariant-loop-d decreases-loop-d
 mul-total c = omega arith
 
-shared-slice-read-total : tie.Need-shared-slice-read-total invariant-loop decreases-loop
+shared-slice-read-total : tie.Need-bounds-totals-d invariant-loop-d decreases-loop-d
 shared-slice-read-total c = omega arith
 
-cast-total-2 : tie.Need-overflow-cast-total-2 invariant-loop decreases-loop
-cast-total-2 c = omega (arith, c.shared-slice-known.given (c.before.before.loop.d - 2))
+cast-total-2 : tie.Need-overflow_cast-total-in-loop-d invariant-loop-d decreases-loop-d
+cast-total-2 c = omega (arith, c.shared_slice_known-1.given (c.loop-d.d - 2))
 
-returns : tie.Need-returns invariant-loop decreases-loop
-returns c = record { passed = c.before.before.before.loop.invariant; within = λ h. c.if1.true }
+returns : tie.Need-returns-then-total-spare invariant-loop-d decreases-loop-d
+returns c = record { passed = c.loop-d.invariant; within = λ h. c.if-total-spare.true }
 
-add-d : tie.Need-overflow-add-d invariant-loop decreases-loop
+add-d : tie.Need-overflow_add-d invariant-loop-d decreases-loop-d
 add-d c = omega arith
 
-loop-less : tie.Need-loop-smaller invariant-loop decreases-loop
+loop-less : tie.Need-loop-d-smaller invariant-loop-d decreases-loop-d
 loop-less c = omega arith
 
-loop-again : tie.Need-loop-preserved invariant-loop decreases-loop
-loop-again c = above_next _ _ _ _ c.before.before.before.loop.invariant (omega arith) c.if1.false
+loop-again : tie.Need-loop-d-preserved invariant-loop-d decreases-loop-d
+loop-again c = above_next _ _ _ _ c.loop-d.invariant (omega arith) c.if-total-spare.false
 
-returns_2 : tie.Need-returns-2 invariant-loop decreases-loop
-returns_2 c = record { passed = c.before.loop.invariant; within = λ h. absurd (omega (arith, c.loop-test.false)) }
+returns_2 : tie.Need-returns invariant-loop-d decreases-loop-d
+returns_2 c = record { passed = c.loop-d.invariant; within = λ h. absurd (omega (arith, c.loop-d-test.false)) }
 
 pub first_within_spec : {M : Type 1} → statement M
 first_within_spec =
     tie.close
     (tie.spec
-    invariant-loop
-    decreases-loop
+    invariant-loop-d
+    decreases-loop-d
     loop-holds
     sub-total
     cast-total

@@ -8,34 +8,34 @@ use Rattle.bounds.proofs.Passing.{from_held, from_end}
 use Rattle.bounds.proofs.image_from.Statement.{statement}
 use Rattle.bounds.proofs.image_from.Tie as tie
 
-mul-result : tie.Need-overflow-mul-result
+mul-result : tie.Need-offset_bounds-order-j
 mul-result c = search rules
 
-shared-slice-read-result : tie.Need-shared-slice-read-result
-shared-slice-read-result c = let o = ordered_room _ _ c.before.before.requires in omega arith
+shared-slice-read-result : tie.Need-bounds-order-j
+shared-slice-read-result c = let o = ordered_room _ _ c.requires in omega arith
 
-cast-result : tie.Need-overflow-cast-result
-cast-result c = omega (arith, c.shared-slice-known.given c.before.before.args.j)
+cast-result : tie.Need-overflow_cast-result
+cast-result c = omega (arith, c.shared_slice_known-1.given c.args.j)
 
-mul-result-2 : tie.Need-overflow-mul-result-2
-mul-result-2 c = omega (arith, c.shared-slice-known.given c.before.before.args.j)
+mul-result-2 : tie.Need-offset_bounds-images-order
+mul-result-2 c = omega (arith, c.shared_slice_known-1.given c.args.j)
 
-shared-slice-read-result-2 : tie.Need-shared-slice-read-result-2
+shared-slice-read-result-2 : tie.Need-bounds-images-order
 shared-slice-read-result-2 c =
-    let a = c.before.before.before in entry_below _ _ a.requires a.args.j (omega arith)
+    let a = c in entry_below _ _ a.requires a.args.j (omega arith)
 
-returns : tie.Need-returns
+returns : tie.Need-returns-then-j-starts
 returns c =
-    let a = c.before.before.before in
+    let a = c in
     let r = runs a.args.starts.now a.args.images.now in
-    entry_image r _ a.requires a.args.j c.before.before.if1.true
-    ∙ sym (from_held a.args.n r a.requires.paired a.args.j c.before.before.if1.true)
+    entry_image r _ a.requires a.args.j c.if-j-starts.true
+    ∙ sym (from_held a.args.n r a.requires.paired a.args.j c.if-j-starts.true)
 
-returns_2 : tie.Need-returns-2
+returns_2 : tie.Need-returns-else-j-starts
 returns_2 c =
-    let a = c.before in
+    let a = c in
     let r = runs a.args.starts.now a.args.images.now in
-    sym (from_end a.args.n r a.requires.paired a.args.j c.if1.false)
+    sym (from_end a.args.n r a.requires.paired a.args.j c.if-j-starts.false)
 
 pub image_from_spec : {M : Type 1} → statement M
 image_from_spec =

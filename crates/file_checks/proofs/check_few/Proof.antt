@@ -5,30 +5,30 @@ use borrow.Author.Rules.{rules}
 use Rattle.file_checks.proofs.check_few.Statement.{statement}
 use Rattle.file_checks.proofs.check_few.Tie as tie
 
-cast-k : tie.Need-overflow-cast-k
+cast-k : tie.Need-overflow_cast-k
 cast-k c = search rules
 
-array-borrow-prefix-starts : tie.Need-array-borrow-prefix-starts
+array-borrow-prefix-starts : tie.Need-slice_bounds-starts-end
 array-borrow-prefix-starts c = search rules
 
-slice-aggregate-check-list-by : tie.Need-slice-aggregate-check-list-by
-slice-aggregate-check-list-by c = sym (length-take-le _ _ c.before.before.before.requires.1)
+slice-aggregate-check-list-by : tie.Need-slice_bounds-check_list_by-end
+slice-aggregate-check-list-by c = sym (length-take-le _ _ c.requires.1)
 
-array-borrow-prefix-images : tie.Need-array-borrow-prefix-images
+array-borrow-prefix-images : tie.Need-slice_bounds-images-end
 array-borrow-prefix-images c = search rules
 
-slice-aggregate-check-list-by-2 : tie.Need-slice-aggregate-check-list-by-2
-slice-aggregate-check-list-by-2 c = sym (length-take-le _ _ c.before.before.before.before.requires.1)
+slice-aggregate-check-list-by-2 : tie.Need-slice_bounds-check_list_by-end-2
+slice-aggregate-check-list-by-2 c = sym (length-take-le _ _ c.requires.1)
 
-slice-aggregate-check-list-by-3 : tie.Need-slice-aggregate-check-list-by-3
+slice-aggregate-check-list-by-3 : tie.Need-slice_bounds-check_list_by-end-3
 slice-aggregate-check-list-by-3 c = search rules
 
-slice-aggregate-check-list-by-4 : tie.Need-slice-aggregate-check-list-by-4
+slice-aggregate-check-list-by-4 : tie.Need-slice_bounds-check_list_by-end-4
 slice-aggregate-check-list-by-4 c = search rules
 
-check-list-by-requires : tie.Need-check-list-by-requires
+check-list-by-requires : tie.Need-check_list_by-requires
 check-list-by-requires c κs =
-    let l = c.before.before.before.before.before.before.requires in (
+    let l = c.requires in (
       l.0,
       record { long = l.0.long; starts_room = length-take-le _ _ l.1; images_room = length-take-le _ _ l.1 },
       l.1,

@@ -7,26 +7,26 @@ use borrow.Author.Rules.{rules}
 use Rattle.file_checks.proofs.check_file.Statement.{statement}
 use Rattle.file_checks.proofs.check_file.Tie as tie
 
-read-header-requires : tie.Need-read-header-requires
+read-header-requires : tie.Need-read_header-requires
 read-header-requires c κs = search rules
 
-enum-known-r : tie.Need-enum-known-r
+enum-known-r : tie.Need-enum_known-r
 enum-known-r c = search rules
 
-enum-known-h : tie.Need-enum-known-h
+enum-known-h : tie.Need-enum_known-h
 enum-known-h c = search rules
 
-check-body-requires : tie.Need-check-body-requires
+check-body-requires : tie.Need-check_body-requires
 check-body-requires c κs =
-    heading_laid _ _ _ (sym (ap file_says c.before.h.given.1) ∙ c.before.before.before.read-header.ensures)
+    heading_laid _ _ _ (sym (ap file_says c.in-Read.is) ∙ c.read_header.ensures)
 
-returns : tie.Need-returns
-returns c = file_refused _ _ _ _ (sym (ap file_says c.before.r.given.1) ∙ c.before.before.before.read-header.ensures)
+returns : tie.Need-returns-in-Refused
+returns c = file_refused _ _ _ _ (sym (ap file_says c.in-Refused.is) ∙ c.read_header.ensures)
 
-returns_2 : tie.Need-returns-2
+returns_2 : tie.Need-returns-in-Read
 returns_2 c =
-    let h = c.before.before in
-    c.check-body.ensures ∙ file_read _ _ _ (sym (ap file_says h.h.given.1) ∙ h.before.before.read-header.ensures)
+    let h = c in
+    c.check_body.ensures ∙ file_read _ _ _ (sym (ap file_says h.in-Read.is) ∙ h.read_header.ensures)
 
 pub check_file_spec : {M : Type 1} → statement M
 check_file_spec =

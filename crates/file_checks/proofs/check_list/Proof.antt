@@ -7,31 +7,31 @@ use borrow.Author.Rules.{rules}
 use Rattle.file_checks.proofs.check_list.Statement.{statement}
 use Rattle.file_checks.proofs.check_list.Tie as tie
 
-cast-read-list : tie.Need-overflow-cast-read-list
+cast-read-list : tie.Need-overflow_cast-h
 cast-read-list c = search rules
 
-read-list-requires : tie.Need-read-list-requires
+read-list-requires : tie.Need-read_list-requires
 read-list-requires c κs = search rules
 
 check-requires : tie.Need-check-requires
 check-requires c κs = search rules
 
-then-degree-requires : tie.Need-then-degree-requires
+then-degree-requires : tie.Need-then_degree-requires
 then-degree-requires c κs = search rules
 
-same_length : tie.Need-same-length
+same_length : tie.Need-shape_of-starts
 same_length c = search rules
 
-same_length_2 : tie.Need-same-length-2
+same_length_2 : tie.Need-shape_of-images
 same_length_2 c = search rules
 
 returns : tie.Need-returns
 returns c =
-    let k = c.before in
-    let l = k.before.before.before.before.before.before.before in
-    let a = l.before.before.before.before.before.before.before in
-    c.then-degree.ensures _ k.check.ensures
-    ∙ body_is max_runs _ a.args.h a.requires.0 (omega arith) _ l.read-list.ensures
+    let k = c in
+    let l = k in
+    let a = l in
+    c.then_degree.ensures _ k.check.ensures
+    ∙ body_is max_runs _ a.args.h a.requires.0 (omega arith) _ l.read_list.ensures
 
 pub check_list_spec : {M : Type 1} → statement M
 check_list_spec =

@@ -6,95 +6,95 @@ use native.Mathlib.Omega.{arith}
 use lib.ListN.{length}
 use Rattle.runs.specs.Runs.{runs}
 use Rattle.folds.proofs.Heads.{Heading, heading_start, heading_few, heading_lengths, heading_past, heading_next, heading_end}
+use Rattle.folds.proofs.write_folded.Lts.{then-is_head, else-is_head}
 use Rattle.folds.proofs.write_folded.Statement.{statement}
 use Rattle.folds.proofs.write_folded.Tie as tie
 
-abbrev invariant-loop : tie.invariant-loop
-invariant-loop starts images to-starts₀ to-images₀ m₀ x₀ to-starts to-images m x =
+abbrev invariant-loop-x : tie.invariant-loop-x
+invariant-loop-x starts images to-starts₀ to-images₀ m₀ x₀ to-starts to-images m x =
     Heading (runs starts images) to-starts₀ to-images₀ to-starts to-images m x
 
-abbrev decreases-loop : tie.decreases-loop
-decreases-loop starts images to-starts₀ to-images₀ m₀ x₀ to-starts to-images m x = length starts - x
+abbrev decreases-loop-x : tie.decreases-loop-x
+decreases-loop-x starts images to-starts₀ to-images₀ m₀ x₀ to-starts to-images m x = length starts - x
 
-loop-holds : tie.Need-loop-init invariant-loop decreases-loop
-loop-holds c = heading_start _ _ _ c.before.before.before.before.requires.1
+loop-holds : tie.Need-loop-x-init invariant-loop-x decreases-loop-x
+loop-holds c = heading_start _ _ _ c.requires.1
 
-few : (c : tie.At-loop invariant-loop decreases-loop) → c.loop.m ≤ c.loop.x
-few c = heading_few _ _ _ _ _ _ _ c.loop.invariant
+few : (c : tie.At-loop-x invariant-loop-x decreases-loop-x) → c.loop-x.m ≤ c.loop-x.x
+few c = heading_few _ _ _ _ _ _ _ c.loop-x.invariant
 
-lengths : (c : tie.At-loop invariant-loop decreases-loop) → let a = c.before.before.before.before.before.args in
-    (length c.loop.to-starts ≡ length a.to-starts.now)
-    × (length c.loop.to-images ≡ length a.to-images.now)
-lengths c = heading_lengths _ _ _ _ _ _ _ c.loop.invariant
+lengths : (c : tie.At-loop-x invariant-loop-x decreases-loop-x) → let a = c.args in
+    (length c.loop-x.to_starts ≡ length a.to_starts.now)
+    × (length c.loop-x.to_images ≡ length a.to_images.now)
+lengths c = heading_lengths _ _ _ _ _ _ _ c.loop-x.invariant
 
-is-head-requires : tie.Need-is-head-requires invariant-loop decreases-loop
-is-head-requires c κs = (omega arith, c.before.before.before.before.before.before.requires.0)
+is-head-requires : tie.Need-is_head-requires invariant-loop-x decreases-loop-x
+is-head-requires c κs = (omega arith, c.requires.0)
 
-mul-to-starts : tie.Need-overflow-mul-to-starts invariant-loop decreases-loop
+mul-to-starts : tie.Need-offset_bounds-starts-x invariant-loop-x decreases-loop-x
 mul-to-starts c = omega arith
 
-shared-slice-read-to-starts : tie.Need-shared-slice-read-to-starts invariant-loop decreases-loop
+shared-slice-read-to-starts : tie.Need-bounds-starts-x invariant-loop-x decreases-loop-x
 shared-slice-read-to-starts c = omega arith
 
-mul-to-starts-2 : tie.Need-overflow-mul-to-starts-2 invariant-loop decreases-loop
+mul-to-starts-2 : tie.Need-offset_bounds-to_starts-m invariant-loop-x decreases-loop-x
 mul-to-starts-2 c = omega (arith, few c.before.before.before.before)
 
-slice-write-to-starts : tie.Need-slice-write-to-starts invariant-loop decreases-loop
+slice-write-to-starts : tie.Need-bounds-to_starts-m invariant-loop-x decreases-loop-x
 slice-write-to-starts c =
-    let a = c.before.before.before.before in
-    omega (arith, few a, (lengths a).0, a.before.before.before.before.before.requires.1.0)
+    let a = c in
+    omega (arith, few a.before.before.before.before, (lengths a.before.before.before.before).0, a.requires.1.0)
 
-mul-to-images : tie.Need-overflow-mul-to-images invariant-loop decreases-loop
+mul-to-images : tie.Need-offset_bounds-images-x invariant-loop-x decreases-loop-x
 mul-to-images c = omega arith
 
-shared-slice-read-to-images : tie.Need-shared-slice-read-to-images invariant-loop decreases-loop
+shared-slice-read-to-images : tie.Need-bounds-images-x invariant-loop-x decreases-loop-x
 shared-slice-read-to-images c =
-    omega (arith, c.before.before.before.before.before.before.before.before.before.before.requires.0.paired)
+    omega (arith, c.requires.0.paired)
 
-mul-to-images-2 : tie.Need-overflow-mul-to-images-2 invariant-loop decreases-loop
+mul-to-images-2 : tie.Need-offset_bounds-to_images-m invariant-loop-x decreases-loop-x
 mul-to-images-2 c = omega (arith, few c.before.before.before.before.before)
 
-slice-write-to-images : tie.Need-slice-write-to-images invariant-loop decreases-loop
+slice-write-to-images : tie.Need-bounds-to_images-m invariant-loop-x decreases-loop-x
 slice-write-to-images c =
-    let a = c.before.before.before.before.before in
-    omega (arith, few a, (lengths a).1, a.before.before.before.before.before.requires.1.1.0)
+    let a = c in
+    omega (arith, few a.before.before.before.before.before, (lengths a.before.before.before.before.before).1, a.requires.1.1.0)
 
-add-m : tie.Need-overflow-add-m invariant-loop decreases-loop
+add-m : tie.Need-overflow_add-m invariant-loop-x decreases-loop-x
 add-m c = omega (arith, few c.before.before.before.before.before)
 
-add-x : tie.Need-overflow-add-x invariant-loop decreases-loop
+add-x : tie.Need-overflow_add-x invariant-loop-x decreases-loop-x
 add-x c = omega arith
 
-loop-less : tie.Need-loop-smaller invariant-loop decreases-loop
+loop-less : tie.Need-loop-x-smaller invariant-loop-x decreases-loop-x
 loop-less c = omega arith
 
-loop-again : tie.Need-loop-preserved invariant-loop decreases-loop
+loop-again : tie.Need-loop-x-preserved invariant-loop-x decreases-loop-x
 loop-again c =
-    let a = c.before.before.before in
-    let h = c.before.is-head.ensures in
-    let l = c.before.before.loop-test.true in
-    ⊎_elim
-    (λ w. heading_next _ _ _ _ _ _ _ a.loop.invariant l _ h _ _ _
-    w.0.taken w.3 w.4 w.5)
-    (λ w. heading_past _ _ _ _ _ _ _ a.loop.invariant l _ h _ _ _
-    w.0.left w.1 w.2 w.3)
-    c.if1.branch
+    let a = c in
+    let h = c.is_head.ensures in
+    let l = c.loop-x-test.true in
+    elim c.if-is_head.branch [
+      then-is_head w ↦ heading_next _ _ _ _ _ _ _ a.loop-x.invariant l _ h _ _ _
+          w.if-is_head.true w.to_starts-is w.to_images-is w.m-is
+    | else-is_head w ↦ heading_past _ _ _ _ _ _ _ a.loop-x.invariant l _ h _ _ _
+          w.if-is_head.false w.to_starts-is w.to_images-is w.m-is ]
 
-same_length : tie.Need-same-length invariant-loop decreases-loop
+same_length : tie.Need-shape_of-to_starts invariant-loop-x decreases-loop-x
 same_length c = (lengths c.before).0
 
-same_length_2 : tie.Need-same-length-2 invariant-loop decreases-loop
+same_length_2 : tie.Need-shape_of-to_images invariant-loop-x decreases-loop-x
 same_length_2 c = (lengths c.before).1
 
-returns : tie.Need-returns invariant-loop decreases-loop
-returns c = heading_end _ _ _ _ _ _ _ c.before.loop.invariant (omega arith)
+returns : tie.Need-returns invariant-loop-x decreases-loop-x
+returns c = heading_end _ _ _ _ _ _ _ c.loop-x.invariant (omega arith)
 
 pub write_folded_spec : {M : Type 1} → statement M
 write_folded_spec =
     tie.close
     (tie.spec
-    invariant-loop
-    decreases-loop
+    invariant-loop-x
+    decreases-loop-x
     loop-holds
     is-head-requires
     mul-to-starts

@@ -12,91 +12,91 @@ use Rattle.preimages.proofs.inverse.Statement.{statement}
 use Rattle.preimages.proofs.inverse.Tie as tie
 
 -- the call whose tables have passed 9, and its tables
-abbrev call : tie.Else1 → tie.Start
+abbrev call : tie.Else-is_misshapen → tie.Start
 call c = c.before.before.before.before.before.before
 
-abbrev handed : tie.Else1 → Tables
+abbrev handed : tie.Else-is_misshapen → Tables
 handed c =
-    let a = (call c).args in
+    let a = c.args in
     tables a.starts.now a.images.now a.holders.now a.lengths.now
 
 -- back from where all lengths have passed, and from where a source was sought
-abbrev measured : tie.Else2 → tie.Else1
+abbrev measured : tie.Else-wrong-starts → tie.Else-is_misshapen
 measured c = c.before.before
 
-abbrev sought : tie.After-first-source → tie.Else2
+abbrev sought : tie.After-first_source-x → tie.Else-wrong-starts
 sought c = c.before.before
 
 -- what 9, the lengths and the search have shown
-shape : (c : tie.Else1) → Shaped (call c).args.n (handed c)
-shape c = shaped _ _ _ c.before.is-misshapen.ensures c.if1.false
+shape : (c : tie.Else-is_misshapen) → Shaped c.args.n (handed c)
+shape c = shaped _ _ _ c.is_misshapen.ensures c.if-is_misshapen.false
 
-right : (c : tie.Else2) → Measured (call (measured c)).args.n (handed (measured c))
+right : (c : tie.Else-wrong-starts) → Measured (call (measured c)).args.n (handed (measured c))
 right c =
-    let l = c.before.first-wrong-length in
-    none_wrong _ (handed (measured c)) l.result l.ensures c.if2.false
+    let l = c.first_wrong_length-wrong in
+    none_wrong _ (handed (measured c)) l.result l.ensures c.if-wrong-starts.false
 
-source : (c : tie.After-first-source) → let e = measured (sought c) in
-    c.first-source.result ≡ source_of (handed e) (call e).args.j
+source : (c : tie.After-first_source-x) → let e = measured (sought c) in
+    c.first_source-x.result ≡ source_of (handed e) e.args.j
 source c =
     let e = measured (sought c) in
-    c.first-source.ensures ∙ source_is (handed e) _ _ (shape e).linked.full.imaged
+    c.first_source-x.ensures ∙ source_is (handed e) _ _ (shape e).linked.full.imaged
 
-is-misshapen-requires : tie.Need-is-misshapen-requires
+is-misshapen-requires : tie.Need-is_misshapen-requires
 is-misshapen-requires c κs = search rules
 
-returns : tie.Need-returns
-returns c = inverse_shape _ _ _ _ c.before.is-misshapen.ensures c.if1.true
+returns : tie.Need-returns-then-is_misshapen
+returns c = inverse_shape _ _ _ _ c.is_misshapen.ensures c.if-is_misshapen.true
 
-first-wrong-length-requires : tie.Need-first-wrong-length-requires
-first-wrong-length-requires c κs = let s = shape c in (s.linked.some, s.decreases)
+first-wrong-length-requires : tie.Need-first_wrong_length-wrong-requires
+first-wrong-length-requires c κs = let s = shape c in (s.linked.some, s.measured)
 
-cast-t13 : tie.Need-overflow-cast-t13
+cast-t13 : tie.Need-overflow_cast-result
 cast-t13 c = omega (arith, (shape c.before.before).linked.few)
 
-returns_2 : tie.Need-returns-2
-returns_2 c = inverse_length _ _ _ (shape c.before.before) _ c.before.first-wrong-length.ensures (omega arith)
+returns_2 : tie.Need-returns-then-wrong-starts
+returns_2 c = inverse_length _ _ _ (shape c.before.before) _ c.first_wrong_length-wrong.ensures (omega arith)
 
-returns-3 : tie.Need-returns-3
-returns-3 c = let e = c.before in inverse_far _ _ _ (shape (measured e)) (right e) (omega arith)
+returns-3 : tie.Need-returns-then-n-j
+returns-3 c = let e = c in inverse_far _ _ _ (shape (measured e.before)) (right e.before) (omega arith)
 
-first-source-requires : tie.Need-first-source-requires
+first-source-requires : tie.Need-first_source-x-requires
 first-source-requires c κs = let s = shape (measured c.before) in omega arith
 
-returns-4 : tie.Need-returns-4
+returns-4 : tie.Need-returns-then-starts-x
 returns-4 c =
     let e = sought c.before in
     inverse_none _ _ _ (shape (measured e)) (right e) (omega arith) _ (source c.before) (omega arith)
 
-mul-t11 : tie.Need-overflow-mul-t11
+mul-t11 : tie.Need-offset_bounds-starts-x
 mul-t11 c = search rules
 
-shared-slice-read-t18 : tie.Need-shared-slice-read-t18
+shared-slice-read-t18 : tie.Need-bounds-starts-x
 shared-slice-read-t18 c = search rules
 
-mul-t19 : tie.Need-overflow-mul-t19
+mul-t19 : tie.Need-offset_bounds-images-x
 mul-t19 c = search rules
 
-shared-slice-read-t21 : tie.Need-shared-slice-read-t21
+shared-slice-read-t21 : tie.Need-bounds-images-x
 shared-slice-read-t21 c = let s = shape (measured (sought c.before.before.before)) in omega arith
 
-sub-t22 : tie.Need-overflow-sub-t22
+sub-t22 : tie.Need-overflow_sub-result
 sub-t22 c = let h = source_sends _ _ _ (source c.before.before.before) (omega arith) in omega arith
 
-add-t23 : tie.Need-overflow-add-t23
+add-t23 : tie.Need-overflow_add-result
 add-t23 c =
-    let f = c.before.before.before in
-    let h = source_below _ _ _ _ (right (sought f)) (source f) (omega arith) in
+    let f = c in
+    let h = source_below _ _ _ _ (right (sought f.before.before.before)) (source f.before.before.before) (omega arith) in
     omega arith
 
-cast-t24 : tie.Need-overflow-cast-t24
+cast-t24 : tie.Need-overflow_cast-result-2
 cast-t24 c = omega (arith, (shape (measured (sought c.before.before.before))).linked.few)
 
-returns-5 : tie.Need-returns-5
+returns-5 : tie.Need-returns
 returns-5 c =
-    let f = c.before.before.before in
-    let e = sought f in
-    inverse_from _ _ _ (shape (measured e)) (right e) (omega arith) _ (source f) (omega arith)
+    let f = c in
+    let e = sought f.before.before.before in
+    inverse_from _ _ _ (shape (measured e)) (right e) (omega arith) _ (source f.before.before.before) (omega arith)
 
 pub inverse_spec : {M : Type 1} → statement M
 inverse_spec =

@@ -5,25 +5,25 @@ use borrow.Author.Rules.{rules}
 use Rattle.preimages.proofs.is_source.Statement.{statement}
 use Rattle.preimages.proofs.is_source.Tie as tie
 
-mul-image : tie.Need-overflow-mul-image
+mul-image : tie.Need-offset_bounds-images-x
 mul-image c = search rules
 
-shared-slice-read-image : tie.Need-shared-slice-read-image
+shared-slice-read-image : tie.Need-bounds-images-x
 shared-slice-read-image c = search rules
 
-returns : tie.Need-returns
+returns : tie.Need-returns-then-j-image
 unfolding image_has
-returns c = simp (lt-leb _ _ c.if1.true)
+returns c = simp (lt-leb _ _ c.if-j-image.true)
 
-mul-result : tie.Need-overflow-mul-result
+mul-result : tie.Need-offset_bounds-lengths-x
 mul-result c = search rules
 
-shared-slice-read-result : tie.Need-shared-slice-read-result
+shared-slice-read-result : tie.Need-bounds-lengths-x
 shared-slice-read-result c = search rules
 
-returns_2 : tie.Need-returns-2
+returns_2 : tie.Need-returns
 unfolding image_has
-returns_2 c = simp (le-leb _ _ c.before.if1.false)
+returns_2 c = simp (le-leb _ _ c.if-j-image.false)
 
 pub is_source_spec : {M : Type 1} → statement M
 is_source_spec =

@@ -15,88 +15,88 @@ use borrow.Author.Rules.{rules}
 use Rattle.walks.proofs.find.Statement.{statement}
 use Rattle.walks.proofs.find.Tie as tie
 
-is-misshapen-requires : tie.Need-is-misshapen-requires
+is-misshapen-requires : tie.Need-is_misshapen-requires
 is-misshapen-requires c κs = search rules
 
-returns : tie.Need-returns
-returns c = find_shape _ _ _ _ c.before.is-misshapen.ensures c.if1.true
+returns : tie.Need-returns-then-is_misshapen
+returns c = find_shape _ _ _ _ c.is_misshapen.ensures c.if-is_misshapen.true
 
-first-wrong-length-requires : tie.Need-first-wrong-length-requires
+first-wrong-length-requires : tie.Need-first_wrong_length-wrong-requires
 first-wrong-length-requires c κs =
-    let s = shaped _ _ _ c.before.is-misshapen.ensures c.if1.false in
+    let s = shaped _ _ _ c.is_misshapen.ensures c.if-is_misshapen.false in
     omega arith
 
-cast-t12 : tie.Need-overflow-cast-t12
+cast-t12 : tie.Need-overflow_cast-result
 cast-t12 c =
-    let e = c.before.before in
-    let s = shaped _ _ _ e.before.is-misshapen.ensures e.if1.false in
+    let e = c in
+    let s = shaped _ _ _ e.is_misshapen.ensures e.if-is_misshapen.false in
     omega arith
 
-returns_2 : tie.Need-returns-2
+returns_2 : tie.Need-returns-then-wrong-starts
 returns_2 c =
-    let e = c.before.before in
-    let s = shaped _ _ _ e.before.is-misshapen.ensures e.if1.false in
-    find_length _ _ _ s _ c.before.first-wrong-length.ensures (omega arith)
+    let e = c in
+    let s = shaped _ _ _ e.is_misshapen.ensures e.if-is_misshapen.false in
+    find_length _ _ _ s _ c.first_wrong_length-wrong.ensures (omega arith)
 
-is-unfindable-requires : tie.Need-is-unfindable-requires
+is-unfindable-requires : tie.Need-is_unfindable-requires
 is-unfindable-requires c κs =
-    let e = c.before.before in
-    let s = shaped _ _ _ e.before.is-misshapen.ensures e.if1.false in
+    let e = c in
+    let s = shaped _ _ _ e.is_misshapen.ensures e.if-is_misshapen.false in
     omega arith
 
 -- what the call was handed, and what test 9 and the test of all lengths have shown, where they have passed
-abbrev call : tie.Else2 → tie.Start
+abbrev call : tie.Else-wrong-starts → tie.Start
 call w = w.before.before.before.before.before.before.before.before
 
-abbrev given : tie.Else2 → Tables
-given w = let a = (call w).args in tables a.starts.now a.images.now a.holders.now a.lengths.now
+abbrev given : tie.Else-wrong-starts → Tables
+given w = let a = w.args in tables a.starts.now a.images.now a.holders.now a.lengths.now
 
-shape : (w : tie.Else2) → Shaped (call w).args.n (given w)
-shape w = shaped _ (given w) _ w.before.before.before.is-misshapen.ensures w.before.before.if1.false
+shape : (w : tie.Else-wrong-starts) → Shaped w.args.n (given w)
+shape w = shaped _ (given w) _ w.is_misshapen.ensures w.if-is_misshapen.false
 
-right : (w : tie.Else2) → Measured (call w).args.n (given w)
-right w = none_wrong _ (given w) _ w.before.first-wrong-length.ensures w.if2.false
+right : (w : tie.Else-wrong-starts) → Measured w.args.n (given w)
+right w = none_wrong _ (given w) _ w.first_wrong_length-wrong.ensures w.if-wrong-starts.false
 
-returns-3 : tie.Need-returns-3
+returns-3 : tie.Need-returns-then-is_unfindable
 returns-3 c =
-    let w = c.before.before in
-    find_out _ (given w) _ (shape w) (right w) (sym c.before.is-unfindable.ensures ∙ c.if3.true)
+    let w = c in
+    find_out _ (given w.before.before) _ (shape w.before.before) (right w.before.before) (sym c.is_unfindable.ensures ∙ c.if-is_unfindable.true)
 
-add-count-below : tie.Need-overflow-add-count-below
+add-count-below : tie.Need-overflow_add-i
 add-count-below c =
-    let p = findable_is _ _ _ (sym c.before.is-unfindable.ensures ∙ c.if3.false) in
+    let p = findable_is _ _ _ (sym c.is_unfindable.ensures ∙ c.if-is_unfindable.false) in
     omega arith
 
 -- the search's answer
-found : (c : tie.After-count-below)
-    → (0 < c.count-below.result)
-    × (c.count-below.result - 1 ≡ found_at (given c.before.before.before).links (call c.before.before.before).args.i)
+found : (c : tie.After-count_below)
+    → (0 < c.count_below.result)
+    × (c.count_below.result - 1 ≡ found_at (given c.before.before.before).links c.args.i)
 found c =
-    let w = c.before.before.before in
-    let f = sym c.before.before.is-unfindable.ensures ∙ c.before.if3.false in
-    let k = (given w).links in
-    found_counted k (call w).args.i _ (right_rise (call w).args.n k.list.starts (given w).lengths (right w)) (shape w).linked.some
-    (findable_is (call w).args.n k.list.starts (call w).args.i f).1 c.count-below.ensures
+    let w = c in
+    let f = sym c.is_unfindable.ensures ∙ c.if-is_unfindable.false in
+    let k = (given w.before.before.before).links in
+    found_counted k w.args.i _ (right_rise w.args.n k.list.starts (given w.before.before.before).lengths (right w.before.before.before)) (shape w.before.before.before).linked.some
+    (findable_is w.args.n k.list.starts w.args.i f).1 c.count_below.ensures
 
-count-below-requires : tie.Need-count-below-requires
+count-below-requires : tie.Need-count_below-requires
 count-below-requires c κs =
-    let w = c.before.before in
-    let a = (call w).args in
-    strict_sorted a.starts.now (right_rise a.n a.starts.now a.lengths.now (right w))
+    let w = c in
+    let a = w.args in
+    strict_sorted a.starts.now (right_rise a.n a.starts.now a.lengths.now (right w.before.before))
 
-sub-t17 : tie.Need-overflow-sub-t17
+sub-t17 : tie.Need-overflow_sub-result
 sub-t17 c = (found c).0
 
-cast-t18 : tie.Need-overflow-cast-t18
+cast-t18 : tie.Need-overflow_cast-result-2
 cast-t18 c =
-    let w = c.before.before.before in
-    omega (arith, (shape w).linked.few, count_le_length ((call w).args.i + 1) (call w).args.starts.now, c.count-below.ensures)
+    let w = c in
+    omega (arith, (shape w.before.before.before).linked.few, count_le_length (w.args.i + 1) w.args.starts.now, c.count_below.ensures)
 
-returns-4 : tie.Need-returns-4
+returns-4 : tie.Need-returns
 returns-4 c =
-    let w = c.before.before.before in
-    let f = sym c.before.before.is-unfindable.ensures ∙ c.before.if3.false in
-    find_at _ (given w) _ (shape w) (right w) f _ (found c).1
+    let w = c in
+    let f = sym c.is_unfindable.ensures ∙ c.if-is_unfindable.false in
+    find_at _ (given w.before.before.before) _ (shape w.before.before.before) (right w.before.before.before) f _ (found c).1
 
 pub find_spec : {M : Type 1} → statement M
 find_spec =

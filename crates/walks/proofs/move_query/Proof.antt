@@ -9,23 +9,23 @@ use Rattle.walks.proofs.move_query.Tie as tie
 locate-requires : tie.Need-locate-requires
 locate-requires c κs = search rules
 
-enum-known-r : tie.Need-enum-known-r
+enum-known-r : tie.Need-enum_known-r
 enum-known-r c = search rules
 
-enum_told : tie.Need-enum-told
+enum_told : tie.Need-enum_told-1
 enum_told c = search rules
 
 advance-requires : tie.Need-advance-requires
 advance-requires c κs =
-    (located _ _ _ _ _ (ap moved_says (sym c.enum_told.given.1) ∙ c.before.before.locate.ensures)).stands.at
+    (located _ _ _ _ _ (ap moved_says (sym c.in-To.is) ∙ c.locate.ensures)).stands.at
 
-returns : tie.Need-returns
+returns : tie.Need-returns-in-Refused
 returns c =
-    move_refused _ _ _ _ _ _ (ap moved_says (sym c.before.r.given.1) ∙ c.before.before.before.locate.ensures)
+    move_refused _ _ _ _ _ _ (ap moved_says (sym c.in-Refused.is) ∙ c.locate.ensures)
 
-returns_2 : tie.Need-returns-2
+returns_2 : tie.Need-returns-in-To
 returns_2 c =
-    let e = ap moved_says (sym c.before.enum_told.given.1) ∙ c.before.before.before.locate.ensures in
+    let e = ap moved_says (sym c.in-To.is) ∙ c.locate.ensures in
     c.advance.ensures ∙ sym (move_located _ _ _ _ (located _ _ _ _ _ e))
 
 pub move_query_spec : {M : Type 1} → statement M

@@ -11,22 +11,22 @@ use Rattle.walks.proofs.repeated_moves.Tie as tie
 locate-requires : tie.Need-locate-requires
 locate-requires c κs = search rules
 
-enum-known-r : tie.Need-enum-known-r
+enum-known-r : tie.Need-enum_known-r
 enum-known-r c = search rules
 
-enum_told : tie.Need-enum-told
+enum_told : tie.Need-enum_told-1
 enum_told c = search rules
 
-moves-from-requires : tie.Need-moves-from-requires
+moves-from-requires : tie.Need-moves_from-requires
 moves-from-requires c κs =
-    located _ _ _ _ _ (ap moved_says (sym c.enum_told.given.1) ∙ c.before.before.locate.ensures)
+    located _ _ _ _ _ (ap moved_says (sym c.in-To.is) ∙ c.locate.ensures)
 
-returns : tie.Need-returns
+returns : tie.Need-returns-in-Refused
 returns c =
-    let e = ap moved_says (sym c.before.r.given.1) ∙ c.before.before.before.locate.ensures in
+    let e = ap moved_says (sym c.in-Refused.is) ∙ c.locate.ensures in
     moves_refused _ _ 0 _ _ _ _ _ (omega arith) e
 
-returns_2 : tie.Need-returns-2
+returns_2 : tie.Need-returns-in-To
 returns_2 c = search rules
 
 pub repeated_moves_spec : {M : Type 1} → statement M

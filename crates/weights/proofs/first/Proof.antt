@@ -7,38 +7,38 @@ use Rattle.weights.proofs.first.Statement.{statement}
 use Rattle.weights.proofs.first.Tie as tie
 
 -- the call that a need belongs to, once the holder is read
-abbrev call : tie.After-shared-slice-known4 → tie.Start
+abbrev call : tie.After-shared_slice_known-4-1 → tie.Start
 call c = c.before.before.before.before
 
-mul-h : tie.Need-overflow-mul-h
+mul-h : tie.Need-offset_bounds-holders-at
 mul-h c = search rules
 
-shared-slice-read-h : tie.Need-shared-slice-read-h
+shared-slice-read-h : tie.Need-bounds-holders-at
 shared-slice-read-h c = search rules
 
-cast-h : tie.Need-overflow-cast-h
-cast-h c = let h = held_is _ _ (call c).requires.1 in search rules
+cast-h : tie.Need-overflow_cast-h
+cast-h c = let h = held_is _ _ c.requires.1 in search rules
 
-mul-one-unless-equal : tie.Need-overflow-mul-one-unless-equal
-mul-one-unless-equal c = let h = held_is _ _ (call c).requires.1 in search rules
+mul-one-unless-equal : tie.Need-offset_bounds-starts-h
+mul-one-unless-equal c = let h = held_is _ _ c.requires.1 in search rules
 
-shared-slice-read-one-unless-equal : tie.Need-shared-slice-read-one-unless-equal
-shared-slice-read-one-unless-equal c = let h = held_is _ _ (call c.before).requires.1 in search rules
+shared-slice-read-one-unless-equal : tie.Need-bounds-starts-h
+shared-slice-read-one-unless-equal c = let h = held_is _ _ c.requires.1 in search rules
 
-mul-one-unless-equal-2 : tie.Need-overflow-mul-one-unless-equal-2
+mul-one-unless-equal-2 : tie.Need-offset_bounds-images-at
 mul-one-unless-equal-2 c = search rules
 
-shared-slice-read-one-unless-equal-2 : tie.Need-shared-slice-read-one-unless-equal-2
+shared-slice-read-one-unless-equal-2 : tie.Need-bounds-images-at
 shared-slice-read-one-unless-equal-2 c = search rules
 
-one-unless-equal-requires : tie.Need-one-unless-equal-requires
-one-unless-equal-requires c κs = let h = held_is _ _ (call c.before.before).requires.1 in search rules
+one-unless-equal-requires : tie.Need-one_unless_equal-requires
+one-unless-equal-requires c κs = let h = held_is _ _ c.requires.1 in search rules
 
-add-result : tie.Need-overflow-add-result
-add-result c = let h = held_is _ _ (call c.before.before.before).requires.1 in search rules
+add-result : tie.Need-overflow_add-result
+add-result c = let h = held_is _ _ c.requires.1 in search rules
 
 returns : tie.Need-returns
-returns c = first_is _ _ _ c.one-unless-equal.ensures.0
+returns c = first_is _ _ _ c.one_unless_equal.ensures.0
 
 pub first_spec : {M : Type 1} → statement M
 first_spec =

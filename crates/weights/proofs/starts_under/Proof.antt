@@ -10,60 +10,60 @@ use Rattle.weights.proofs.starts_under.Tie as tie
 under-requires : tie.Need-under-requires
 under-requires c κs = search rules
 
-enum_told : tie.Need-enum-told
+enum_told : tie.Need-enum_told-1
 enum_told c = search rules
 
-sub-result : tie.Need-overflow-sub-result
+sub-result : tie.Need-slice_bounds-result-count
 sub-result c = search rules
 
-part-result-start : tie.Need-slice-bounds-result-start
+part-result-start : tie.Need-slice_bounds-result-start
 part-result-start c = search rules
 
-part-result-end : tie.Need-slice-bounds-result-end
+part-result-end : tie.Need-slice_bounds-result-end
 part-result-end c = search rules
 
-enum-known-s : tie.Need-enum-known-s
+enum-known-s : tie.Need-enum_known-s
 enum-known-s c = search rules
 
-cast-from : tie.Need-overflow-cast-from
+cast-from : tie.Need-overflow_cast-from
 cast-from c = search rules
 
-cast-result : tie.Need-overflow-cast-result
+cast-result : tie.Need-overflow_cast-result
 cast-result c = search rules
 
-add-result : tie.Need-overflow-add-result
+add-result : tie.Need-overflow_add-result
 add-result c =
-    let f = c.before.before.before in
-    let e = ap stretched_says (sym f.s.given.1) ∙ f.before.before.under.ensures in
+    let f = c in
+    let e = ap stretched_says (sym f.in-At.is) ∙ f.under.ensures in
     omega (arith, under_within _ _ _ _ e)
 
-mul-result : tie.Need-overflow-mul-result
+mul-result : tie.Need-offset_bounds-starts-from
 mul-result c =
-    let f = c.before.before.before in
-    let e = ap stretched_says (sym f.s.given.1) ∙ f.before.before.under.ensures in
+    let f = c in
+    let e = ap stretched_says (sym f.in-At.is) ∙ f.under.ensures in
     omega (arith, under_within _ _ _ _ e)
 
-sub-result-2 : tie.Need-overflow-sub-result-2
+sub-result-2 : tie.Need-slice_bounds-result-count-in-At
 sub-result-2 c = search rules
 
-part-result-start-2 : tie.Need-slice-bounds-result-start-2
+part-result-start-2 : tie.Need-slice_bounds-result-start-in-At
 part-result-start-2 c = search rules
 
-part-result-end-2 : tie.Need-slice-bounds-result-end-2
+part-result-end-2 : tie.Need-slice_bounds-result-end-in-At
 part-result-end-2 c =
-    let f = c.before.before.before in
-    let e = ap stretched_says (sym f.s.given.1) ∙ f.before.before.under.ensures in
+    let f = c in
+    let e = ap stretched_says (sym f.in-At.is) ∙ f.under.ensures in
     under_within _ _ _ _ e
 
-returns : tie.Need-returns
+returns : tie.Need-returns-in-Refused
 returns c =
-    let u = c.before.before.before in
-    under_empty _ _ _ _ _ (ap stretched_says (sym c.before.enum_told.given.1) ∙ u.under.ensures)
+    let u = c in
+    under_empty _ _ _ _ _ (ap stretched_says (sym c.in-Refused.is) ∙ u.under.ensures)
 
-returns_2 : tie.Need-returns-2
+returns_2 : tie.Need-returns-in-At
 returns_2 c =
-    let f = c.before.before.before.before in
-    let e = ap stretched_says (sym f.s.given.1) ∙ f.before.before.under.ensures in
+    let f = c in
+    let e = ap stretched_says (sym f.in-At.is) ∙ f.under.ensures in
     under_part _ _ _ _ e
 
 pub starts_under_spec : {M : Type 1} → statement M

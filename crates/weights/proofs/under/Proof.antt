@@ -10,32 +10,32 @@ use Rattle.weights.proofs.under.Tie as tie
 weight-requires : tie.Need-weight-requires
 weight-requires c κs = search rules
 
-enum-known-r : tie.Need-enum-known-r
+enum-known-r : tie.Need-enum_known-r
 enum-known-r c = search rules
 
-enum-known-w : tie.Need-enum-known-w
+enum-known-w : tie.Need-enum_known-w
 enum-known-w c = search rules
 
 first-requires : tie.Need-first-requires
 first-requires c κs =
-    let e = ap weighed_says (sym c.before.w.given.1) ∙ c.before.before.before.weight.ensures in
+    let e = ap weighed_says (sym c.in-Weight.is) ∙ c.weight.ensures in
     (weight_entered _ _ _ _ e, weight_held _ _ _ _ e)
 
-cast-t12 : tie.Need-overflow-cast-t12
+cast-t12 : tie.Need-overflow_cast-result
 cast-t12 c =
-    let f = c.before.before in
-    let e = ap weighed_says (sym f.w.given.1) ∙ f.before.before.weight.ensures in
+    let f = c in
+    let e = ap weighed_says (sym f.in-Weight.is) ∙ f.weight.ensures in
     omega (arith, first_fits _ _ _ _ e _ c.first.ensures)
 
-returns : tie.Need-returns
+returns : tie.Need-returns-in-Refused
 returns c =
-    let w = c.before.before.before in
-    under_unweighed _ _ _ _ _ (ap weighed_says (sym c.before.r.given.1) ∙ w.weight.ensures)
+    let w = c in
+    under_unweighed _ _ _ _ _ (ap weighed_says (sym c.in-Refused.is) ∙ w.weight.ensures)
 
-returns_2 : tie.Need-returns-2
+returns_2 : tie.Need-returns-in-Weight
 returns_2 c =
-    let f = c.before.before in
-    let e = ap weighed_says (sym f.w.given.1) ∙ f.before.before.weight.ensures in
+    let f = c in
+    let e = ap weighed_says (sym f.in-Weight.is) ∙ f.weight.ensures in
     under_done _ _ _ _ e _ c.first.ensures
 
 pub under_spec : {M : Type 1} → statement M

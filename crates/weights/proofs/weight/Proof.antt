@@ -7,27 +7,27 @@ use borrow.Author.Rules.{rules}
 use Rattle.weights.proofs.weight.Statement.{statement}
 use Rattle.weights.proofs.weight.Tie as tie
 
-is-misshapen-requires : tie.Need-is-misshapen-requires
+is-misshapen-requires : tie.Need-is_misshapen-requires
 is-misshapen-requires c κs = search rules
 
-returns : tie.Need-returns
-returns c = weight_shape _ _ _ _ c.before.is-misshapen.ensures c.if1.true
+returns : tie.Need-returns-then-is_misshapen
+returns c = weight_shape _ _ _ _ c.is_misshapen.ensures c.if-is_misshapen.true
 
-returns_2 : tie.Need-returns-2
+returns_2 : tie.Need-returns-then-starts-x
 returns_2 c =
-    let e = c.before in
-    weight_index _ _ _ (shaped _ _ _ e.before.is-misshapen.ensures e.if1.false) (omega arith)
+    let e = c in
+    weight_index _ _ _ (shaped _ _ _ e.is_misshapen.ensures e.if-is_misshapen.false) (omega arith)
 
 size-requires : tie.Need-size-requires
 size-requires c κs =
-    let e = c.before in
-    let s = shaped _ _ _ e.before.is-misshapen.ensures e.if1.false in
+    let e = c in
+    let s = shaped _ _ _ e.is_misshapen.ensures e.if-is_misshapen.false in
     record { shape = s; index = omega arith }
 
-returns-3 : tie.Need-returns-3
+returns-3 : tie.Need-returns
 returns-3 c =
-    let e = c.before.before in
-    let s = shaped _ _ _ e.before.is-misshapen.ensures e.if1.false in
+    let e = c in
+    let s = shaped _ _ _ e.is_misshapen.ensures e.if-is_misshapen.false in
     c.size.ensures ∙ sym (weight_indexed _ _ _ (record { shape = s; index = omega arith }))
 
 pub weight_spec : {M : Type 1} → statement M

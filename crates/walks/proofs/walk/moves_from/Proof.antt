@@ -11,69 +11,69 @@ use Prim.Native.Nat.{◌-◌}
 use Rattle.walks.proofs.walk.moves_from.Statement.{statement}
 use Rattle.walks.proofs.walk.moves_from.Tie as tie
 
-abbrev invariant-loop : tie.invariant-loop
-invariant-loop n starts images holders lengths x i m place₀ interval₀ count₀ made₀ place interval count made =
+abbrev invariant-loop-made : tie.invariant-loop-made
+invariant-loop-made n starts images holders lengths x i m place₀ interval₀ count₀ made₀ place interval count made =
     Walking n (tables starts images holders lengths) x i m (stand_at starts interval place count) made
 
-abbrev decreases-loop : tie.decreases-loop
-decreases-loop n starts images holders lengths x i m place₀ interval₀ count₀ made₀ place interval count made = m - made
+abbrev decreases-loop-made : tie.decreases-loop-made
+decreases-loop-made n starts images holders lengths x i m place₀ interval₀ count₀ made₀ place interval count made = m - made
 
-loop-holds : tie.Need-loop-init invariant-loop decreases-loop
+loop-holds : tie.Need-loop-made-init invariant-loop-made decreases-loop-made
 loop-holds c = walking_start _ _ _ _ _ (search rules)
 
-leave-requires : tie.Need-leave-requires invariant-loop decreases-loop
-leave-requires c κs = c.before.loop.invariant.here
+leave-requires : tie.Need-leave-requires invariant-loop-made decreases-loop-made
+leave-requires c κs = c.loop-made.invariant.here
 
-enum-known-r : tie.Need-enum-known-r invariant-loop decreases-loop
+enum-known-r : tie.Need-enum_known-r invariant-loop-made decreases-loop-made
 enum-known-r c = search rules
 
-returns : tie.Need-returns invariant-loop decreases-loop
+returns : tie.Need-returns-in-Refused invariant-loop-made decreases-loop-made
 returns c =
-    let a = c.before.before.before in
-    let l = a.before.before in
-    let e = ap moved_says (sym c.before.r.given.1) ∙ a.leave.ensures in
-    walking_refused _ _ _ _ _ _ _ l.loop.invariant _ _ e (omega arith)
+    let a = c in
+    let l = a in
+    let e = ap moved_says (sym c.in-Refused.is) ∙ a.leave.ensures in
+    walking_refused _ _ _ _ _ _ _ l.loop-made.invariant _ _ e (omega arith)
 
-enum-known-next : tie.Need-enum-known-next invariant-loop decreases-loop
+enum-known-next : tie.Need-enum_known-next invariant-loop-made decreases-loop-made
 enum-known-next c = search rules
 
-add-count : tie.Need-overflow-add-count invariant-loop decreases-loop
+add-count : tie.Need-overflow_add-count invariant-loop-made decreases-loop-made
 add-count c =
-    let s = c.before.before in
-    let a = s.before.before in
-    let l = a.before.before in
-    let e = ap moved_says (sym s.next.given.1) ∙ a.leave.ensures in
-    let m = l.before.before.before.before.before.ranges.m in
-    omega (arith, walking_fits _ _ _ _ _ _ _ l.loop.invariant _ e a.before.loop-test.true (omega arith))
+    let s = c in
+    let a = s in
+    let l = a in
+    let e = ap moved_says (sym s.in-To.is) ∙ a.leave.ensures in
+    let m = l.ranges.m in
+    omega (arith, walking_fits _ _ _ _ _ _ _ l.loop-made.invariant _ e a.loop-made-test.true (omega arith))
 
-add-made : tie.Need-overflow-add-made invariant-loop decreases-loop
+add-made : tie.Need-overflow_add-made invariant-loop-made decreases-loop-made
 add-made c = omega arith
 
-loop-less : tie.Need-loop-smaller invariant-loop decreases-loop
+loop-less : tie.Need-loop-made-smaller invariant-loop-made decreases-loop-made
 loop-less c = omega arith
 
-loop-again : tie.Need-loop-preserved invariant-loop decreases-loop
+loop-again : tie.Need-loop-made-preserved invariant-loop-made decreases-loop-made
 loop-again c =
-    let s = c.before.before in
-    let a = s.before.before in
-    let l = a.before.before in
-    let e = ap moved_says (sym s.next.given.1) ∙ a.leave.ensures in
-    walking_more _ _ _ _ _ _ _ l.loop.invariant _ e a.before.loop-test.true
+    let s = c in
+    let a = s in
+    let l = a in
+    let e = ap moved_says (sym s.in-To.is) ∙ a.leave.ensures in
+    walking_more _ _ _ _ _ _ _ l.loop-made.invariant _ e a.loop-made-test.true
 
-stand-requires : tie.Need-stand-requires invariant-loop decreases-loop
+stand-requires : tie.Need-stand-requires invariant-loop-made decreases-loop-made
 stand-requires c κs =
-    let here = c.before.loop.invariant.here in
+    let here = c.loop-made.invariant.here in
     (here.at.entered.index, here.at.low)
 
-returns_2 : tie.Need-returns-2 invariant-loop decreases-loop
-returns_2 c = ap done c.stand.ensures ∙ walking_end _ _ _ _ _ _ _ c.before.before.loop.invariant (omega arith)
+returns_2 : tie.Need-returns invariant-loop-made decreases-loop-made
+returns_2 c = ap done c.stand.ensures ∙ walking_end _ _ _ _ _ _ _ c.loop-made.invariant (omega arith)
 
 pub moves_from_spec : {M : Type 1} → statement M
 moves_from_spec =
     tie.close
     (tie.spec
-    invariant-loop
-    decreases-loop
+    invariant-loop-made
+    decreases-loop-made
     loop-holds
     leave-requires
     enum-known-r
