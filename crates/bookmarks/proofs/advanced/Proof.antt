@@ -7,28 +7,28 @@ use borrow.Author.Rules.{rules}
 use Rattle.bookmarks.proofs.advanced.Statement.{statement}
 use Rattle.bookmarks.proofs.advanced.Tie as tie
 
-move-query-requires : tie.Need-move-query-requires
+move-query-requires : tie.Need-move_query-requires
 move-query-requires c κs = search rules
 
-enum-known-r : tie.Need-enum-known-r
+enum-known-r : tie.Need-enum_known-r
 enum-known-r c = search rules
 
-enum-known-s : tie.Need-enum-known-s
+enum-known-s : tie.Need-enum_known-s
 enum-known-s c = search rules
 
 mark-requires : tie.Need-mark-requires
 mark-requires c κs = search rules
 
-returns : tie.Need-returns
+returns : tie.Need-returns-in-Refused
 returns c =
-    let m = c.before.before.before in
-    let f = bookmark_refused _ _ _ _ _ (ap moved_says (sym c.before.r.given.1) ∙ m.move-query.ensures) in
+    let m = c in
+    let f = bookmark_refused _ _ _ _ _ (ap moved_says (sym c.in-Refused.is) ∙ m.move_query.ensures) in
     record { says = f; mark = after_refused _ _ _ _ f }
 
-returns_2 : tie.Need-returns-2
+returns_2 : tie.Need-returns-in-To
 returns_2 c =
-    let s = c.before.before in
-    let f = bookmark_on _ _ _ _ (ap moved_says (sym s.s.given.1) ∙ s.before.before.move-query.ensures) in
+    let s = c in
+    let f = bookmark_on _ _ _ _ (ap moved_says (sym s.in-To.is) ∙ s.move_query.ensures) in
     record { says = c.mark.ensures.says ∙ f; mark = c.mark.ensures.mark ∙ ap (mark_after _) f }
 
 pub advanced_spec : {M : Type 1} → statement M

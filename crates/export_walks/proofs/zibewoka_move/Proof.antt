@@ -5,21 +5,21 @@ use Rattle.export_walks.proofs.Answering.{move_answer_narrow, move_answer_count}
 use Rattle.export_walks.proofs.zibewoka_move.Statement.{statement}
 use Rattle.export_walks.proofs.zibewoka_move.Tie as tie
 
-move-query-requires : tie.Need-move-query-requires
+move-query-requires : tie.Need-move_query-requires
 move-query-requires c κs = search rules
 
-of-moves-requires : tie.Need-of-moves-requires
+of-moves-requires : tie.Need-of_moves-wide-requires
 of-moves-requires c κs = search rules
 
-cast-t10 : tie.Need-overflow-cast-t10
+cast-t10 : tie.Need-overflow_cast-result
 cast-t10 c =
-    let e = c.before in
-    omega (arith, move_answer_count _ _ _ _ _ _ e.of-moves.ensures e.before.move-query.ensures)
+    let e = c in
+    omega (arith, move_answer_count _ _ _ _ _ _ e.of_moves-wide.ensures e.move_query.ensures)
 
 returns : tie.Need-returns
 returns c =
-    let e = c.before in
-    move_answer_narrow _ _ _ e.of-moves.ensures e.before.move-query.ensures
+    let e = c in
+    move_answer_narrow _ _ _ e.of_moves-wide.ensures e.move_query.ensures
 
 pub zibewoka_move_spec : {M : Type 1} → statement M
 zibewoka_move_spec = tie.close (tie.spec move-query-requires of-moves-requires cast-t10 returns)

@@ -9,20 +9,20 @@ use Rattle.outcomes.specs.Outcome.{over}
 use Rattle.plans.proofs.clear.Statement.{statement}
 use Rattle.plans.proofs.clear.Tie as tie
 
-bound-of-requires : tie.Need-bound-of-requires
+bound-of-requires : tie.Need-bound_of-requires
 bound-of-requires c κs = search rules
 
 clear-requires : tie.Need-clear-requires
-clear-requires c κs = omega (arith, c.bound_of.ensures.0, c.before.before.before.requires.3)
+clear-requires c κs = omega (arith, c.bound_of.ensures.0, c.requires.3)
 
-same_length : tie.Need-same-length
+same_length : tie.Need-shape_of-working
 same_length c = search rules
 
 returns : tie.Need-returns
 returns c =
-    let w = c.before.before in
-    let a = w.before.before.before.before in
-    let b = w.before.bound_of in
+    let w = c in
+    let a = w in
+    let b = w.bound_of in
     w.clear.ensures
     ∙ ap (λ (k : ℕ). replicate b.result 0 ++ drop k a.args.working.now) (sym (length-replicate {A = ℕ} b.result 0))
     ∙ ap (λ (k : ℕ). over (replicate k 0) a.args.working.now) b.ensures.0

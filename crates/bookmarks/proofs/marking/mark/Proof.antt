@@ -5,29 +5,29 @@ use borrow.Author.Rules.{rules}
 use Rattle.bookmarks.proofs.marking.mark.Statement.{statement}
 use Rattle.bookmarks.proofs.marking.mark.Tie as tie
 
-would-overflow-requires : tie.Need-would-overflow-requires
+would-overflow-requires : tie.Need-would_overflow-requires
 would-overflow-requires c κs = search rules
 
-returns : tie.Need-returns
+returns : tie.Need-returns-then-would_overflow
 returns c =
-    let e = mark_overflow _ _ _ c.before.would-overflow.ensures c.if1.true in
+    let e = mark_overflow _ _ _ c.would_overflow.ensures c.if-would_overflow.true in
     record { says = e; mark = after_refused _ _ _ _ e }
 
-add-t6 : tie.Need-overflow-add-t6
+add-t6 : tie.Need-overflow_add-result
 add-t6 c =
-    let h = room _ _ _ c.before.before.would-overflow.ensures c.before.if1.false in
+    let h = room _ _ _ c.would_overflow.ensures c.if-would_overflow.false in
     omega arith
 
-add-t7 : tie.Need-overflow-add-t7
+add-t7 : tie.Need-overflow_add-result-2
 add-t7 c =
-    let e = c.before.before.before in
-    let h = room _ _ _ e.before.would-overflow.ensures e.if1.false in
+    let e = c in
+    let h = room _ _ _ e.would_overflow.ensures e.if-would_overflow.false in
     omega arith
 
-returns_2 : tie.Need-returns-2
+returns_2 : tie.Need-returns
 returns_2 c =
-    let e = c.before.before.before in
-    let f = mark_on _ _ _ e.before.would-overflow.ensures e.if1.false in
+    let e = c in
+    let f = mark_on _ _ _ e.would_overflow.ensures e.if-would_overflow.false in
     record { says = f; mark = after_done _ _ _ f }
 
 pub mark_spec : {M : Type 1} → statement M

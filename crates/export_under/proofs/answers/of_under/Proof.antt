@@ -6,10 +6,10 @@ use Rattle.export_under.specs.Answers.{under_answer}
 use Rattle.export_under.proofs.answers.of_under.Statement.{statement}
 use Rattle.export_under.proofs.answers.of_under.Tie as tie
 
-enum-known-stretched : tie.Need-enum-known-stretched
+enum-known-stretched : tie.Need-enum_known-stretched
 enum-known-stretched c = search rules
 
-enum-known-stretched-2 : tie.Need-enum-known-stretched-2
+enum-known-stretched-2 : tie.Need-enum_known-stretched-in-Refused-1
 enum-known-stretched-2 c = search rules
 
 number-requires : tie.Need-number-requires
@@ -18,14 +18,14 @@ number-requires c κs = search rules
 place-requires : tie.Need-place-requires
 place-requires c κs = search rules
 
-returns : tie.Need-returns
+returns : tie.Need-returns-in-At
 returns c =
-    ap (λ a. under_answer (stretched_says a)) (sym c.before.stretched.given.1)
+    ap (λ a. under_answer (stretched_says a)) (sym c.in-At.is)
 
-returns_2 : tie.Need-returns-2
+returns_2 : tie.Need-returns-in-Refused
 returns_2 c =
-    let arm = sym c.before.before.before.stretched2.given.1 in
-    rw (c.before.number.ensures, c.place.ensures) (ap (λ a. under_answer (stretched_says a)) arm)
+    let arm = sym c.in-Refused.is in
+    rw (c.number.ensures, c.place.ensures) (ap (λ a. under_answer (stretched_says a)) arm)
 
 pub of_under_spec : {M : Type 1} → statement M
 of_under_spec =

@@ -6,10 +6,10 @@ use Rattle.export_walks.specs.Answers.{find_answer}
 use Rattle.export_walks.proofs.answers.of_find.Statement.{statement}
 use Rattle.export_walks.proofs.answers.of_find.Tie as tie
 
-enum-known-found : tie.Need-enum-known-found
+enum-known-found : tie.Need-enum_known-found
 enum-known-found c = search rules
 
-enum-known-found-2 : tie.Need-enum-known-found-2
+enum-known-found-2 : tie.Need-enum_known-found-in-Refused-1
 enum-known-found-2 c = search rules
 
 number-requires : tie.Need-number-requires
@@ -18,15 +18,15 @@ number-requires c κs = search rules
 place-requires : tie.Need-place-requires
 place-requires c κs = search rules
 
-returns : tie.Need-returns
+returns : tie.Need-returns-in-At
 returns c =
-    ap (λ a. find_answer c.before.before.before.args.place (found_says a)) (sym c.before.found.given.1)
+    ap (λ a. find_answer c.args.place (found_says a)) (sym c.in-At.is)
 
-returns_2 : tie.Need-returns-2
+returns_2 : tie.Need-returns-in-Refused
 returns_2 c =
-    let arm = sym c.before.before.before.found2.given.1 in
-    let place = c.before.before.before.before.before.args.place in
-    rw (c.before.number.ensures, c.place.ensures) (ap (λ a. find_answer place (found_says a)) arm)
+    let arm = sym c.in-Refused.is in
+    let place = c.args.place in
+    rw (c.number.ensures, c.place.ensures) (ap (λ a. find_answer place (found_says a)) arm)
 
 pub of_find_spec : {M : Type 1} → statement M
 of_find_spec =

@@ -6,10 +6,10 @@ use Rattle.export_walks.specs.Answers.{inverse_answer}
 use Rattle.export_walks.proofs.answers.of_inverse.Statement.{statement}
 use Rattle.export_walks.proofs.answers.of_inverse.Tie as tie
 
-enum-known-inverted : tie.Need-enum-known-inverted
+enum-known-inverted : tie.Need-enum_known-inverted
 enum-known-inverted c = search rules
 
-enum-known-inverted-2 : tie.Need-enum-known-inverted-2
+enum-known-inverted-2 : tie.Need-enum_known-inverted-in-Refused-1
 enum-known-inverted-2 c = search rules
 
 number-requires : tie.Need-number-requires
@@ -18,14 +18,14 @@ number-requires c κs = search rules
 place-requires : tie.Need-place-requires
 place-requires c κs = search rules
 
-returns : tie.Need-returns
+returns : tie.Need-returns-in-From
 returns c =
-    ap (λ a. inverse_answer (inverted_says a)) (sym c.before.inverted.given.1)
+    ap (λ a. inverse_answer (inverted_says a)) (sym c.in-From.is)
 
-returns_2 : tie.Need-returns-2
+returns_2 : tie.Need-returns-in-Refused
 returns_2 c =
-    let arm = sym c.before.before.before.inverted2.given.1 in
-    rw (c.before.number.ensures, c.place.ensures) (ap (λ a. inverse_answer (inverted_says a)) arm)
+    let arm = sym c.in-Refused.is in
+    rw (c.number.ensures, c.place.ensures) (ap (λ a. inverse_answer (inverted_says a)) arm)
 
 pub of_inverse_spec : {M : Type 1} → statement M
 of_inverse_spec =

@@ -6,10 +6,10 @@ use Rattle.export_walks.specs.Answers.{weight_answer}
 use Rattle.export_walks.proofs.answers.of_weight.Statement.{statement}
 use Rattle.export_walks.proofs.answers.of_weight.Tie as tie
 
-enum-known-weighed : tie.Need-enum-known-weighed
+enum-known-weighed : tie.Need-enum_known-weighed
 enum-known-weighed c = search rules
 
-enum-known-weighed-2 : tie.Need-enum-known-weighed-2
+enum-known-weighed-2 : tie.Need-enum_known-weighed-in-Refused-1
 enum-known-weighed-2 c = search rules
 
 number-requires : tie.Need-number-requires
@@ -18,14 +18,14 @@ number-requires c κs = search rules
 place-requires : tie.Need-place-requires
 place-requires c κs = search rules
 
-returns : tie.Need-returns
+returns : tie.Need-returns-in-Weight
 returns c =
-    ap (λ a. weight_answer (weighed_says a)) (sym c.before.weighed.given.1)
+    ap (λ a. weight_answer (weighed_says a)) (sym c.in-Weight.is)
 
-returns_2 : tie.Need-returns-2
+returns_2 : tie.Need-returns-in-Refused
 returns_2 c =
-    let arm = sym c.before.before.before.weighed2.given.1 in
-    rw (c.before.number.ensures, c.place.ensures) (ap (λ a. weight_answer (weighed_says a)) arm)
+    let arm = sym c.in-Refused.is in
+    rw (c.number.ensures, c.place.ensures) (ap (λ a. weight_answer (weighed_says a)) arm)
 
 pub of_weight_spec : {M : Type 1} → statement M
 of_weight_spec =

@@ -8,44 +8,44 @@ use Rattle.permutations.proofs.Changing.{changing_none, changing_next, changing_
 use Rattle.permutations.proofs.after.change.Statement.{statement}
 use Rattle.permutations.proofs.after.change.Tie as tie
 
-abbrev invariant-loop : tie.invariant-loop
-invariant-loop values ascent other after₀ p₀ after p = Filling (changed values ascent other) after₀ after p
+abbrev invariant-loop-p : tie.invariant-loop-p
+invariant-loop-p values ascent other after₀ p₀ after p = Filling (changed values ascent other) after₀ after p
 
-abbrev decreases-loop : tie.decreases-loop
-decreases-loop values ascent other after₀ p₀ after p = length values - p
+abbrev decreases-loop-p : tie.decreases-loop-p
+decreases-loop-p values ascent other after₀ p₀ after p = length values - p
 
-loop-holds : tie.Need-loop-init invariant-loop decreases-loop
-loop-holds c = let q = c.before.requires in changing_none _ _ _ q.0 _ q.1
+loop-holds : tie.Need-loop-p-init invariant-loop-p decreases-loop-p
+loop-holds c = let q = c.requires in changing_none _ _ _ q.0 _ q.1
 
-value-after-requires : tie.Need-value-after-requires invariant-loop decreases-loop
-value-after-requires c κs = (c.before.before.before.requires.0, omega arith)
+value-after-requires : tie.Need-value_after-requires invariant-loop-p decreases-loop-p
+value-after-requires c κs = (c.requires.0, omega arith)
 
-mul-after : tie.Need-overflow-mul-after invariant-loop decreases-loop
+mul-after : tie.Need-offset_bounds-after-p invariant-loop-p decreases-loop-p
 mul-after c = omega arith
 
-array-write-after : tie.Need-array-write-after invariant-loop decreases-loop
+array-write-after : tie.Need-bounds-after-p invariant-loop-p decreases-loop-p
 array-write-after c = omega arith
 
-add-p : tie.Need-overflow-add-p invariant-loop decreases-loop
+add-p : tie.Need-overflow_add-p invariant-loop-p decreases-loop-p
 add-p c = omega arith
 
-loop-less : tie.Need-loop-smaller invariant-loop decreases-loop
+loop-less : tie.Need-loop-p-smaller invariant-loop-p decreases-loop-p
 loop-less c = omega arith
 
-loop-again : tie.Need-loop-preserved invariant-loop decreases-loop
+loop-again : tie.Need-loop-p-preserved invariant-loop-p decreases-loop-p
 loop-again c =
-    let q = c.before.before in
-    changing_next _ _ _ q.before.before.requires.0 _ _ _ q.loop.invariant (omega arith) _ c.value_after.ensures
+    let q = c in
+    changing_next _ _ _ q.requires.0 _ _ _ q.loop-p.invariant (omega arith) _ c.value_after.ensures
 
-returns : tie.Need-returns invariant-loop decreases-loop
-returns c = let q = c.before in changing_all _ _ _ q.before.before.requires.0 _ _ _ q.loop.invariant (omega arith)
+returns : tie.Need-returns invariant-loop-p decreases-loop-p
+returns c = let q = c in changing_all _ _ _ q.requires.0 _ _ _ q.loop-p.invariant (omega arith)
 
 pub change_spec : {M : Type 1} → statement M
 change_spec =
     tie.close
     (tie.spec
-    invariant-loop
-    decreases-loop
+    invariant-loop-p
+    decreases-loop-p
     loop-holds
     value-after-requires
     mul-after

@@ -8,61 +8,61 @@ use Rattle.permutations.proofs.Ascents.{ascent_end, ascent_hit, ascent_miss}
 use Rattle.permutations.proofs.after.last_ascent.Statement.{statement}
 use Rattle.permutations.proofs.after.last_ascent.Tie as tie
 
-abbrev invariant-loop : tie.invariant-loop
-invariant-loop values i₀ i = (i < length values) × (last_ascent values i ≡ ascent_of values)
+abbrev invariant-loop-i : tie.invariant-loop-i
+invariant-loop-i values i₀ i = (i < length values) × (last_ascent values i ≡ ascent_of values)
 
-abbrev decreases-loop : tie.decreases-loop
-decreases-loop values i₀ i = i
+abbrev decreases-loop-i : tie.decreases-loop-i
+decreases-loop-i values i₀ i = i
 
-returns : tie.Need-returns invariant-loop decreases-loop
+returns : tie.Need-returns-then-values-eq0 invariant-loop-i decreases-loop-i
 returns c = sym (ascent_end _ _ (omega arith))
 
-sub-i : tie.Need-overflow-sub-i invariant-loop decreases-loop
+sub-i : tie.Need-overflow_sub-i invariant-loop-i decreases-loop-i
 sub-i c = omega arith
 
-loop-holds : tie.Need-loop-init invariant-loop decreases-loop
+loop-holds : tie.Need-loop-i-init invariant-loop-i decreases-loop-i
 loop-holds c = (omega arith, refl)
 
-sub-if2 : tie.Need-overflow-sub-if2 invariant-loop decreases-loop
+sub-if2 : tie.Need-overflow_sub-i-in-loop-i invariant-loop-i decreases-loop-i
 sub-if2 c = omega arith
 
-mul-if2 : tie.Need-overflow-mul-if2 invariant-loop decreases-loop
+mul-if2 : tie.Need-offset_bounds-values-i invariant-loop-i decreases-loop-i
 mul-if2 c = omega arith
 
-shared-slice-read-if2 : tie.Need-shared-slice-read-if2 invariant-loop decreases-loop
+shared-slice-read-if2 : tie.Need-bounds-values-i invariant-loop-i decreases-loop-i
 shared-slice-read-if2 c = omega arith
 
-mul-if2-2 : tie.Need-overflow-mul-if2-2 invariant-loop decreases-loop
+mul-if2-2 : tie.Need-offset_bounds-values-i-in-loop-i invariant-loop-i decreases-loop-i
 mul-if2-2 c = omega arith
 
-shared-slice-read-if2-2 : tie.Need-shared-slice-read-if2-2 invariant-loop decreases-loop
+shared-slice-read-if2-2 : tie.Need-bounds-values-i-in-loop-i invariant-loop-i decreases-loop-i
 shared-slice-read-if2-2 c = omega arith
 
-returns_2 : tie.Need-returns-2 invariant-loop decreases-loop
+returns_2 : tie.Need-returns-then-values-i invariant-loop-i decreases-loop-i
 returns_2 c =
-    let q = c.before.before.before.before.loop in
+    let q = c.loop-i in
     sym (ascent_hit _ q.i (omega arith) (omega arith)) ∙ q.invariant.1
 
-sub-i-2 : tie.Need-overflow-sub-i-2 invariant-loop decreases-loop
+sub-i-2 : tie.Need-overflow_sub-i-in-loop-i-2 invariant-loop-i decreases-loop-i
 sub-i-2 c = omega arith
 
-loop-less : tie.Need-loop-smaller invariant-loop decreases-loop
+loop-less : tie.Need-loop-i-smaller invariant-loop-i decreases-loop-i
 loop-less c = omega arith
 
-loop-again : tie.Need-loop-preserved invariant-loop decreases-loop
+loop-again : tie.Need-loop-i-preserved invariant-loop-i decreases-loop-i
 loop-again c =
-    let q = c.before.before.before.before.loop in
+    let q = c.loop-i in
     (omega arith, sym (ascent_miss _ q.i (omega arith) (omega arith)) ∙ q.invariant.1)
 
-returns-3 : tie.Need-returns-3 invariant-loop decreases-loop
-returns-3 c = let q = c.before.loop in sym (ascent_end _ q.i (omega arith)) ∙ q.invariant.1
+returns-3 : tie.Need-returns invariant-loop-i decreases-loop-i
+returns-3 c = let q = c.loop-i in sym (ascent_end _ q.i (omega arith)) ∙ q.invariant.1
 
 pub last_ascent_spec : {M : Type 1} → statement M
 last_ascent_spec =
     tie.close
     (tie.spec
-    invariant-loop
-    decreases-loop
+    invariant-loop-i
+    decreases-loop-i
     returns
     sub-i
     loop-holds

@@ -10,13 +10,13 @@ use Rattle.plans.proofs.deciding.bound_of.Tie as tie
 small : (c : tie.Start) → c.args.d * c.args.k ≤ 1048576
 small c = mul-le-mul c.requires.1 c.requires.2
 
-mul-result : tie.Need-overflow-mul-result
+mul-result : tie.Need-overflow_mul-result
 mul-result c = omega (arith, small c)
 
-sub-result : tie.Need-overflow-sub-result
+sub-result : tie.Need-overflow_sub-result
 sub-result c = search rules
 
-div-result : tie.Need-nonzero-div-result
+div-result : tie.Need-nonzero_div-result
 div-result c = search rules
 
 returns : tie.Need-returns

@@ -18,30 +18,30 @@ refused_by {d} {r} e f = not-false d (sym e ∙ not-true r f)
 passed_by : {d r : Bool} → r ≡ not d → not r ≡ false → d ≡ false
 passed_by {d} {r} e f = not-true d (sym e ∙ not-false r f)
 
-is-degree-requires : tie.Need-is-degree-requires
+is-degree-requires : tie.Need-is_degree-requires
 is-degree-requires c κs = search rules
 
-returns : tie.Need-returns
-returns c = sym (sized_degree _ _ _ (refused_by c.before.is-degree.ensures c.if1.true))
+returns : tie.Need-returns-then-not-is_degree
+returns c = sym (sized_degree _ _ _ (refused_by c.is_degree.ensures c.if-not-is_degree.true))
 
 -- the degree passes
-passes : (c : tie.Else1) → no_degree c.before.before.args.d ≡ false
-passes c = passed_by c.before.is-degree.ensures c.if1.false
+passes : (c : tie.Else-not-is_degree) → no_degree c.args.d ≡ false
+passes c = passed_by c.is_degree.ensures c.if-not-is_degree.false
 
-bound-of-requires : tie.Need-bound-of-requires
-bound-of-requires c κs = let i = degree_in _ (passes c) in (i.0, i.1, c.before.before.requires)
+bound-of-requires : tie.Need-bound_of-b-requires
+bound-of-requires c κs = let i = degree_in _ (passes c) in (i.0, i.1, c.requires)
 
-cast-t8 : tie.Need-overflow-cast-t8
+cast-t8 : tie.Need-overflow_cast-result
 cast-t8 c = search rules
 
-returns_2 : tie.Need-returns-2
+returns_2 : tie.Need-returns-then-room-b
 returns_2 c =
-    let b = c.before.bound_of.ensures.0 in
-    ap (refused 8) b ∙ sym (sized_short _ _ _ (passes c.before.before) (omega (arith, b, c.if2.true)))
+    let b = c.bound_of-b.ensures.0 in
+    ap (refused 8) b ∙ sym (sized_short _ _ _ (passes c.before.before) (omega (arith, b, c.if-room-b.true)))
 
-returns-3 : tie.Need-returns-3
+returns-3 : tie.Need-returns
 returns-3 c =
-    sym (sized_done _ _ _ (passes c.before.before) (omega (arith, c.before.bound_of.ensures.0, c.if2.false)))
+    sym (sized_done _ _ _ (passes c.before.before) (omega (arith, c.bound_of-b.ensures.0, c.if-room-b.false)))
 
 pub decide_spec : {M : Type 1} → statement M
 decide_spec =

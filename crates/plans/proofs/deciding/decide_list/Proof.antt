@@ -11,59 +11,59 @@ use Rattle.plans.proofs.deciding.decide_list.Statement.{statement}
 use Rattle.plans.proofs.deciding.decide_list.Tie as tie
 
 -- the places: the call, and after the check
-abbrev start : tie.After-check-order → tie.Start
+abbrev start : tie.After-check_order-checked → tie.Start
 start c = c.before.before.before.before.before.before.before
 
-abbrev checked : tie.After-slice-known4 → tie.After-check-order
+abbrev checked : tie.After-slice_known-4-1 → tie.After-check_order-checked
 checked c = c.before.before.before.before
 
 abbrev list_of : tie.Start → Runs
 list_of a = runs a.args.starts.now a.args.images.now
 
 -- the list is accepted
-accepted : (c : tie.After-enum-told) → let a = start (checked c.before.before) in
+accepted : (c : tie.In-Accepted) → let a = start (checked c.before.before) in
     check_of a.args.n (list_of a) ≡ done tt
-accepted c = sym (ap checked_says (sym c.enum_told.given.1) ∙ (checked c.before.before).check-order.ensures.says)
+accepted c = sym (ap checked_says (sym c.in-Accepted.is) ∙ c.check_order-checked.ensures.says)
 
-check-order-requires : tie.Need-check-order-requires
+check-order-requires : tie.Need-check_order-checked-requires
 check-order-requires c κs = search rules
 
-enum-known-checked : tie.Need-enum-known-checked
+enum-known-checked : tie.Need-enum_known-checked
 enum-known-checked c = search rules
 
-enum_told : tie.Need-enum-told
+enum_told : tie.Need-enum_told-1
 enum_told c = search rules
 
 decide-requires : tie.Need-decide-requires
 decide-requires c κs = (accepted_legal _ (list_of (start (checked c.before.before))) (accepted c)).1
 
-same_length : tie.Need-same-length
+same_length : tie.Need-shape_of-order-in-Refused
 same_length c = search rules
 
-same_length_2 : tie.Need-same-length-2
+same_length_2 : tie.Need-shape_of-spare-in-Refused
 same_length_2 c = search rules
 
-returns : tie.Need-returns
+returns : tie.Need-returns-in-Refused
 returns c =
     let g = checked c.before.before.before in
     record {
-      says = planned_refused _ (list_of (start g)) _ _ _ _ (ap checked_says (sym c.before.checked.given.1)
-          ∙ g.check-order.ensures.says);
-      ordered = λ e. g.check-order.ensures.ordered (planned_passed _ (list_of (start g)) _ _ e).0;
+      says = planned_refused _ (list_of (start g)) _ _ _ _ (ap checked_says (sym c.in-Refused.is)
+          ∙ g.check_order-checked.ensures.says);
+      ordered = λ e. g.check_order-checked.ensures.ordered (planned_passed _ (list_of (start g)) _ _ e).0;
     }
 
-same-length-3 : tie.Need-same-length-3
+same-length-3 : tie.Need-shape_of-order-in-Accepted
 same-length-3 c = search rules
 
-same-length-4 : tie.Need-same-length-4
+same-length-4 : tie.Need-shape_of-spare-in-Accepted
 same-length-4 c = search rules
 
-returns_2 : tie.Need-returns-2
+returns_2 : tie.Need-returns-in-Accepted
 returns_2 c =
     let g = checked c.before.before.before in
     record {
       says = c.decide.ensures ∙ sym (planned_accepted _ (list_of (start g)) _ _ (accepted c.before));
-      ordered = λ e. g.check-order.ensures.ordered (accepted c.before);
+      ordered = λ e. g.check_order-checked.ensures.ordered (accepted c.before);
     }
 
 pub decide_list_spec : {M : Type 1} → statement M

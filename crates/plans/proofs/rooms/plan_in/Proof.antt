@@ -13,67 +13,67 @@ use Rattle.plans.proofs.rooms.plan_in.Statement.{statement}
 use Rattle.plans.proofs.rooms.plan_in.Tie as tie
 
 -- the places: the call, and after the tests
-abbrev start : tie.After-decide-list → tie.Start
+abbrev start : tie.After-decide_list-decided → tie.Start
 start c = c.before.before.before.before.before.before.before.before
 
-abbrev decided : tie.After-slice-known5 → tie.After-decide-list
+abbrev decided : tie.After-slice_known-5-1 → tie.After-decide_list-decided
 decided c = c.before.before.before.before
 
 abbrev list_of : tie.Start → Runs
 list_of a = runs a.args.starts.now a.args.images.now
 
 -- the list passes the tests
-passed : (c : tie.After-enum-told) → let a = start (decided c.before.before) in
+passed : (c : tie.In-Accepted) → let a = start (decided c.before.before) in
     planned_of a.args.n (list_of a) a.args.low (length a.args.working.now) ≡ done tt
-passed c = sym (ap checked_says (sym c.enum_told.given.1) ∙ (decided c.before.before).decide-list.ensures.says)
+passed c = sym (ap checked_says (sym c.in-Accepted.is) ∙ c.decide_list-decided.ensures.says)
 
-decide-list-requires : tie.Need-decide-list-requires
+decide-list-requires : tie.Need-decide_list-decided-requires
 decide-list-requires c κs = search rules
 
-enum-known-decided : tie.Need-enum-known-decided
+enum-known-decided : tie.Need-enum_known-decided
 enum-known-decided c = search rules
 
-enum_told : tie.Need-enum-told
+enum_told : tie.Need-enum_told-1
 enum_told c = search rules
 
 seek-requires : tie.Need-seek-requires
 seek-requires c κs =
-    let e = c.before.before.before in
-    let g = decided e.before.before in
+    let e = c in
+    let g = decided e.before.before.before.before in
     let a = start g in
-    let few = (planned_list _ (list_of a) _ _ (passed e)).1 in
+    let few = (planned_list _ (list_of a) _ _ (passed e.before.before)).1 in
     record {
-      passed = passed e;
-      ordered = g.decide-list.ensures.ordered (passed e);
-      in_order = omega (arith, a.pre.in_order few, g.decide-list.kept.1.1.1.1.1.0);
-      in_spare = omega (arith, a.pre.in_spare few, g.decide-list.kept.1.1.1.1.1.1.0);
-      wide = omega (arith, a.pre.wide, g.decide-list.kept.1.1.1.1.1.1.0);
+      passed = passed e.before.before;
+      ordered = g.decide_list-decided.ensures.ordered (passed e.before.before);
+      in_order = omega (arith, a.requires.in_order few, g.decide_list-decided.auto.1.1.1.1.1.0);
+      in_spare = omega (arith, a.requires.in_spare few, g.decide_list-decided.auto.1.1.1.1.1.1.0);
+      wide = omega (arith, a.requires.wide, g.decide_list-decided.auto.1.1.1.1.1.1.0);
     }
 
-same_length : tie.Need-same-length
+same_length : tie.Need-shape_of-order-in-Refused
 same_length c = search rules
 
-same_length_2 : tie.Need-same-length-2
+same_length_2 : tie.Need-shape_of-spare-in-Refused
 same_length_2 c = search rules
 
-returns : tie.Need-returns
+returns : tie.Need-returns-in-Refused
 returns c =
     let g = decided c.before.before.before in
     let a = start g in
-    let e = sym (ap checked_says (sym c.before.decided.given.1) ∙ g.decide-list.ensures.says) in
+    let e = sym (ap checked_says (sym c.in-Refused.is) ∙ g.decide_list-decided.ensures.says) in
     (sought_refused _ (list_of a) _ _ _ _ _ e, sym (working_kept _ (list_of a) _ _ _ _ e))
 
-same-length-3 : tie.Need-same-length-3
+same-length-3 : tie.Need-shape_of-order-in-Accepted
 same-length-3 c = search rules
 
-same-length-4 : tie.Need-same-length-4
+same-length-4 : tie.Need-shape_of-spare-in-Accepted
 same-length-4 c = search rules
 
-same-length-5 : tie.Need-same-length-5
+same-length-5 : tie.Need-shape_of-working
 same-length-5 c = search rules
 
-returns_2 : tie.Need-returns-2
-returns_2 c = c.before.before.before.before.seek.ensures
+returns_2 : tie.Need-returns-in-Accepted
+returns_2 c = c.seek.ensures
 
 pub plan_in_spec : {M : Type 1} → statement M
 plan_in_spec =

@@ -7,43 +7,43 @@ use Rattle.plans.proofs.seeking.seek.Statement.{statement}
 use Rattle.plans.proofs.seeking.seek.Tie as tie
 
 -- the places: the call that a first degree belongs to, and that degree, from after it
-abbrev start : tie.After-first-open → tie.Start
+abbrev start : tie.After-first_open-first → tie.Start
 start c = c.before.before.before.before.before.before.before
 
-abbrev opened : tie.After-slice-known3 → tie.After-first-open
+abbrev opened : tie.After-slice_known-3-1 → tie.After-first_open-first
 opened c = c.before.before
 
 abbrev list_of : tie.Start → Runs
 list_of a = runs a.args.starts.now a.args.images.now
 
-first-open-requires : tie.Need-first-open-requires
+first-open-requires : tie.Need-first_open-first-requires
 first-open-requires c κs =
-    let a = c.before.before.before.before.before.before in
-    seeking_boundable _ (list_of a) a.args.entries _ _ _ _ a.requires
+    let a = c in
+    seeking_boundable _ (list_of a.before.before.before.before.before.before) a.args.entries _ _ _ _ a.requires
 
-sweep-from-requires : tie.Need-sweep-from-requires
+sweep-from-requires : tie.Need-sweep_from-requires
 sweep-from-requires c κs =
     let f = opened c.before.before in
     let a = start f in
-    let k = f.first-open.kept.1.1.1.1.1.1.0 in (
+    let k = f.first_open-first.auto.1.1.1.1.1.1.0 in (
       record {
-        passed = a.pre.passed;
-        ordered = a.pre.ordered;
-        in_order = a.pre.in_order;
-        in_spare = omega (arith, a.pre.in_spare, k);
-        wide = omega (arith, a.pre.wide, k);
+        passed = a.requires.passed;
+        ordered = a.requires.ordered;
+        in_order = a.requires.in_order;
+        in_spare = omega (arith, a.requires.in_spare, k);
+        wide = omega (arith, a.requires.wide, k);
       },
-      f.first-open.ensures,
+      f.first_open-first.ensures,
     )
 
-same_length : tie.Need-same-length
+same_length : tie.Need-shape_of-spare
 same_length c = search rules
 
-same_length_2 : tie.Need-same-length-2
+same_length_2 : tie.Need-shape_of-working
 same_length_2 c = search rules
 
 returns : tie.Need-returns
-returns c = c.before.before.before.before.sweep-from.ensures
+returns c = c.sweep_from.ensures
 
 pub seek_spec : {M : Type 1} → statement M
 seek_spec =

@@ -5,27 +5,27 @@ use borrow.Author.Rules.{rules}
 use Rattle.questions.proofs.judging.go_on.Statement.{statement}
 use Rattle.questions.proofs.judging.go_on.Tie as tie
 
-is-unfindable-requires : tie.Need-is-unfindable-requires
+is-unfindable-requires : tie.Need-is_unfindable-requires
 is-unfindable-requires c κs = search rules
 
-returns : tie.Need-returns
+returns : tie.Need-returns-then-is_unfindable
 returns c =
-    let e = c.before in
-    gone_outside _ _ _ _ c.before.before.before.before.before.requires (sym e.is-unfindable.ensures ∙ c.if1.true)
+    let e = c in
+    gone_outside _ _ _ _ c.requires (sym e.is_unfindable.ensures ∙ c.if-is_unfindable.true)
 
-find-near-requires : tie.Need-find-near-requires
+find-near-requires : tie.Need-find_near-x-requires
 find-near-requires c κs = search rules
 
 stand-requires : tie.Need-stand-requires
 stand-requires c κs =
-    let e = c.before in
-    on_located _ _ _ _ c.before.before.before.before.before.before.requires (sym e.before.is-unfindable.ensures ∙ e.if1.false) _ c.find-near.ensures
+    let e = c in
+    on_located _ _ _ _ c.requires (sym e.is_unfindable.ensures ∙ e.if-is_unfindable.false) _ c.find_near-x.ensures
 
-returns_2 : tie.Need-returns-2
+returns_2 : tie.Need-returns
 returns_2 c =
-    let d = c.before in
-    let e = d.before in
-    gone_found _ _ _ _ c.before.before.before.before.before.before.before.requires (sym e.before.is-unfindable.ensures ∙ e.if1.false) _ d.find-near.ensures _ c.stand.ensures
+    let d = c in
+    let e = d in
+    gone_found _ _ _ _ c.requires (sym e.is_unfindable.ensures ∙ e.if-is_unfindable.false) _ d.find_near-x.ensures _ c.stand.ensures
 
 pub go_on_spec : {M : Type 1} → statement M
 go_on_spec =

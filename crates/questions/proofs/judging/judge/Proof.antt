@@ -10,32 +10,32 @@ use Rattle.questions.proofs.judging.judge.Tie as tie
 fall-requires : tie.Need-fall-requires
 fall-requires c κs = search rules
 
-returns : tie.Need-returns
+returns : tie.Need-returns-then-q-s
 returns c = judge_falls _ _ _ _ _ (omega arith) _ c.fall.ensures
 
-is-clear-requires : tie.Need-is-clear-requires
+is-clear-requires : tie.Need-is_clear-requires
 is-clear-requires c κs = search rules
 
-go-on-requires : tie.Need-go-on-requires
+go-on-requires : tie.Need-go_on-requires
 go-on-requires c κs =
-    let s = c.before.before.before.before.before.before.before.before in
-    clear_findable _ s.args.s.standing _ _ (sym c.before.is-clear.ensures ∙ c.if2.true) (s.requires s.args.q.place (omega arith))
+    let s = c in
+    clear_findable _ s.args.s.standing _ _ (sym c.is_clear.ensures ∙ c.if-is_clear.true) (s.requires s.args.q.place (omega arith))
 
-returns_2 : tie.Need-returns-2
+returns_2 : tie.Need-returns-then-is_clear
 returns_2 c =
-    let e = c.before in
-    judge_goes _ _ _ _ _ (omega arith) (sym e.before.is-clear.ensures ∙ e.if2.true) _ c.go_on.ensures
+    let e = c in
+    judge_goes _ _ _ _ _ (omega arith) (sym e.is_clear.ensures ∙ e.if-is_clear.true) _ c.go_on.ensures
 
 stay-requires : tie.Need-stay-requires
 stay-requires c κs =
-    let s = c.before.before.before.before.before.before.before.before in
+    let s = c in
     let k = links s.args.starts.now s.args.images.now s.args.holders.now in
     staying k s.args.s.standing s.args.s.interval s.args.q.place (s.requires s.args.q.place (omega arith))
 
-returns-3 : tie.Need-returns-3
+returns-3 : tie.Need-returns
 returns-3 c =
-    let e = c.before in
-    judge_stays _ _ _ _ _ (omega arith) (sym e.before.is-clear.ensures ∙ e.if2.false) _ c.stay.ensures
+    let e = c in
+    judge_stays _ _ _ _ _ (omega arith) (sym e.is_clear.ensures ∙ e.if-is_clear.false) _ c.stay.ensures
 
 pub judge_spec : {M : Type 1} → statement M
 judge_spec =

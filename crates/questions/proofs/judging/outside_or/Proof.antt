@@ -5,52 +5,52 @@ use borrow.Author.Rules.{rules}
 use Rattle.questions.proofs.judging.outside_or.Statement.{statement}
 use Rattle.questions.proofs.judging.outside_or.Tie as tie
 
-enum_told : tie.Need-enum-told
+enum_told : tie.Need-enum_told-1
 enum_told c = search rules
 
-enum-told-2 : tie.Need-enum-told-2
+enum-told-2 : tie.Need-enum_told-in-Mismeasured
 enum-told-2 c = search rules
 
-enum-told-3 : tie.Need-enum-told-3
+enum-told-3 : tie.Need-enum_told-in-Fallen
 enum-told-3 c = search rules
 
-enum-told-4 : tie.Need-enum-told-4
+enum-told-4 : tie.Need-enum_told-in-Outside
 enum-told-4 c = search rules
 
-enum-told-5 : tie.Need-enum-told-5
+enum-told-5 : tie.Need-enum_told-in-Clear
 enum-told-5 c = search rules
 
-enum-told-6 : tie.Need-enum-told-6
+enum-told-6 : tie.Need-enum_told-in-Broken
 enum-told-6 c = search rules
 
-is-unfindable-requires : tie.Need-is-unfindable-requires
+is-unfindable-requires : tie.Need-is_unfindable-requires
 is-unfindable-requires c κs =
-    broken_some _ _ c.enum-told6.given.1 c.before.before.before.requires
+    broken_some _ _ c.in-Broken.is c.requires
 
-returns : tie.Need-returns
+returns : tie.Need-returns-then-is_unfindable
 returns c =
-    let e = c.before in
-    broken_outside _ _ _ _ e.before.enum-told6.given.1 (sym e.is-unfindable.ensures ∙ c.if1.true)
+    let e = c in
+    broken_outside _ _ _ _ e.in-Broken.is (sym e.is_unfindable.ensures ∙ c.if-is_unfindable.true)
 
-returns_2 : tie.Need-returns-2
+returns_2 : tie.Need-returns-in-Misshapen
 returns_2 c = search rules
 
-returns-3 : tie.Need-returns-3
+returns-3 : tie.Need-returns-in-Mismeasured
 returns-3 c = search rules
 
-returns-4 : tie.Need-returns-4
+returns-4 : tie.Need-returns-in-Fallen
 returns-4 c = search rules
 
-returns-5 : tie.Need-returns-5
+returns-5 : tie.Need-returns-in-Outside
 returns-5 c = search rules
 
-returns-6 : tie.Need-returns-6
+returns-6 : tie.Need-returns-in-Clear
 returns-6 c = search rules
 
-returns-7 : tie.Need-returns-7
+returns-7 : tie.Need-returns-else-is_unfindable
 returns-7 c =
-    let e = c.before in
-    broken_stays _ _ _ _ e.before.enum-told6.given.1 (sym e.is-unfindable.ensures ∙ c.if1.false)
+    let e = c in
+    broken_stays _ _ _ _ e.in-Broken.is (sym e.is_unfindable.ensures ∙ c.if-is_unfindable.false)
 
 pub outside_or_spec : {M : Type 1} → statement M
 outside_or_spec =
