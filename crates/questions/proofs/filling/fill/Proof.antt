@@ -16,7 +16,7 @@ enum-told-3 c = search rules
 reach-from-requires : tie.Need-reach_from-y-requires
 reach-from-requires c κs =
     let s = c in
-    let f = passed_placed _ _ _ _ _ c.in-Passed.is s.requires in
+    let f = passed_placed _ c.args.q _ _ _ c.in-Passed.is s.requires in
     (f.pass.index, f.move.few)
 
 ask-requires : tie.Need-ask-requires
@@ -24,7 +24,7 @@ ask-requires c κs =
     let e = c in
     let s = e in
     let g = e.in-Passed.is in
-    placed_move _ _ _ (passed_placed _ _ _ _ _ g s.requires) _ c.reach_from-y.ensures
+    placed_move _ _ _ (passed_placed _ c.args.q _ _ _ g s.requires) _ c.reach_from-y.ensures
 
 returns : tie.Need-returns-in-PlaceOrder
 returns c = rw c.in-PlaceOrder.is
@@ -38,7 +38,7 @@ returns-3 c =
     let e = d in
     let s = e in
     let g = e.in-Passed.is in
-    fill_asked _ _ _ _ _ g (passed_placed _ _ _ _ _ g s.requires) _ d.reach_from-y.ensures _ c.ask.ensures
+    fill_asked _ c.args.q _ _ _ g (passed_placed _ c.args.q _ _ _ g s.requires) _ d.reach_from-y.ensures _ c.ask.ensures
 
 pub fill_spec : {M : Type 1} → statement M
 fill_spec =
