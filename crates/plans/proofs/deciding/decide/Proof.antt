@@ -12,11 +12,11 @@ use Rattle.plans.proofs.deciding.decide.Statement.{statement}
 use Rattle.plans.proofs.deciding.decide.Tie as tie
 
 -- what a test on an answer of `is_degree` says of the degree
-refused_by : {d r : Bool} → r ≡ not d → not r ≡ true → d ≡ true
-refused_by {d} {r} e f = not-false d (sym e ∙ not-true r f)
+refused_by : {d r : Bool} → r ≡ not d → r ≡ false → d ≡ true
+refused_by {d} {r} e f = not-false d (sym e ∙ f)
 
-passed_by : {d r : Bool} → r ≡ not d → not r ≡ false → d ≡ false
-passed_by {d} {r} e f = not-true d (sym e ∙ not-false r f)
+passed_by : {d r : Bool} → r ≡ not d → r ≡ true → d ≡ false
+passed_by {d} {r} e f = not-true d (sym e ∙ f)
 
 is-degree-requires : tie.Need-is_degree-requires
 is-degree-requires c κs = search rules

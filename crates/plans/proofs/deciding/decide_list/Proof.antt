@@ -21,8 +21,7 @@ abbrev list_of : tie.Start → Runs
 list_of a = runs a.args.starts.now a.args.images.now
 
 -- the list is accepted
-accepted : (c : tie.In-Accepted) → let a = start (checked c.before.before) in
-    check_of a.args.n (list_of a) ≡ done tt
+accepted : (c : tie.In-Accepted) → check_of c.args.n (runs c.args.starts.now c.args.images.now) ≡ done tt
 accepted c = sym (ap checked_says (sym c.in-Accepted.is) ∙ c.check_order-checked.ensures.says)
 
 check-order-requires : tie.Need-check_order-checked-requires
@@ -35,7 +34,7 @@ enum_told : tie.Need-enum_told-1
 enum_told c = search rules
 
 decide-requires : tie.Need-decide-requires
-decide-requires c κs = (accepted_legal _ (list_of (start (checked c.before.before))) (accepted c)).1
+decide-requires c κs = (accepted_legal _ (runs c.args.starts.now c.args.images.now) (accepted c)).1
 
 same_length : tie.Need-shape_of-order-in-Refused
 same_length c = search rules
@@ -45,11 +44,10 @@ same_length_2 c = search rules
 
 returns : tie.Need-returns-in-Refused
 returns c =
-    let g = checked c.before.before.before in
     record {
-      says = planned_refused _ (list_of (start g)) _ _ _ _ (ap checked_says (sym c.in-Refused.is)
-          ∙ g.check_order-checked.ensures.says);
-      ordered = λ e. g.check_order-checked.ensures.ordered (planned_passed _ (list_of (start g)) _ _ e).0;
+      says = planned_refused _ (runs c.args.starts.now c.args.images.now) _ _ _ _ (ap checked_says (sym c.in-Refused.is)
+          ∙ c.check_order-checked.ensures.says);
+      ordered = λ e. c.check_order-checked.ensures.ordered (planned_passed _ (runs c.args.starts.now c.args.images.now) _ _ e).0;
     }
 
 same-length-3 : tie.Need-shape_of-order-in-Accepted
@@ -60,10 +58,9 @@ same-length-4 c = search rules
 
 returns_2 : tie.Need-returns-in-Accepted
 returns_2 c =
-    let g = checked c.before.before.before in
     record {
-      says = c.decide.ensures ∙ sym (planned_accepted _ (list_of (start g)) _ _ (accepted c.before));
-      ordered = λ e. g.check_order-checked.ensures.ordered (accepted c.before);
+      says = c.decide.ensures ∙ sym (planned_accepted _ (runs c.args.starts.now c.args.images.now) _ _ (accepted c.before));
+      ordered = λ e. c.check_order-checked.ensures.ordered (accepted c.before);
     }
 
 pub decide_list_spec : {M : Type 1} → statement M

@@ -23,8 +23,7 @@ abbrev list_of : tie.Start → Runs
 list_of a = runs a.args.starts.now a.args.images.now
 
 -- the list passes the tests
-passed : (c : tie.In-Accepted) → let a = start (decided c.before.before) in
-    planned_of a.args.n (list_of a) a.args.low (length a.args.working.now) ≡ done tt
+passed : (c : tie.In-Accepted) → planned_of c.args.n (runs c.args.starts.now c.args.images.now) c.args.low (length c.args.working.now) ≡ done tt
 passed c = sym (ap checked_says (sym c.in-Accepted.is) ∙ c.decide_list-decided.ensures.says)
 
 decide-list-requires : tie.Need-decide_list-decided-requires
@@ -39,15 +38,14 @@ enum_told c = search rules
 seek-requires : tie.Need-seek-requires
 seek-requires c κs =
     let e = c in
-    let g = decided e.before.before.before.before in
-    let a = start g in
-    let few = (planned_list _ (list_of a) _ _ (passed e.before.before)).1 in
+    let a = c in
+    let few = (planned_list _ (runs c.args.starts.now c.args.images.now) _ _ (passed e.before.before)).1 in
     record {
       passed = passed e.before.before;
-      ordered = g.decide_list-decided.ensures.ordered (passed e.before.before);
-      in_order = omega (arith, a.requires.in_order few, g.decide_list-decided.auto.1.1.1.1.1.0);
-      in_spare = omega (arith, a.requires.in_spare few, g.decide_list-decided.auto.1.1.1.1.1.1.0);
-      wide = omega (arith, a.requires.wide, g.decide_list-decided.auto.1.1.1.1.1.1.0);
+      ordered = c.decide_list-decided.ensures.ordered (passed e.before.before);
+      in_order = omega (arith, a.requires.in_order few, c.decide_list-decided.auto.order);
+      in_spare = omega (arith, a.requires.in_spare few, c.decide_list-decided.auto.spare);
+      wide = omega (arith, a.requires.wide, c.decide_list-decided.auto.spare);
     }
 
 same_length : tie.Need-shape_of-order-in-Refused
@@ -58,10 +56,9 @@ same_length_2 c = search rules
 
 returns : tie.Need-returns-in-Refused
 returns c =
-    let g = decided c.before.before.before in
-    let a = start g in
-    let e = sym (ap checked_says (sym c.in-Refused.is) ∙ g.decide_list-decided.ensures.says) in
-    (sought_refused _ (list_of a) _ _ _ _ _ e, sym (working_kept _ (list_of a) _ _ _ _ e))
+    let a = c in
+    let e = sym (ap checked_says (sym c.in-Refused.is) ∙ c.decide_list-decided.ensures.says) in
+    (sought_refused _ (runs c.args.starts.now c.args.images.now) _ _ _ _ _ e, sym (working_kept _ (runs c.args.starts.now c.args.images.now) _ _ _ _ e))
 
 same-length-3 : tie.Need-shape_of-order-in-Accepted
 same-length-3 c = search rules

@@ -25,7 +25,7 @@ sweep-from-requires : tie.Need-sweep_from-requires
 sweep-from-requires c κs =
     let f = opened c.before.before in
     let a = start f in
-    let k = f.first_open-first.auto.1.1.1.1.1.1.0 in (
+    let k = f.first_open-first.auto.spare in (
       record {
         passed = a.requires.passed;
         ordered = a.requires.ordered;

@@ -87,8 +87,8 @@ loop-again c =
     let l = t.loop-d in
     let a = start t.before.before in (
       seeking_next _ (list_of a) _ _ _ _ _ a.requires.0 _ _ l.invariant.0 (high t) _ _ s.find_cuts-cuts.ensures
-          s.find_cuts-cuts.auto.1.1.1.1.1.1.0 c.if-starts-cuts.false,
-      s.find_cuts-cuts.auto.working ∙ l.invariant.1,
+          s.find_cuts-cuts.auto.working c.if-starts-cuts.false,
+      s.find_cuts-cuts.auto.ranked ∙ l.invariant.1,
       omega (arith, t.loop-d-test.true),
     )
 
