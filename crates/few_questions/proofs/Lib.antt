@@ -1,1 +1,1 @@
-mod Eight
+

@@ -13,102 +13,102 @@ use Rattle.balance.proofs.balance.Statement.{statement}
 use Rattle.balance.proofs.balance.Tie as tie
 
 -- the places: the call, after its plan, with the cuts known, after the tables are filled, and after the working table is cleared
-abbrev start : tie.After-plan → tie.Start
+abbrev start : tie.After-plan-planned → tie.Start
 start c = c.before.before.before.before.before.before.before.before.before
 
-abbrev planned : tie.After-slice-known6 → tie.After-plan
+abbrev planned : tie.After-slice_known-6-1 → tie.After-plan-planned
 planned c = c.before.before
 
-abbrev plan-of : tie.After-known-told2 → tie.After-plan
-plan-of c = planned c.before.before.before
+abbrev plan-of : tie.In-Cuts → tie.After-plan-planned
+plan-of c = c.before.before.before
 
-abbrev filled : tie.After-slice-known10 → tie.After-fill-tables
+abbrev filled : tie.After-slice_known-in-Cuts-4-1 → tie.After-fill_tables-answer
 filled c = c.before.before.before.before.before.before.before.before
 
-abbrev cut : tie.After-fill-tables → tie.After-known-told2
-cut c = c.before.before.before.before.before.before
+abbrev cut : tie.After-fill_tables-answer → tie.In-Cuts
+cut c = c.before.before.before.before.before
 
 abbrev list_of : tie.Start → Runs
 list_of a = runs a.args.starts.now a.args.images.now
 
 abbrev lent_of : tie.Start → Lent
 lent_of a =
-    lent a.args.to-starts.now a.args.to-images.now a.args.to-holders.now a.args.to-lengths.now
+    lent a.args.to_starts.now a.args.to_images.now a.args.to_holders.now a.args.to_lengths.now
     a.args.working.now
 
 -- what a plan promises, where it is known which
-promised : (c : tie.After-plan) (p : Planned) → c.plan.result ≡ p → let a = start c in
-    Plans a.args.n (list_of a) no_limit a.args.d a.args.working.now c.plan.new.1.1.1.1.1.0 p
+promised : (c : tie.After-plan-planned) (p : Planned) → c.plan-planned.result ≡ p → let a = start c in
+    Plans a.args.n (list_of a) no_limit a.args.d a.args.working.now c.plan-planned.new.working p
 promised c p e = let a = start c in
     subst (λ (q : Planned). Plans a.args.n (list_of a) no_limit a.args.d a.args.working.now
-    c.plan.new.1.1.1.1.1.0 q) e c.plan.ensures
+    c.plan-planned.new.working q) e c.plan-planned.ensures
 
-plan-requires : tie.Need-plan-requires
+plan-requires : tie.Need-plan-planned-requires
 plan-requires c κs = search rules
 
-enum-known-planned : tie.Need-enum-known-planned
+enum-known-planned : tie.Need-enum_known-planned
 enum-known-planned c = search rules
 
-enum-known-planned-2 : tie.Need-enum-known-planned-2
+enum-known-planned-2 : tie.Need-enum_known-planned-in-Cuts-1
 enum-known-planned-2 c = search rules
 
 -- the cuts that were found
-found : (c : tie.After-known-told2) → let a = start (plan-of c) in
-    CutsFound a.args.n (list_of a) no_limit a.args.d a.args.working.now (plan-of c).plan.new.1.1.1.1.1.0
-    c.before.planned2.given.0.0
-found c = promised (plan-of c) _ c.before.planned2.given.1
+found : (c : tie.In-Cuts) → let a = start (plan-of c) in
+    CutsFound a.args.n (list_of a) no_limit a.args.d a.args.working.now c.plan-planned.new.working
+    c.in-Cuts.plan
+found c = promised (plan-of c) _ c.in-Cuts.is
 
-slice-reshare-prefix-fill-tables : tie.Need-slice-reshare-prefix-fill-tables
-slice-reshare-prefix-fill-tables c = (found c).cuts.ranges
+slice-reshare-prefix-fill-tables : tie.Need-slice_bounds-fill_tables-end
+slice-reshare-prefix-fill-tables c = (found c).cuts.fits
 
-slice-aggregate-fill-tables : tie.Need-slice-aggregate-fill-tables
+slice-aggregate-fill-tables : tie.Need-slice_bounds-fill_tables-end-in-Cuts
 slice-aggregate-fill-tables c =
-    sym (length-take-le c.before.before.planned2.given.0.0.cuts _ (found c.before).cuts.fits)
+    sym (length-take-le c.in-Cuts.plan.cuts _ (found c).cuts.fits)
 
-fill-tables-requires : tie.Need-fill-tables-requires
+fill-tables-requires : tie.Need-fill_tables-answer-requires
 fill-tables-requires c κs =
-    let k = c.before.before.before.before.before in
-    let a = start (plan-of k) in
-    plan_fillable _ (list_of a) _ (lent_of a) _ _ (found k)
+    let k = c in
+    let a = start (plan-of k.before.before.before.before) in
+    plan_fillable _ (list_of a) _ (lent_of a) _ _ (found k.before.before.before.before)
 
 clear-requires : tie.Need-clear-requires
 clear-requires c κs =
     let k = cut (filled c.before) in
     let g = plan-of k in
     let a = start g in
-    clearable _ (list_of a) _ _ (found_planned _ (list_of a) _ _ _ _ (found k)) _ g.plan.kept.1.1.1.1.1.0
+    clearable _ (list_of a) _ _ (found_planned _ (list_of a) _ _ _ _ (found k)) _ g.plan-planned.auto.working
 
-same_length : tie.Need-same-length
+same_length : tie.Need-shape_of-working-in-Refused
 same_length c = search rules
 
-returns : tie.Need-returns
+returns : tie.Need-returns-in-Refused
 returns c =
-    let g = planned c.before.before.before in
-    let p = promised g _ c.before.planned.given.1 in
+    let g = planned c.before in
+    let p = promised g _ c.in-Refused.is in
     plan_refused _ (list_of (start g)) _ (lent_of (start g)) _ _ p.0 p.1
 
-same_length_2 : tie.Need-same-length-2
+same_length_2 : tie.Need-shape_of-to_starts
 same_length_2 c = search rules
 
-same-length-3 : tie.Need-same-length-3
+same-length-3 : tie.Need-shape_of-to_images
 same-length-3 c = search rules
 
-same-length-4 : tie.Need-same-length-4
+same-length-4 : tie.Need-shape_of-to_holders
 same-length-4 c = search rules
 
-same-length-5 : tie.Need-same-length-5
+same-length-5 : tie.Need-shape_of-to_lengths
 same-length-5 c = search rules
 
-same-length-6 : tie.Need-same-length-6
+same-length-6 : tie.Need-shape_of-working-in-Cuts
 same-length-6 c = search rules
 
-returns_2 : tie.Need-returns-2
+returns_2 : tie.Need-returns-in-Cuts
 returns_2 c =
-    let w = c.before.before in
-    let f = filled w.before.before in
+    let w = c in
+    let f = filled w.before.before.before.before in
     let k = cut f in
     let a = start (plan-of k) in
-    plan_filled _ (list_of a) _ (lent_of a) _ _ (found k) _ _ _ f.fill-tables.ensures w.clear.ensures
+    plan_filled _ (list_of a) _ (lent_of a) _ _ (found k) _ _ _ f.fill_tables-answer.ensures w.clear.ensures
 
 pub balance_spec : {M : Type 1} → statement M
 balance_spec =

@@ -19,64 +19,64 @@ abbrev list_of : tie.Start → Runs
 list_of a = runs a.args.starts.now a.args.images.now
 
 abbrev tables-of : tie.Start → Tables
-tables-of a = tables a.args.to-starts.now a.args.to-images.now a.args.to-holders.now a.args.to-lengths.now
+tables-of a = tables a.args.to_starts.now a.args.to_images.now a.args.to_holders.now a.args.to_lengths.now
 
 -- the places: the call that a test belongs to, and a test that is passed, from after the tables are written
-abbrev start : tie.After-is-short → tie.Start
+abbrev start : tie.After-is_short → tie.Start
 start c = c.before.before.before.before.before.before.before.before
 
-abbrev passed : tie.After-write-tables-arg4 → tie.Else1
+abbrev passed : tie.After-write_tables-arg-4-1 → tie.Else-is_short
 passed c = c.before.before.before.before
 
-abbrev written : tie.After-slice-known8 → tie.After-write-tables
+abbrev written : tie.After-slice_known-8-1 → tie.After-write_tables
 written c = c.before.before.before.before.before.before.before.before
 
 -- what the test says of the tables
-long : (c : tie.Else1) → let a = start c.before in
+long : (c : tie.Else-is_short) → let a = start c.before in
     any_short (length a.args.starts.now + length a.args.cuts.now) (all_columns (tables-of a)) ≡ false
-long c = sym c.before.is-short.ensures ∙ c.if1.false
+long c = sym c.is_short.ensures ∙ c.if-is_short.false
 
-add-size : tie.Need-overflow-add-size
+add-size : tie.Need-overflow_add-size
 add-size c = search rules
 
-is-short-requires : tie.Need-is-short-requires
+is-short-requires : tie.Need-is_short-requires
 is-short-requires c κs = search rules
 
-cast-t16 : tie.Need-overflow-cast-t16
+cast-t16 : tie.Need-overflow_cast-result
 cast-t16 c = search rules
 
-returns : tie.Need-returns
+returns : tie.Need-returns-then-is_short
 returns c =
     let a = start c.before in
-    fills_short _ _ (tables-of a) (sym c.before.is-short.ensures ∙ c.if1.true)
+    fills_short _ _ (tables-of a) (sym c.is_short.ensures ∙ c.if-is_short.true)
 
-write-tables-requires : tie.Need-write-tables-requires
+write-tables-requires : tie.Need-write_tables-requires
 write-tables-requires c κs =
     let e = passed c in
     let a = start e.before in
-    (a.pre.legal, a.pre.starts, none_below _ (map length (all_columns (tables-of a))) (long e))
+    (a.requires.legal, a.requires.starts, none_below _ (map length (all_columns (tables-of a))) (long e))
 
-cast-t27 : tie.Need-overflow-cast-t27
+cast-t27 : tie.Need-overflow_cast-result-2
 cast-t27 c = search rules
 
-same_length : tie.Need-same-length
+same_length : tie.Need-shape_of-to_starts
 same_length c = search rules
 
-same_length_2 : tie.Need-same-length-2
+same_length_2 : tie.Need-shape_of-to_images
 same_length_2 c = search rules
 
-same-length-3 : tie.Need-same-length-3
+same-length-3 : tie.Need-shape_of-to_holders
 same-length-3 c = search rules
 
-same-length-4 : tie.Need-same-length-4
+same-length-4 : tie.Need-shape_of-to_lengths
 same-length-4 c = search rules
 
-returns_2 : tie.Need-returns-2
+returns_2 : tie.Need-returns
 returns_2 c =
     let w = written c in
     let e = passed w.before in
     let a = start e.before in
-    fills_done _ _ (tables-of a) (long e) _ w.write-tables.ensures
+    fills_done _ _ (tables-of a) (long e) _ w.write_tables.ensures
     (omega (arith, merged_length a.args.starts.now a.args.cuts.now))
 
 pub fill_tables_spec : {M : Type 1} → statement M

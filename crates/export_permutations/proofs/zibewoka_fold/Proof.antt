@@ -8,20 +8,20 @@ use Rattle.export_permutations.proofs.zibewoka_fold.Tie as tie
 fold-requires : tie.Need-fold-requires
 fold-requires c κs = search rules
 
-of-written-requires : tie.Need-of-written-requires
+of-written-requires : tie.Need-of_written-requires
 of-written-requires c κs = search rules
 
-same_length : tie.Need-same-length
+same_length : tie.Need-shape_of-to_starts
 same_length c = search rules
 
-same_length_2 : tie.Need-same-length-2
+same_length_2 : tie.Need-shape_of-to_images
 same_length_2 c = search rules
 
 returns : tie.Need-returns
 returns c =
-    let l = c.before.before.before.before.before.fold.ensures in
+    let l = c.fold.ensures in
     record {
-      says = c.of-written.ensures ∙ ap runs_answer l.says;
+      says = c.of_written.ensures ∙ ap runs_answer l.says;
       starts_at_exit = l.starts_at_exit;
       images_at_exit = l.images_at_exit;
     }

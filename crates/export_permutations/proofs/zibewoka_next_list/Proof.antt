@@ -5,23 +5,23 @@ use Rattle.export_permutations.specs.Answers.{next_answer}
 use Rattle.export_permutations.proofs.zibewoka_next_list.Statement.{statement}
 use Rattle.export_permutations.proofs.zibewoka_next_list.Tie as tie
 
-next-list-requires : tie.Need-next-list-requires
+next-list-requires : tie.Need-next_list-requires
 next-list-requires c κs = search rules
 
-of-next-requires : tie.Need-of-next-requires
+of-next-requires : tie.Need-of_next-requires
 of-next-requires c κs = search rules
 
-same_length : tie.Need-same-length
+same_length : tie.Need-shape_of-to_starts
 same_length c = search rules
 
-same_length_2 : tie.Need-same-length-2
+same_length_2 : tie.Need-shape_of-to_images
 same_length_2 c = search rules
 
 returns : tie.Need-returns
 returns c =
-    let l = c.before.before.before.before.before.next_list.ensures in
+    let l = c.next_list.ensures in
     record {
-      says = c.of-next.ensures ∙ ap next_answer l.says;
+      says = c.of_next.ensures ∙ ap next_answer l.says;
       starts_at_exit = l.starts_at_exit;
       images_at_exit = l.images_at_exit;
     }

@@ -9,20 +9,20 @@ use Rattle.few_questions.proofs.answer_few.Tie as tie
 lend-requires : tie.Need-lend-requires
 lend-requires c κs = omega arith
 
-returns : tie.Need-returns
+returns : tie.Need-returns-then-count-gt8
 returns c =
-    let k = c.before.before.before.before.before.before.args.count in
+    let k = c.args.count in
     let e : min k 8 ≡ 8 = min-eq_right (omega arith) in
     rw e c.lend.ensures
 
 lend-requires-2 : tie.Need-lend-requires-2
 lend-requires-2 c κs = omega arith
 
-returns_2 : tie.Need-returns-2
+returns_2 : tie.Need-returns
 returns_2 c =
-    let k = c.before.before.before.before.before.before.args.count in
+    let k = c.args.count in
     let e : min k 8 ≡ k = min-eq_left (omega arith) in
-    rw e c.lend2.ensures
+    rw e c.lend-2.ensures
 
 pub answer_few_spec : {M : Type 1} → statement M
 answer_few_spec = tie.close (tie.spec lend-requires returns lend-requires-2 returns_2)

@@ -14,78 +14,78 @@ use Rattle.forecasts.proofs.forecast.Statement.{statement}
 use Rattle.forecasts.proofs.forecast.Tie as tie
 
 -- the places: the call, after its plan, with the cuts known
-abbrev start : tie.After-plan → tie.Start
+abbrev start : tie.After-plan-planned → tie.Start
 start c = c.before.before.before.before.before
 
-abbrev planned : tie.After-slice-known2 → tie.After-plan
+abbrev planned : tie.After-slice_known-2-1 → tie.After-plan-planned
 planned c = c.before.before
 
-abbrev plan-of : tie.After-known-told2 → tie.After-plan
-plan-of c = planned c.before.before.before
+abbrev plan-of : tie.In-Cuts → tie.After-plan-planned
+plan-of c = c.before.before.before
 
 abbrev list_of : tie.Start → Runs
 list_of a = runs a.args.starts.now a.args.images.now
 
 -- what a plan promises, where it is known which
-promised : (c : tie.After-plan) (p : Planned) → c.plan.result ≡ p → let a = start c in
-    Plans a.args.n (list_of a) no_limit a.args.d a.args.working.now c.plan.new.1.1.1.1.1.0 p
+promised : (c : tie.After-plan-planned) (p : Planned) → c.plan-planned.result ≡ p → let a = start c in
+    Plans a.args.n (list_of a) no_limit a.args.d a.args.working.now c.plan-planned.new.working p
 promised c p e = let a = start c in
     subst (λ (q : Planned). Plans a.args.n (list_of a) no_limit a.args.d a.args.working.now
-    c.plan.new.1.1.1.1.1.0 q) e c.plan.ensures
+    c.plan-planned.new.working q) e c.plan-planned.ensures
 
 -- the cuts that were found
-found : (c : tie.After-known-told2) → let a = start (plan-of c) in
-    CutsFound a.args.n (list_of a) no_limit a.args.d a.args.working.now (plan-of c).plan.new.1.1.1.1.1.0
-    c.before.planned2.given.0.0
-found c = promised (plan-of c) _ c.before.planned2.given.1
+found : (c : tie.In-Cuts) → let a = start (plan-of c) in
+    CutsFound a.args.n (list_of a) no_limit a.args.d a.args.working.now c.plan-planned.new.working
+    c.in-Cuts.plan
+found c = promised (plan-of c) _ c.in-Cuts.is
 
-plan-requires : tie.Need-plan-requires
+plan-requires : tie.Need-plan-planned-requires
 plan-requires c κs = search rules
 
-enum-known-planned : tie.Need-enum-known-planned
+enum-known-planned : tie.Need-enum_known-planned
 enum-known-planned c = search rules
 
-enum-known-planned-2 : tie.Need-enum-known-planned-2
+enum-known-planned-2 : tie.Need-enum_known-planned-in-Cuts-1
 enum-known-planned-2 c = search rules
 
 clear-requires : tie.Need-clear-requires
 clear-requires c κs =
-    let k = c.before in
-    let g = plan-of k in
+    let k = c in
+    let g = plan-of k.before in
     let a = start g in
-    clearable _ (list_of a) _ _ (found_planned _ (list_of a) _ _ _ _ (found k)) _ g.plan.kept.1.1.1.1.1.0
+    clearable _ (list_of a) _ _ (found_planned _ (list_of a) _ _ _ _ (found k.before)) _ g.plan-planned.auto.working
 
 -- K fits in 32 bits
-small : (k : tie.After-known-told2) → let a = start (plan-of k) in
-    length a.args.starts.now + k.before.planned2.given.0.0.cuts < 4294967296
+small : (k : tie.In-Cuts) → let a = start (plan-of k) in
+    length a.args.starts.now + k.in-Cuts.plan.cuts < 4294967296
 small k = let a = start (plan-of k) in forecast_few _ (list_of a) _ _ _ _ (found k)
 
-add-t16 : tie.Need-overflow-add-t16
+add-t16 : tie.Need-overflow_add-result
 add-t16 c = omega (arith, small c.before.before.before.before.before)
 
-cast-t17 : tie.Need-overflow-cast-t17
+cast-t17 : tie.Need-overflow_cast-result
 cast-t17 c = omega (arith, small c.before.before.before.before.before)
 
-cast-t18 : tie.Need-overflow-cast-t18
+cast-t18 : tie.Need-overflow_cast-result-in-Cuts
 cast-t18 c = omega (arith, small c.before.before.before.before.before.before)
 
-same_length : tie.Need-same-length
+same_length : tie.Need-shape_of-working-in-Refused
 same_length c = search rules
 
-returns : tie.Need-returns
+returns : tie.Need-returns-in-Refused
 returns c =
-    let g = planned c.before.before.before in
-    let p = promised g _ c.before.planned.given.1 in
+    let g = planned c.before in
+    let p = promised g _ c.in-Refused.is in
     forecast_refused _ (list_of (start g)) _ _ _ _ p.0 p.1
 
-same_length_2 : tie.Need-same-length-2
+same_length_2 : tie.Need-shape_of-working-in-Cuts
 same_length_2 c = search rules
 
-returns_2 : tie.Need-returns-2
+returns_2 : tie.Need-returns-in-Cuts
 returns_2 c =
-    let w = c.before.before.before.before in
-    let k = w.before.before in
-    forecast_sized _ (list_of (start (plan-of k))) _ _ _ _ (found k) _ w.clear.ensures
+    let w = c in
+    let k = w in
+    forecast_sized _ (list_of (start (plan-of k.before.before.before.before.before.before))) _ _ _ _ (found k.before.before.before.before.before.before) _ w.clear.ensures
 
 pub forecast_spec : {M : Type 1} → statement M
 forecast_spec =

@@ -7,31 +7,31 @@ use Rattle.runs.proofs.Legality.{homes, map_at}
 use Rattle.balance.proofs.fill.image_of.Statement.{statement}
 use Rattle.balance.proofs.fill.image_of.Tie as tie
 
-mul-result : tie.Need-overflow-mul-result
+mul-result : tie.Need-offset_bounds-images-x
 mul-result c = search rules
 
-shared-slice-read-result : tie.Need-shared-slice-read-result
+shared-slice-read-result : tie.Need-bounds-images-x
 shared-slice-read-result c = search rules
 
-mul-result-2 : tie.Need-overflow-mul-result-2
+mul-result-2 : tie.Need-offset_bounds-starts-x
 mul-result-2 c = search rules
 
-shared-slice-read-result-2 : tie.Need-shared-slice-read-result-2
+shared-slice-read-result-2 : tie.Need-bounds-starts-x
 shared-slice-read-result-2 c = search rules
 
-sub-result : tie.Need-overflow-sub-result
+sub-result : tie.Need-overflow_sub-result
 sub-result c = search rules
 
-add-result : tie.Need-overflow-add-result
-add-result c = let a = c.before.before in
+add-result : tie.Need-overflow_add-result
+add-result c = let a = c in
     omega (arith, a.requires.0.within a.args.x a.requires.1.known, a.requires.1)
 
 returns : tie.Need-returns
 returns c =
-    let a = c.before.before.args in
-    let h = c.before.before.requires.1 in
+    let a = c.args in
+    let h = c.requires.1 in
     let r = runs a.starts.now a.images.now in
-    sym (map_at a.n r (homes a.n r c.before.before.requires.0) a.x a.p h.known h.from h.to)
+    sym (map_at a.n r (homes a.n r c.requires.0) a.x a.p h.known h.from h.to)
 
 pub image_of_spec : {M : Type 1} → statement M
 image_of_spec =

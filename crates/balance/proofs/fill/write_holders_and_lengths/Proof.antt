@@ -23,58 +23,58 @@ over_room k l room table e f =
     ∙ ap (λ (j : ℕ). drop j table) (sym e))
 
 -- the places: the call, from where room is lent, and after the holders are written
-abbrev start : tie.After-room → tie.Start
+abbrev start : tie.After-room-1 → tie.Start
 start c = c.before.before.before.before.before
 
-abbrev held : tie.After-write-lengths-arg → tie.After-write-holders
+abbrev held : tie.After-write_lengths-arg-1 → tie.After-write_holders
 held c = c.before.before.before.before.before
 
-abbrev lent : tie.After-write-holders → tie.After-room
+abbrev lent : tie.After-write_holders → tie.After-room-1
 lent c = c.before.before
 
 -- what is left in the room
-abbrev left : tie.After-write-holders → List ℕ
-left c = c.write-holders.new.1.1.1.1.0
+abbrev left : tie.After-write_holders → List ℕ
+left c = c.write_holders.new.room
 
 -- the room has an entry for each start
-taken : (c : tie.After-room) → let a = (start c).args in
-    length (take (length a.starts.now) a.to-lengths.now) ≡ length a.starts.now
-taken c = let a = start c in length-take-le (length a.args.starts.now) a.args.to-lengths.now a.pre.2
+taken : (c : tie.After-room-1) → let a = c.args in
+    length (take (length a.starts.now) a.to_lengths.now) ≡ length a.starts.now
+taken c = let a = start c in length-take-le (length a.args.starts.now) a.args.to_lengths.now a.requires.2
 
-slice-relend-prefix-room : tie.Need-slice-relend-prefix-room
+slice-relend-prefix-room : tie.Need-slice_bounds-room-end
 slice-relend-prefix-room c = search rules
 
-slice-aggregate-room : tie.Need-slice-aggregate-room
+slice-aggregate-room : tie.Need-slice_bounds-room-end-2
 slice-aggregate-room c = sym (taken c)
 
-write-holders-requires : tie.Need-write-holders-requires
+write-holders-requires : tie.Need-write_holders-requires
 write-holders-requires c κs = let a = start c.before in
-    (a.pre.0, a.pre.1, taken c.before)
+    (a.requires.0, a.requires.1, taken c.before)
 
-write-lengths-requires : tie.Need-write-lengths-requires
+write-lengths-requires : tie.Need-write_lengths-requires
 write-lengths-requires c κs =
     let h = held c in
     let a = start (lent h) in
     let s = a.args.starts.now in
-    let e = length_front a.args.to-lengths.now (left h) (length s) h.write-holders.kept.1.1.1.1.0 in
-    (a.pre.0.some, (homes a.args.n (runs s a.args.images.now) a.pre.0).lasting, omega (arith, e, a.pre.2))
+    let e = length_front a.args.to_lengths.now (left h) (length s) h.write_holders.auto.room in
+    (a.requires.0.some, (homes a.args.n (runs s a.args.images.now) a.requires.0).lasting, omega (arith, e, a.requires.2))
 
-same_length : tie.Need-same-length
+same_length : tie.Need-shape_of-to_holders
 same_length c = search rules
 
-same_length_2 : tie.Need-same-length-2
+same_length_2 : tie.Need-shape_of-to_lengths
 same_length_2 c = search rules
 
 returns : tie.Need-returns
 returns c =
-    let w = c.before.before in
-    let h = held w.before in
+    let w = c in
+    let h = held w.before.before.before in
     let a = start (lent h) in
     let s = a.args.starts.now in
     let long = lengths_long a.args.n s in
-    let e = h.write-holders.kept.1.1.1.1.0 ∙ taken (lent h) in
-    let same = over_room (length s) (lengths_of a.args.n s) (left h) a.args.to-lengths.now long e in
-    (h.write-holders.ensures, w.write-lengths.ensures ∙ same)
+    let e = h.write_holders.auto.room ∙ taken (lent h) in
+    let same = over_room (length s) (lengths_of a.args.n s) (left h) a.args.to_lengths.now long e in
+    (h.write_holders.ensures, w.write_lengths.ensures ∙ same)
 
 pub write_holders_and_lengths_spec : {M : Type 1} → statement M
 write_holders_and_lengths_spec =

@@ -11,11 +11,11 @@ use Rattle.tables.proofs.Lengths.{lengths_long, lengths_at}
 use Rattle.balance.proofs.fill.write_lengths.Statement.{statement}
 use Rattle.balance.proofs.fill.write_lengths.Tie as tie
 
-abbrev invariant-loop : tie.invariant-loop
-invariant-loop n starts to₀ last x₀ to x = (x ≤ last) × Filling (lengths_of n starts) to₀ to x
+abbrev invariant-loop-x : tie.invariant-loop-x
+invariant-loop-x n starts to₀ last x₀ to x = (x ≤ last) × Filling (lengths_of n starts) to₀ to x
 
-abbrev decreases-loop : tie.decreases-loop
-decreases-loop n starts to₀ last x₀ to x = last - x
+abbrev decreases-loop-x : tie.decreases-loop-x
+decreases-loop-x n starts to₀ last x₀ to x = last - x
 
 -- where an interval ends: at the next start, and the last one at n
 next_end : (n : ℕ) (l : List ℕ) (x : ℕ) → suc x < length l → get_or l (x + 1) 0 ≡ get_or l (suc x) n
@@ -25,110 +25,110 @@ last_end : (n : ℕ) (l : List ℕ) → get_or l (suc (length l - 1)) n ≡ n
 last_end n l = get_or-eq_default l n (omega arith)
 
 -- as many lengths as starts
-long : (a : tie.Start invariant-loop decreases-loop) → length (lengths_of a.args.n a.args.starts.now) ≡ length a.args.starts.now
+long : (a : tie.Start invariant-loop-x decreases-loop-x) → length (lengths_of a.args.n a.args.starts.now) ≡ length a.args.starts.now
 long a = lengths_long a.args.n a.args.starts.now
 
-sub-last : tie.Need-overflow-sub-last invariant-loop decreases-loop
+sub-last : tie.Need-overflow_sub-last invariant-loop-x decreases-loop-x
 sub-last c = omega (arith, c.requires.0)
 
-loop-holds : tie.Need-loop-init invariant-loop decreases-loop
+loop-holds : tie.Need-loop-x-init invariant-loop-x decreases-loop-x
 loop-holds c = (omega arith, filling_none _ _ (omega (arith, long c, c.requires.2)))
 
-add-to : tie.Need-overflow-add-to invariant-loop decreases-loop
+add-to : tie.Need-overflow_add-to invariant-loop-x decreases-loop-x
 add-to c = omega arith
 
-mul-to : tie.Need-overflow-mul-to invariant-loop decreases-loop
+mul-to : tie.Need-offset_bounds-starts-x invariant-loop-x decreases-loop-x
 mul-to c = omega arith
 
-shared-slice-read-to : tie.Need-shared-slice-read-to invariant-loop decreases-loop
+shared-slice-read-to : tie.Need-bounds-starts-x invariant-loop-x decreases-loop-x
 shared-slice-read-to c = omega arith
 
-mul-to-2 : tie.Need-overflow-mul-to-2 invariant-loop decreases-loop
+mul-to-2 : tie.Need-offset_bounds-starts-x-in-loop-x invariant-loop-x decreases-loop-x
 mul-to-2 c = omega arith
 
-shared-slice-read-to-2 : tie.Need-shared-slice-read-to-2 invariant-loop decreases-loop
+shared-slice-read-to-2 : tie.Need-bounds-starts-x-in-loop-x invariant-loop-x decreases-loop-x
 shared-slice-read-to-2 c = omega arith
 
-sub-to : tie.Need-overflow-sub-to invariant-loop decreases-loop
+sub-to : tie.Need-overflow_sub-to invariant-loop-x decreases-loop-x
 sub-to c =
-    let e = c.before.before.before in
-    let a = e.before in
-    let x = e.loop.x in
+    let e = c in
+    let a = e in
+    let x = e.loop-x.x in
     omega (arith, next_end a.args.n a.args.starts.now x (omega arith), a.requires.1 x (omega arith))
 
-mul-to-3 : tie.Need-overflow-mul-to-3 invariant-loop decreases-loop
+mul-to-3 : tie.Need-offset_bounds-to-x invariant-loop-x decreases-loop-x
 mul-to-3 c = omega arith
 
-slice-write-to : tie.Need-slice-write-to invariant-loop decreases-loop
+slice-write-to : tie.Need-bounds-to-x invariant-loop-x decreases-loop-x
 slice-write-to c =
-    let e = c.before.before.before in
-    omega (arith, e.before.requires.2, filling_length _ _ _ _ e.loop.invariant.1)
+    let e = c in
+    omega (arith, e.requires.2, filling_length _ _ _ _ e.loop-x.invariant.1)
 
-add-x : tie.Need-overflow-add-x invariant-loop decreases-loop
+add-x : tie.Need-overflow_add-x invariant-loop-x decreases-loop-x
 add-x c = omega arith
 
-loop-less : tie.Need-loop-smaller invariant-loop decreases-loop
+loop-less : tie.Need-loop-x-smaller invariant-loop-x decreases-loop-x
 loop-less c = omega arith
 
-loop-again : tie.Need-loop-preserved invariant-loop decreases-loop
+loop-again : tie.Need-loop-x-preserved invariant-loop-x decreases-loop-x
 loop-again c =
-    let e = c.before.before.before in
-    let a = e.before in
+    let e = c in
+    let a = e in
     let s = a.args.starts.now in
-    let x = e.loop.x in
+    let x = e.loop-x.x in
     let y = next_end a.args.n s x (omega arith) in
     let z = lengths_at a.args.n s x (omega arith) in
-    (omega arith, filling_next _ _ _ _ e.loop.invariant.1 (omega (arith, long a)) _ (omega arith))
+    (omega arith, filling_next _ _ _ _ e.loop-x.invariant.1 (omega (arith, long a.before.before.before.before)) _ (omega arith))
 
-mul-to-4 : tie.Need-overflow-mul-to-4 invariant-loop decreases-loop
+mul-to-4 : tie.Need-offset_bounds-starts-last invariant-loop-x decreases-loop-x
 mul-to-4 c = omega arith
 
-shared-slice-read-to-3 : tie.Need-shared-slice-read-to-3 invariant-loop decreases-loop
-shared-slice-read-to-3 c = omega (arith, c.before.before.before.requires.0)
+shared-slice-read-to-3 : tie.Need-bounds-starts-last invariant-loop-x decreases-loop-x
+shared-slice-read-to-3 c = omega (arith, c.requires.0)
 
-sub-to-2 : tie.Need-overflow-sub-to-2 invariant-loop decreases-loop
+sub-to-2 : tie.Need-overflow_sub-to-2 invariant-loop-x decreases-loop-x
 sub-to-2 c =
-    let a = c.before.before.before in
+    let a = c in
     let s = a.args.starts.now in
     omega (arith, last_end a.args.n s, a.requires.1 (length s - 1) (omega (arith, a.requires.0)))
 
-mul-to-5 : tie.Need-overflow-mul-to-5 invariant-loop decreases-loop
+mul-to-5 : tie.Need-offset_bounds-to-last invariant-loop-x decreases-loop-x
 mul-to-5 c = omega arith
 
-slice-write-to-2 : tie.Need-slice-write-to-2 invariant-loop decreases-loop
+slice-write-to-2 : tie.Need-bounds-to-last invariant-loop-x decreases-loop-x
 slice-write-to-2 c =
-    let e = c.before.before in
-    let a = e.before in
-    omega (arith, a.requires.0, a.requires.2, filling_length _ _ _ _ e.loop.invariant.1)
+    let e = c in
+    let a = e in
+    omega (arith, a.requires.0, a.requires.2, filling_length _ _ _ _ e.loop-x.invariant.1)
 
 -- with the last one all are written
-all : (c : tie.After-shared-slice-known3 invariant-loop decreases-loop) → let e = c.before.before in
-    let a = e.before.args in
+all : (c : tie.After-shared_slice_known-2-1 invariant-loop-x decreases-loop-x) → let e = c in
+    let a = e.args in
     let last = length a.starts.now - 1 in
-    Filling (lengths_of a.n a.starts.now) a.to.now (set e.loop.to last (a.n - get_or a.starts.now last 0)) (last + 1)
+    Filling (lengths_of a.n a.starts.now) a.to.now (set e.loop-x.to last (a.n - get_or a.starts.now last 0)) (last + 1)
 all c =
-    let e = c.before.before in
-    let a = e.before in
+    let e = c in
+    let a = e in
     let s = a.args.starts.now in
     let last = length s - 1 in
-    let q : e.loop.x ≡ last = omega (arith, e.loop.invariant.0) in
+    let q : e.loop-x.x ≡ last = omega (arith, e.loop-x.invariant.0) in
     let y = last_end a.args.n s in
     let z = lengths_at a.args.n s last (omega (arith, a.requires.0)) in
-    filling_next _ _ _ _ (subst (Filling (lengths_of a.args.n s) a.args.to.now e.loop.to) q e.loop.invariant.1)
-    (omega (arith, long a, a.requires.0)) _ (omega arith)
+    filling_next _ _ _ _ (subst (Filling (lengths_of a.args.n s) a.args.to.now e.loop-x.to) q e.loop-x.invariant.1)
+    (omega (arith, long a.before.before.before, a.requires.0)) _ (omega arith)
 
-same_length : tie.Need-same-length invariant-loop decreases-loop
+same_length : tie.Need-shape_of-to invariant-loop-x decreases-loop-x
 same_length c = filling_length _ _ _ _ (all c)
 
-returns : tie.Need-returns invariant-loop decreases-loop
+returns : tie.Need-returns invariant-loop-x decreases-loop-x
 returns c = filling_all _ _ _ _ (all c) (omega (arith, long c.before.before.before))
 
 pub write_lengths_spec : {M : Type 1} → statement M
 write_lengths_spec =
     tie.close
     (tie.spec
-    invariant-loop
-    decreases-loop
+    invariant-loop-x
+    decreases-loop-x
     sub-last
     loop-holds
     add-to

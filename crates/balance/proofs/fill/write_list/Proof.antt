@@ -11,195 +11,195 @@ use Rattle.balance.proofs.Writing.{Writing, writing_start, writing_within, writi
 use Rattle.balance.proofs.fill.write_list.Statement.{statement}
 use Rattle.balance.proofs.fill.write_list.Tie as tie
 
-abbrev invariant-loop : tie.invariant-loop
-invariant-loop n starts images cuts to-starts₀ to-images₀ x₀ c₀ to-starts to-images x c =
+abbrev invariant-loop-c : tie.invariant-loop-c
+invariant-loop-c n starts images cuts to-starts₀ to-images₀ x₀ c₀ to-starts to-images x c =
     Writing n (runs starts images) cuts to-starts₀ to-images₀ to-starts to-images x c
 
-abbrev decreases-loop : tie.decreases-loop
-decreases-loop n starts images cuts to-starts₀ to-images₀ x₀ c₀ to-starts to-images x c = length cuts - c
+abbrev decreases-loop-c : tie.decreases-loop-c
+decreases-loop-c n starts images cuts to-starts₀ to-images₀ x₀ c₀ to-starts to-images x c = length cuts - c
 
 -- the list that is handed in
-abbrev list_of : tie.Start invariant-loop decreases-loop → Runs
+abbrev list_of : tie.Start invariant-loop-c decreases-loop-c → Runs
 list_of a = runs a.args.starts.now a.args.images.now
 
 -- the places: the call of a turn, and from a turn's calls back to it
-abbrev start : tie.At-loop invariant-loop decreases-loop → tie.Start invariant-loop decreases-loop
+abbrev start : tie.At-loop-c invariant-loop-c decreases-loop-c → tie.Start invariant-loop-c decreases-loop-c
 start c = c.before.before.before.before.before.before
 
-abbrev turn : tie.After-copy-up-to invariant-loop decreases-loop → tie.At-loop invariant-loop decreases-loop
+abbrev turn : tie.After-copy_up_to-x invariant-loop-c decreases-loop-c → tie.At-loop-c invariant-loop-c decreases-loop-c
 turn c = c.before.before.before.before.before
 
-abbrev begun : tie.After-copy-up-to invariant-loop decreases-loop → tie.Start invariant-loop decreases-loop
-begun c = start (turn c)
+abbrev begun : tie.After-copy_up_to-x invariant-loop-c decreases-loop-c → tie.Start invariant-loop-c decreases-loop-c
+begun c = c.before.before.before.before.before.before.before.before.before.before.before
 
 -- at a turn: what is written is within the list, and the tables are as long as they were
-within : (c : tie.At-loop invariant-loop decreases-loop)
-    → (c.loop.x ≤ length (start c).args.starts.now) × (c.loop.c ≤ length (start c).args.cuts.now)
-within c = let a = start c in writing_within _ (list_of a) _ _ _ a.pre.0 a.pre.1 _ _ _ _ c.loop.invariant
+within : (c : tie.At-loop-c invariant-loop-c decreases-loop-c)
+    → (c.loop-c.x ≤ length c.args.starts.now) × (c.loop-c.c ≤ length c.args.cuts.now)
+within c = let a = start c in writing_within _ (list_of a) _ _ _ a.requires.0 a.requires.1 _ _ _ _ c.loop-c.invariant
 
-kept : (c : tie.At-loop invariant-loop decreases-loop)
-    → (length c.loop.to-starts ≡ length (start c).args.to-starts.now)
-    × (length c.loop.to-images ≡ length (start c).args.to-images.now)
-kept c = let a = start c in writing_kept _ (list_of a) _ _ _ a.pre.0 a.pre.1 _ _ _ _ c.loop.invariant
+kept : (c : tie.At-loop-c invariant-loop-c decreases-loop-c)
+    → (length c.loop-c.to_starts ≡ length c.args.to_starts.now)
+    × (length c.loop-c.to_images ≡ length c.args.to_images.now)
+kept c = let a = start c in writing_kept _ (list_of a) _ _ _ a.requires.0 a.requires.1 _ _ _ _ c.loop-c.invariant
 
 -- after the runs up to a cut are copied: how many are, and what stands then
-abbrev passed : tie.After-copy-up-to invariant-loop decreases-loop → ℕ
-passed c = (turn c).loop.x + c.copy-up-to.result
+abbrev passed : tie.After-copy_up_to-x invariant-loop-c decreases-loop-c → ℕ
+passed c = c.loop-c.x + c.copy_up_to-x.result
 
-copied : (c : tie.After-copy-up-to invariant-loop decreases-loop) → let a = (begun c).args in
-    (get_or a.cuts.now (turn c).loop.c a.n < get_or a.starts.now (passed c) a.n)
-    × Writing a.n (list_of (begun c)) a.cuts.now a.to-starts.now a.to-images.now
-    c.copy-up-to.new.1.1.1.1.0 c.copy-up-to.new.1.1.1.1.1.0 (passed c) (turn c).loop.c
+copied : (c : tie.After-copy_up_to-x invariant-loop-c decreases-loop-c) → let a = c.args in
+    (get_or a.cuts.now c.loop-c.c a.n < get_or a.starts.now (passed c) a.n)
+    × Writing a.n (list_of (begun c)) a.cuts.now a.to_starts.now a.to_images.now
+    c.copy_up_to-x.new.to_starts c.copy_up_to-x.new.to_images (passed c) c.loop-c.c
 copied c =
     let a = begun c in
-    let e = c.copy-up-to.ensures in
-    writing_up_to _ (list_of a) _ _ _ a.pre.0 a.pre.1 _ _ _ _ (turn c).loop.invariant
-    c.before.before.before.before.loop-test.true _ e.0 _ _ e.1 e.2
+    let e = c.copy_up_to-x.ensures in
+    writing_up_to _ (list_of a) _ _ _ a.requires.0 a.requires.1 _ _ _ _ c.loop-c.invariant
+    c.loop-c-test.true _ e.0 _ _ e.1 e.2
 
 -- the cut has its place in the tables
-room : (c : tie.After-copy-up-to invariant-loop decreases-loop) → let a = (begun c).args in
-    (passed c + (turn c).loop.c < length a.starts.now + length a.cuts.now)
-    × (length c.copy-up-to.new.1.1.1.1.0 ≡ length a.to-starts.now)
-    × (length c.copy-up-to.new.1.1.1.1.1.0 ≡ length a.to-images.now)
+room : (c : tie.After-copy_up_to-x invariant-loop-c decreases-loop-c) → let a = c.args in
+    (passed c + c.loop-c.c < length a.starts.now + length a.cuts.now)
+    × (length c.copy_up_to-x.new.to_starts ≡ length a.to_starts.now)
+    × (length c.copy_up_to-x.new.to_images ≡ length a.to_images.now)
 room c =
     let a = begun c in
     let w = (copied c).1 in
-    let b = writing_within _ (list_of a) _ _ _ a.pre.0 a.pre.1 _ _ _ _ w in
-    let k = writing_kept _ (list_of a) _ _ _ a.pre.0 a.pre.1 _ _ _ _ w in
-    (omega (arith, b, c.before.before.before.before.loop-test.true), k.0, k.1)
+    let b = writing_within _ (list_of a) _ _ _ a.requires.0 a.requires.1 _ _ _ _ w in
+    let k = writing_kept _ (list_of a) _ _ _ a.requires.0 a.requires.1 _ _ _ _ w in
+    (omega (arith, b, c.loop-c-test.true), k.0, k.1)
 
 -- the run that has it
-had : (c : tie.After-copy-up-to invariant-loop decreases-loop) → let a = (begun c).args in
-    (0 < passed c) × Has a.n a.starts.now (passed c - 1) (get_or a.cuts.now (turn c).loop.c 0)
+had : (c : tie.After-copy_up_to-x invariant-loop-c decreases-loop-c) → let a = c.args in
+    (0 < passed c) × Has a.n a.starts.now (passed c - 1) (get_or a.cuts.now c.loop-c.c 0)
 had c =
     let a = begun c in
-    has_cut _ (list_of a) _ _ _ a.pre.0 a.pre.1 _ _ _ _ (copied c).1
-    c.before.before.before.before.loop-test.true (copied c).0
+    has_cut _ (list_of a) _ _ _ a.requires.0 a.requires.1 _ _ _ _ (copied c).1
+    c.loop-c-test.true (copied c).0
 
-loop-holds : tie.Need-loop-init invariant-loop decreases-loop
+loop-holds : tie.Need-loop-c-init invariant-loop-c decreases-loop-c
 loop-holds c =
-    let a = c.before.before.before.before.before in
+    let a = c in
     let e = merged_length a.args.starts.now a.args.cuts.now in
-    writing_start _ (list_of a) _ _ _ a.requires.0 a.requires.1 (omega (arith, a.requires.2)) (omega (arith, a.requires.3))
+    writing_start _ (list_of a.before.before.before.before.before) _ _ _ a.requires.0 a.requires.1 (omega (arith, a.requires.2)) (omega (arith, a.requires.3))
 
-mul-cut : tie.Need-overflow-mul-cut invariant-loop decreases-loop
+mul-cut : tie.Need-offset_bounds-cuts-c invariant-loop-c decreases-loop-c
 mul-cut c = search rules
 
-shared-slice-read-cut : tie.Need-shared-slice-read-cut invariant-loop decreases-loop
+shared-slice-read-cut : tie.Need-bounds-cuts-c invariant-loop-c decreases-loop-c
 shared-slice-read-cut c = search rules
 
-add-copy-up-to : tie.Need-overflow-add-copy-up-to invariant-loop decreases-loop
+add-copy-up-to : tie.Need-overflow_add-x invariant-loop-c decreases-loop-c
 add-copy-up-to c =
-    let l = c.before.before.before.before in
-    omega (arith, within l, (start l).requires.2, (start l).well-formed)
+    let l = c in
+    omega (arith, within l.before.before.before.before, l.requires.2, l.well_formed)
 
-copy-up-to-requires : tie.Need-copy-up-to-requires invariant-loop decreases-loop
+copy-up-to-requires : tie.Need-copy_up_to-x-requires invariant-loop-c decreases-loop-c
 copy-up-to-requires c κs =
-    let l = c.before.before.before.before in
-    let a = start l in (
-      a.pre.0.paired,
-      (within l).0,
-      omega (arith, within l, kept l, a.pre.2),
-      omega (arith, within l, kept l, a.pre.3),
+    let l = c in
+    let a = start l.before.before.before.before in (
+      a.requires.0.paired,
+      (within l.before.before.before.before).0,
+      omega (arith, within l.before.before.before.before, kept l.before.before.before.before, a.requires.2),
+      omega (arith, within l.before.before.before.before, kept l.before.before.before.before, a.requires.3),
     )
 
-add-x : tie.Need-overflow-add-x invariant-loop decreases-loop
+add-x : tie.Need-overflow_add-x-in-loop-c invariant-loop-c decreases-loop-c
 add-x c =
-    let w = c.before.before.before.before in
-    omega (arith, room w, (begun w).requires.2, (begun w).well-formed)
+    let w = c in
+    omega (arith, room w.before.before.before.before, w.requires.2, w.well_formed)
 
-add-to-starts : tie.Need-overflow-add-to-starts invariant-loop decreases-loop
+add-to-starts : tie.Need-overflow_add-to_starts invariant-loop-c decreases-loop-c
 add-to-starts c =
-    let w = c.before.before.before.before in
-    omega (arith, room w, (begun w).requires.2, (begun w).well-formed)
+    let w = c in
+    omega (arith, room w.before.before.before.before, w.requires.2, w.well_formed)
 
-mul-to-starts : tie.Need-overflow-mul-to-starts invariant-loop decreases-loop
+mul-to-starts : tie.Need-offset_bounds-to_starts-x invariant-loop-c decreases-loop-c
 mul-to-starts c =
-    let w = c.before.before.before.before in
-    omega (arith, room w, (begun w).requires.2, (begun w).well-formed)
+    let w = c in
+    omega (arith, room w.before.before.before.before, w.requires.2, w.well_formed)
 
-slice-write-to-starts : tie.Need-slice-write-to-starts invariant-loop decreases-loop
+slice-write-to-starts : tie.Need-bounds-to_starts-x invariant-loop-c decreases-loop-c
 slice-write-to-starts c =
-    let w = c.before.before.before.before in
-    omega (arith, room w, (begun w).requires.2)
+    let w = c in
+    omega (arith, room w.before.before.before.before, w.requires.2)
 
-sub-image-of : tie.Need-overflow-sub-image-of invariant-loop decreases-loop
+sub-image-of : tie.Need-overflow_sub-x invariant-loop-c decreases-loop-c
 sub-image-of c = omega (arith, (had c.before.before.before.before).0)
 
-image-of-requires : tie.Need-image-of-requires invariant-loop decreases-loop
-image-of-requires c κs = let w = c.before.before.before.before in ((begun w).requires.0, (had w).1)
+image-of-requires : tie.Need-image_of-requires invariant-loop-c decreases-loop-c
+image-of-requires c κs = let w = c in (w.requires.0, (had w.before.before.before.before).1)
 
-add-to-images : tie.Need-overflow-add-to-images invariant-loop decreases-loop
+add-to-images : tie.Need-overflow_add-to_images invariant-loop-c decreases-loop-c
 add-to-images c =
-    let w = c.before.before.before.before.before in
-    omega (arith, room w, (begun w).requires.2, (begun w).well-formed)
+    let w = c in
+    omega (arith, room w.before.before.before.before.before, w.requires.2, w.well_formed)
 
-mul-to-images : tie.Need-overflow-mul-to-images invariant-loop decreases-loop
+mul-to-images : tie.Need-offset_bounds-to_images-x invariant-loop-c decreases-loop-c
 mul-to-images c =
-    let w = c.before.before.before.before.before in
-    omega (arith, room w, (begun w).requires.3, (begun w).well-formed)
+    let w = c in
+    omega (arith, room w.before.before.before.before.before, w.requires.3, w.well_formed)
 
-slice-write-to-images : tie.Need-slice-write-to-images invariant-loop decreases-loop
+slice-write-to-images : tie.Need-bounds-to_images-x invariant-loop-c decreases-loop-c
 slice-write-to-images c =
-    let w = c.before.before.before.before.before in
-    omega (arith, room w, (begun w).requires.3)
+    let w = c in
+    omega (arith, room w.before.before.before.before.before, w.requires.3)
 
-add-c : tie.Need-overflow-add-c invariant-loop decreases-loop
+add-c : tie.Need-overflow_add-c invariant-loop-c decreases-loop-c
 add-c c = search rules
 
-loop-less : tie.Need-loop-smaller invariant-loop decreases-loop
+loop-less : tie.Need-loop-c-smaller invariant-loop-c decreases-loop-c
 loop-less c = omega arith
 
-loop-again : tie.Need-loop-preserved invariant-loop decreases-loop
+loop-again : tie.Need-loop-c-preserved invariant-loop-c decreases-loop-c
 loop-again c =
-    let w = c.before.before.before.before.before in
-    let a = begun w in
-    writing_cut _ (list_of a) _ _ _ a.pre.0 a.pre.1 _ _ _ _ (copied w).1
-    w.before.before.before.before.loop-test.true (copied w).0 _ c.image-of.ensures
+    let w = c in
+    let a = begun w.before.before.before.before.before in
+    writing_cut _ (list_of a) _ _ _ a.requires.0 a.requires.1 _ _ _ _ (copied w.before.before.before.before.before).1
+    w.loop-c-test.true (copied w.before.before.before.before.before).0 _ c.image_of.ensures
 
-add-copy-rest : tie.Need-overflow-add-copy-rest invariant-loop decreases-loop
+add-copy-rest : tie.Need-overflow_add-x-2 invariant-loop-c decreases-loop-c
 add-copy-rest c =
-    let l = c.before.before in
-    omega (arith, within l, (start l).requires.2, (start l).well-formed)
+    let l = c in
+    omega (arith, within l.before.before, l.requires.2, l.well_formed)
 
-copy-rest-requires : tie.Need-copy-rest-requires invariant-loop decreases-loop
+copy-rest-requires : tie.Need-copy_rest-requires invariant-loop-c decreases-loop-c
 copy-rest-requires c κs =
-    let l = c.before.before in
-    ((within l).0, omega (arith, within l, kept l, (start l).requires.2))
+    let l = c in
+    ((within l.before.before).0, omega (arith, within l.before.before, kept l.before.before, l.requires.2))
 
-add-copy-rest-2 : tie.Need-overflow-add-copy-rest-2 invariant-loop decreases-loop
+add-copy-rest-2 : tie.Need-overflow_add-x-3 invariant-loop-c decreases-loop-c
 add-copy-rest-2 c =
-    let l = c.before.before.before.before.before.before in
-    omega (arith, within l, (start l).requires.2, (start l).well-formed)
+    let l = c in
+    omega (arith, within l.before.before.before.before.before.before, l.requires.2, l.well_formed)
 
-copy-rest-requires-2 : tie.Need-copy-rest-requires-2 invariant-loop decreases-loop
+copy-rest-requires-2 : tie.Need-copy_rest-requires-2 invariant-loop-c decreases-loop-c
 copy-rest-requires-2 c κs =
-    let l = c.before.before.before.before.before.before in
-    let a = start l in
-    (omega (arith, within l, a.pre.0.paired), omega (arith, within l, kept l, a.pre.0.paired, a.pre.3))
+    let l = c in
+    let a = start l.before.before.before.before.before.before in
+    (omega (arith, within l.before.before.before.before.before.before, a.requires.0.paired), omega (arith, within l.before.before.before.before.before.before, kept l.before.before.before.before.before.before, a.requires.0.paired, a.requires.3))
 
-same_length : tie.Need-same-length invariant-loop decreases-loop
-same_length c = c.before.before.before.before.before.before.copy_rest.auto.1.1.0
+same_length : tie.Need-shape_of-to_starts invariant-loop-c decreases-loop-c
+same_length c = c.copy_rest.auto.to
     ∙ (kept c.before.before.before.before.before.before.before.before.before).0
 
-same_length_2 : tie.Need-same-length-2 invariant-loop decreases-loop
-same_length_2 c = c.before.before.copy-rest2.auto.1.1.0
+same_length_2 : tie.Need-shape_of-to_images invariant-loop-c decreases-loop-c
+same_length_2 c = c.copy_rest-2.auto.to
     ∙ (kept c.before.before.before.before.before.before.before.before.before).1
 
-returns : tie.Need-returns invariant-loop decreases-loop
+returns : tie.Need-returns invariant-loop-c decreases-loop-c
 returns c =
-    let l = c.before.before.before.before.before.before.before.before.before in
-    let a = start l in
-    writing_end _ (list_of a) _ _ _ a.pre.0 a.pre.1 _ _ _ _ l.loop.invariant
-    (omega (arith, c.before.before.before.before.before.before.before.before.loop-test.false)) _ _
-    c.before.before.before.before.before.before.copy_rest.ensures c.before.before.copy-rest2.ensures
+    let l = c in
+    let a = start l.before.before.before.before.before.before.before.before.before in
+    writing_end _ (list_of a) _ _ _ a.requires.0 a.requires.1 _ _ _ _ l.loop-c.invariant
+    (omega (arith, c.loop-c-test.false)) _ _
+    c.copy_rest.ensures c.copy_rest-2.ensures
 
 pub write_list_spec : {M : Type 1} → statement M
 write_list_spec =
     tie.close
     (tie.spec
-    invariant-loop
-    decreases-loop
+    invariant-loop-c
+    decreases-loop-c
     loop-holds
     mul-cut
     shared-slice-read-cut

@@ -20,80 +20,80 @@ abbrev size_of : tie.Start → ℕ
 size_of a = length a.args.starts.now + length a.args.cuts.now
 
 -- the places: the call, after the list is written, and after the other two tables are
-abbrev start : tie.After-write-list → tie.Start
+abbrev start : tie.After-write_list → tie.Start
 start c = c.before.before.before.before.before.before.before.before.before.before
 
-abbrev listed : tie.After-slice-known6 → tie.After-write-list
+abbrev listed : tie.After-slice_known-6-1 → tie.After-write_list
 listed c = c.before.before.before.before
 
-abbrev held : tie.After-slice-known8 → tie.After-write-holders-and-lengths
+abbrev held : tie.After-slice_known-8-1 → tie.After-write_holders_and_lengths
 held c = c.before.before.before.before
 
-abbrev listed_of : tie.After-write-holders-and-lengths → tie.After-write-list
-listed_of c = listed c.before.before.before.before.before
+abbrev listed_of : tie.After-write_holders_and_lengths → tie.After-write_list
+listed_of c = c.before.before.before.before.before.before.before
 
 -- the two tables as they are then, as far as they hold the list, for which they have room
-abbrev starts-of : tie.After-write-list → List ℕ
-starts-of c = take (size_of (start c)) c.write-list.new.1.1.1.1.0
+abbrev starts-of : tie.After-write_list → List ℕ
+starts-of c = take (size_of (start c)) c.write_list.new.to_starts
 
-abbrev images-of : tie.After-write-list → List ℕ
-images-of c = take (size_of (start c)) c.write-list.new.1.1.1.1.1.0
+abbrev images-of : tie.After-write_list → List ℕ
+images-of c = take (size_of (start c)) c.write_list.new.to_images
 
-starts_taken : (c : tie.After-write-list) → length (starts-of c) ≡ size_of (start c)
-starts_taken c = length-take-le (size_of (start c)) c.write-list.new.1.1.1.1.0
-    (omega (arith, (start c).requires.2.0, c.write-list.auto.1.1.1.1.0))
+starts_taken : (c : tie.After-write_list) → length (starts-of c) ≡ size_of (start c)
+starts_taken c = length-take-le (size_of (start c)) c.write_list.new.to_starts
+    (omega (arith, c.requires.2.0, c.write_list.auto.to_starts))
 
-images_taken : (c : tie.After-write-list) → length (images-of c) ≡ size_of (start c)
-images_taken c = length-take-le (size_of (start c)) c.write-list.new.1.1.1.1.1.0
-    (omega (arith, (start c).requires.2.1.0, c.write-list.auto.1.1.1.1.1.0))
+images_taken : (c : tie.After-write_list) → length (images-of c) ≡ size_of (start c)
+images_taken c = length-take-le (size_of (start c)) c.write_list.new.to_images
+    (omega (arith, c.requires.2.1.0, c.write_list.auto.to_images))
 
 -- it is legal
-legal : (c : tie.After-write-list) → Legal (start c).args.n (runs (starts-of c) (images-of c))
+legal : (c : tie.After-write_list) → Legal c.args.n (runs (starts-of c) (images-of c))
 legal c = let a = start c in
-    subst (Legal a.args.n) (sym (list_taken _ (list_of a) _ _ _ _ _ c.write-list.ensures (size_of a) refl))
-    (with_legal _ (list_of a) _ a.pre.0 a.pre.1)
+    subst (Legal a.args.n) (sym (list_taken _ (list_of a) _ _ _ _ _ c.write_list.ensures (size_of a) refl))
+    (with_legal _ (list_of a) _ a.requires.0 a.requires.1)
 
-write-list-requires : tie.Need-write-list-requires
+write-list-requires : tie.Need-write_list-requires
 write-list-requires c κs = search rules
 
-add-k : tie.Need-overflow-add-k
+add-k : tie.Need-overflow_add-k
 add-k c = search rules
 
-slice-reshare-prefix-write-holders-and-lengths : tie.Need-slice-reshare-prefix-write-holders-and-lengths
+slice-reshare-prefix-write-holders-and-lengths : tie.Need-slice_bounds-write_holders_and_lengths-end
 slice-reshare-prefix-write-holders-and-lengths c = search rules
 
-slice-aggregate-write-holders-and-lengths : tie.Need-slice-aggregate-write-holders-and-lengths
-slice-aggregate-write-holders-and-lengths c = sym (starts_taken (listed c.before))
+slice-aggregate-write-holders-and-lengths : tie.Need-slice_bounds-write_holders_and_lengths-end-2
+slice-aggregate-write-holders-and-lengths c = sym (starts_taken (listed c))
 
-slice-reshare-prefix-write-holders-and-lengths-2 : tie.Need-slice-reshare-prefix-write-holders-and-lengths-2
+slice-reshare-prefix-write-holders-and-lengths-2 : tie.Need-slice_bounds-write_holders_and_lengths-end-3
 slice-reshare-prefix-write-holders-and-lengths-2 c = search rules
 
-slice-aggregate-write-holders-and-lengths-2 : tie.Need-slice-aggregate-write-holders-and-lengths-2
-slice-aggregate-write-holders-and-lengths-2 c = sym (images_taken (listed c.before.before))
+slice-aggregate-write-holders-and-lengths-2 : tie.Need-slice_bounds-write_holders_and_lengths-end-4
+slice-aggregate-write-holders-and-lengths-2 c = sym (images_taken (listed c))
 
-write-holders-and-lengths-requires : tie.Need-write-holders-and-lengths-requires
+write-holders-and-lengths-requires : tie.Need-write_holders_and_lengths-requires
 write-holders-and-lengths-requires c κs =
-    let w = listed c.before.before.before.before in
-    (legal w, omega (arith, starts_taken w, (start w).pre.2.1.1.0), omega (arith, starts_taken w, (start w).pre.2.1.1.1.0))
+    let w = listed c.before.before in
+    (legal w, omega (arith, starts_taken w, w.requires.2.1.1.0), omega (arith, starts_taken w, w.requires.2.1.1.1.0))
 
-same_length : tie.Need-same-length
+same_length : tie.Need-shape_of-to_starts
 same_length c = search rules
 
-same_length_2 : tie.Need-same-length-2
+same_length_2 : tie.Need-shape_of-to_images
 same_length_2 c = search rules
 
-same-length-3 : tie.Need-same-length-3
+same-length-3 : tie.Need-shape_of-to_holders
 same-length-3 c = search rules
 
-same-length-4 : tie.Need-same-length-4
+same-length-4 : tie.Need-shape_of-to_lengths
 same-length-4 c = search rules
 
 returns : tie.Need-returns
 returns c =
     let h = held c in
     let w = listed_of h in
-    let e = h.write-holders-and-lengths.ensures in
-    tables_written _ (list_of (start w)) _ _ _ _ _ w.write-list.ensures _ _ _ _ _ refl e.0 e.1
+    let e = h.write_holders_and_lengths.ensures in
+    tables_written _ (list_of (start w)) _ _ _ _ _ w.write_list.ensures _ _ _ _ _ refl e.0 e.1
 
 pub write_tables_spec : {M : Type 1} → statement M
 write_tables_spec =

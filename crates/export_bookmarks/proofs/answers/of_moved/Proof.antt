@@ -6,10 +6,10 @@ use Rattle.export_bookmarks.specs.Answers.{advance_answer}
 use Rattle.export_bookmarks.proofs.answers.of_moved.Statement.{statement}
 use Rattle.export_bookmarks.proofs.answers.of_moved.Tie as tie
 
-enum-known-moved : tie.Need-enum-known-moved
+enum-known-moved : tie.Need-enum_known-moved
 enum-known-moved c = search rules
 
-enum-known-moved-2 : tie.Need-enum-known-moved-2
+enum-known-moved-2 : tie.Need-enum_known-moved-in-Refused-1
 enum-known-moved-2 c = search rules
 
 number-requires : tie.Need-number-requires
@@ -18,13 +18,13 @@ number-requires c κs = search rules
 place-requires : tie.Need-place-requires
 place-requires c κs = search rules
 
-returns : tie.Need-returns
-returns c = ap (λ a. advance_answer (moved_says a)) (sym c.before.moved.given.1)
+returns : tie.Need-returns-in-To
+returns c = ap (λ a. advance_answer (moved_says a)) (sym c.in-To.is)
 
-returns_2 : tie.Need-returns-2
+returns_2 : tie.Need-returns-in-Refused
 returns_2 c =
-    let arm = sym c.before.before.before.moved2.given.1 in
-    rw (c.before.number.ensures, c.place.ensures) (ap (λ a. advance_answer (moved_says a)) arm)
+    let arm = sym c.in-Refused.is in
+    rw (c.number.ensures, c.place.ensures) (ap (λ a. advance_answer (moved_says a)) arm)
 
 pub of_moved_spec : {M : Type 1} → statement M
 of_moved_spec =

@@ -6,13 +6,13 @@ use Rattle.export_questions.specs.Answers.{questions_answer}
 use Rattle.export_questions.proofs.answers.of_questions.Statement.{statement}
 use Rattle.export_questions.proofs.answers.of_questions.Tie as tie
 
-enum-known-answered : tie.Need-enum-known-answered
+enum-known-answered : tie.Need-enum_known-answered
 enum-known-answered c = search rules
 
-enum-known-answered-2 : tie.Need-enum-known-answered-2
+enum-known-answered-2 : tie.Need-enum_known-answered-in-PlaceOrder-1
 enum-known-answered-2 c = search rules
 
-enum-known-answered-3 : tie.Need-enum-known-answered-3
+enum-known-answered-3 : tie.Need-enum_known-answered-in-Refused-1
 enum-known-answered-3 c = search rules
 
 number-requires : tie.Need-number-requires
@@ -21,19 +21,19 @@ number-requires c κs = search rules
 place-requires : tie.Need-place-requires
 place-requires c κs = search rules
 
-cast-t9 : tie.Need-overflow-cast-t9
+cast-t9 : tie.Need-overflow_cast-result
 cast-t9 c = search rules
 
-returns : tie.Need-returns
-returns c = ap (λ a. questions_answer (answered_says a)) (sym c.before.answered.given.1)
+returns : tie.Need-returns-in-Passed
+returns c = ap (λ a. questions_answer (answered_says a)) (sym c.in-Passed.is)
 
-returns_2 : tie.Need-returns-2
-returns_2 c = ap (λ a. questions_answer (answered_says a)) (sym c.before.answered2.given.1)
+returns_2 : tie.Need-returns-in-PlaceOrder
+returns_2 c = ap (λ a. questions_answer (answered_says a)) (sym c.in-PlaceOrder.is)
 
-returns-3 : tie.Need-returns-3
+returns-3 : tie.Need-returns-in-Refused
 returns-3 c =
-    let arm = sym c.before.before.before.answered3.given.1 in
-    rw (c.before.number.ensures, c.place.ensures) (ap (λ a. questions_answer (answered_says a)) arm)
+    let arm = sym c.in-Refused.is in
+    rw (c.number.ensures, c.place.ensures) (ap (λ a. questions_answer (answered_says a)) arm)
 
 pub of_questions_spec : {M : Type 1} → statement M
 of_questions_spec =
