@@ -8,15 +8,15 @@ use Rattle.export_balance.proofs.zibewoka_forecast.Tie as tie
 forecast-requires : tie.Need-forecast-requires
 forecast-requires c κs = search rules
 
-of-size-requires : tie.Need-of-size-requires
+of-size-requires : tie.Need-of_size-requires
 of-size-requires c κs = search rules
 
-same_length : tie.Need-same-length
+same_length : tie.Need-shape_of-working
 same_length c = search rules
 
 returns : tie.Need-returns
 returns c =
-    let f = c.before.before.before.forecast in
+    let f = c.forecast in
     record { says = c.of_size.ensures ∙ ap forecast_answer f.ensures.says; working = f.ensures.working }
 
 pub zibewoka_forecast_spec : {M : Type 1} → statement M

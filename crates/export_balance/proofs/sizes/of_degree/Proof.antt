@@ -6,10 +6,10 @@ use Rattle.export_balance.specs.Answers.{degree_answer}
 use Rattle.export_balance.proofs.sizes.of_degree.Statement.{statement}
 use Rattle.export_balance.proofs.sizes.of_degree.Tie as tie
 
-enum-known-sought : tie.Need-enum-known-sought
+enum-known-sought : tie.Need-enum_known-sought
 enum-known-sought c = search rules
 
-enum-known-sought-2 : tie.Need-enum-known-sought-2
+enum-known-sought-2 : tie.Need-enum_known-sought-in-Refused-1
 enum-known-sought-2 c = search rules
 
 number-requires : tie.Need-number-requires
@@ -18,13 +18,13 @@ number-requires c κs = search rules
 place-requires : tie.Need-place-requires
 place-requires c κs = search rules
 
-returns : tie.Need-returns
-returns c = ap (λ a. degree_answer (sought_says a)) (sym c.before.sought.given.1)
+returns : tie.Need-returns-in-Degree
+returns c = ap (λ a. degree_answer (sought_says a)) (sym c.in-Degree.is)
 
-returns_2 : tie.Need-returns-2
+returns_2 : tie.Need-returns-in-Refused
 returns_2 c =
-    let arm = sym c.before.before.before.sought2.given.1 in
-    rw (c.before.number.ensures, c.place.ensures) (ap (λ a. degree_answer (sought_says a)) arm)
+    let arm = sym c.in-Refused.is in
+    rw (c.number.ensures, c.place.ensures) (ap (λ a. degree_answer (sought_says a)) arm)
 
 pub of_degree_spec : {M : Type 1} → statement M
 of_degree_spec =

@@ -6,10 +6,10 @@ use Rattle.export_balance.specs.Answers.{forecast_answer}
 use Rattle.export_balance.proofs.sizes.of_size.Statement.{statement}
 use Rattle.export_balance.proofs.sizes.of_size.Tie as tie
 
-enum-known-forecasted : tie.Need-enum-known-forecasted
+enum-known-forecasted : tie.Need-enum_known-forecasted
 enum-known-forecasted c = search rules
 
-enum-known-forecasted-2 : tie.Need-enum-known-forecasted-2
+enum-known-forecasted-2 : tie.Need-enum_known-forecasted-in-Refused-1
 enum-known-forecasted-2 c = search rules
 
 number-requires : tie.Need-number-requires
@@ -18,13 +18,13 @@ number-requires c κs = search rules
 place-requires : tie.Need-place-requires
 place-requires c κs = search rules
 
-returns : tie.Need-returns
-returns c = ap (λ a. forecast_answer (forecasted_says a)) (sym c.before.forecasted.given.1)
+returns : tie.Need-returns-in-Size
+returns c = ap (λ a. forecast_answer (forecasted_says a)) (sym c.in-Size.is)
 
-returns_2 : tie.Need-returns-2
+returns_2 : tie.Need-returns-in-Refused
 returns_2 c =
-    let arm = sym c.before.before.before.forecasted2.given.1 in
-    rw (c.before.number.ensures, c.place.ensures) (ap (λ a. forecast_answer (forecasted_says a)) arm)
+    let arm = sym c.in-Refused.is in
+    rw (c.number.ensures, c.place.ensures) (ap (λ a. forecast_answer (forecasted_says a)) arm)
 
 pub of_size_spec : {M : Type 1} → statement M
 of_size_spec =
