@@ -4,22 +4,22 @@ use borrow.Author.Rules.{rules}
 use Rattle.text.proofs.pair.Statement.{statement}
 use Rattle.text.proofs.pair.Tie as tie
 
-field-requires : tie.Need-field-requires
-field-requires c κs = fits_first _ _ _ _ c.before.before.requires
+field-requires : tie.Need-field-next-requires
+field-requires c κs = fits_first _ _ _ _ c.requires
 
-field-requires-2 : tie.Need-field-requires-2
+field-requires-2 : tie.Need-field-requires
 field-requires-2 c κs =
-    let f = c.before.before.before in
-    fits_second _ _ _ _ f.before.before.before.requires _ _ f.field.ensures
+    let f = c in
+    fits_second _ _ _ _ f.requires _ _ f.field-next.ensures
 
-same_length : tie.Need-same-length
+same_length : tie.Need-shape_of-page
 same_length c = search rules
 
 returns : tie.Need-returns
 returns c =
-    let g = c.before.before in
-    let f = g.before.before.before.before in
-    wrote_both _ _ _ _ f.before.before.before.requires _ _ f.field.ensures _ _ g.field2.ensures
+    let g = c in
+    let f = g in
+    wrote_both _ _ _ _ f.requires _ _ f.field-next.ensures _ _ g.field.ensures
 
 pub pair_spec : {M : Type 1} → statement M
 pair_spec = tie.close (tie.spec field-requires field-requires-2 same_length returns)

@@ -5,13 +5,13 @@ use borrow.Author.Rules.{rules}
 use Rattle.text.proofs.numbers.put.Statement.{statement}
 use Rattle.text.proofs.numbers.put.Tie as tie
 
-slice-write-page : tie.Need-slice-write-page
+slice-write-page : tie.Need-bounds-page-at
 slice-write-page c = search rules
 
-add-result : tie.Need-overflow-add-result
+add-result : tie.Need-overflow_add-result
 add-result c = search rules
 
-same_length : tie.Need-same-length
+same_length : tie.Need-shape_of-page
 same_length c = search rules
 
 returns : tie.Need-returns
