@@ -21,29 +21,31 @@ ghost use Rattle.std.specs.Prelude.{◌≤◌, length};
 
 use order::entry_or;
 use rows::out;
+use std::io;
 
 // Runs what is called: a and b are starts and images, or a is a file's words. A number or a slice that the row lacks is 0
 // or empty, and is not looked at.
-fn call(code: usize, numbers: &[u32], a: &[u32], b: &[u32]) {
+fn call(rt: &impl Print, code: usize, numbers: &[u32], a: &[u32], b: &[u32]) -> io::Result<()> {
     match code {
-        12 => answers::checked(lists::check(entry_or(numbers, 0, 0), a, b)),
-        132 => lent::write_list(numbers, a, b, lent::Listed::Inverse),
-        272 => lent::balance(numbers, a, b),
-        321 => lent::file(numbers, a),
-        432 => lent::write_list(numbers, a, b, lent::Listed::Next),
-        532 => lent::size_up(numbers, a, b, false),
-        632 => lent::size_up(numbers, a, b, true),
-        732 => lent::write_list(numbers, a, b, lent::Listed::Folded),
-        800..=899 => {}
-        _ => out::no_call(),
+        12 => answers::checked(rt, lists::check(entry_or(numbers, 0, 0), a, b)),
+        132 => lent::write_list(rt, numbers, a, b, lent::Listed::Inverse),
+        272 => lent::balance(rt, numbers, a, b),
+        321 => lent::file(rt, numbers, a),
+        432 => lent::write_list(rt, numbers, a, b, lent::Listed::Next),
+        532 => lent::size_up(rt, numbers, a, b, false),
+        632 => lent::size_up(rt, numbers, a, b, true),
+        732 => lent::write_list(rt, numbers, a, b, lent::Listed::Folded),
+        800..=899 => Ok(()),
+        _ => out::no_call(rt),
     }
 }
 
 // Prints a row, reads it and runs it.
-fn run_row(line: &[u8], entries: &mut [u32]) {
-    out::line(line);
+fn run_row(rt: &impl Print, line: &[u8], entries: &mut [u32]) -> io::Result<()> {
+    out::line(rt, line)?;
     let row = rows::read(line, entries);
     call(
+        rt,
         rows::code_of(
             b" check inverse-list balance file next-list forecast least-degree fold #",
             line,
@@ -52,24 +54,25 @@ fn run_row(line: &[u8], entries: &mut [u32]) {
         rows::part(entries, row, 0),
         rows::part(entries, row, 1),
         rows::part(entries, row, 2),
-    );
+    )
 }
 
 // Runs the rows one after the other.
-fn run_rows(text: &[u8], entries: &mut [u32])
+fn run_rows(rt: &impl Print, text: &[u8], entries: &mut [u32]) -> io::Result<()>
     requires { length text.now ≤ 65536 }
 {
     let mut at = 0;
     while at < text.len() {
-        let end = bytes::scan::find(text, at, text.len(), b'\n');
-        run_row(&text[at..end], entries);
+        let end = rows::find(text, at, b'\n');
+        run_row(rt, &text[at..end], entries)?;
         at = end + 1;
     }
+    Ok(())
 }
 
-fn main() {
+fn main(rt: HostRuntime) -> io::Result<()> {
     let mut text = [0u8; 65536];
-    let got = io::read_full(0, &mut text);
+    let got = rows::input::read(&rt, &mut text)?;
     let mut entries = [0u32; rows::ROOM];
-    run_rows(&text[0..got], &mut entries);
+    run_rows(&rt, &text[0..got], &mut entries)
 }

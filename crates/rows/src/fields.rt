@@ -2,7 +2,7 @@
 // star and the number. A field may be empty, which is a second space.
 ghost use Rattle.std.specs.Prelude.{◌≤◌, length};
 
-use crate::at_most;
+use crate::{at_most, find};
 
 // The entries that a row may have: four slices of one more than 32,768, and its numbers.
 pub const ROOM: usize = 131084;
@@ -32,10 +32,8 @@ fn number_of(text: &[u8]) -> usize
         return NONE;
     }
     let mut v = 0;
-    let mut i = 0;
-    while i < text.len() {
-        v = with_digit(v, text[i]);
-        i += 1;
+    for b in text {
+        v = with_digit(v, *b);
     }
     v
 }
@@ -44,7 +42,7 @@ fn number_of(text: &[u8]) -> usize
 fn value_start(text: &[u8]) -> usize
     ensures { result ≤ length text.now }
 {
-    let star = bytes::scan::find(text, 0, text.len(), b'*');
+    let star = find(text, 0, b'*');
     if star == text.len() {
         return 0;
     }
@@ -80,7 +78,7 @@ fn times_of(text: &[u8]) -> usize
 pub(crate) fn slices(text: &[u8]) -> usize
     ensures { result ≤ 1 }
 {
-    if check::same(text, b":") {
+    if text == b":".as_slice() {
         return 1;
     }
     0
@@ -105,10 +103,8 @@ fn fill(entries: &mut [u32], from: usize, to: usize, v: u32) {
     if entries.len() < to {
         return;
     }
-    let mut i = from;
-    while i < to {
+    for i in from..to {
         entries[i] = v;
-        i += 1;
     }
 }
 

@@ -14,13 +14,16 @@
 #![tactic(auto)]
 
 mod fields;
+pub mod input;
 pub mod out;
+mod scan;
 mod words;
 
 ghost use Rattle.std.specs.Prelude.{◌≤◌, length};
 
 pub use fields::ROOM;
 use order::entry_or;
+pub use scan::find;
 pub use words::bytes_of;
 
 // What was read of a row.
@@ -48,7 +51,7 @@ pub(crate) fn at_most(v: usize, most: usize) -> usize
 fn word_end(line: &[u8]) -> usize
     ensures { result ≤ length line.now }
 {
-    bytes::scan::find(line, 0, line.len(), b' ')
+    find(line, 0, b' ')
 }
 
 // Reads what stands behind a row's word, with `entries` as room for its numbers and slices.
@@ -59,7 +62,7 @@ pub fn read(line: &[u8], entries: &mut [u32]) -> Row {
     let mut at = word_end(line);
     while at < line.len() {
         let from = at + 1;
-        let end = bytes::scan::find(line, from, line.len(), b' ');
+        let end = find(line, from, b' ');
         slices = at_most(slices + fields::slices(&line[from..end]), 8);
         used = fields::write(&line[from..end], entries, used);
         ends[slices + 1] = used;
@@ -97,8 +100,8 @@ fn index_of(names: &[u8], word: &[u8]) -> usize {
     let mut index = 0;
     while at < names.len() {
         let from = at + 1;
-        let end = bytes::scan::find(names, from, names.len(), b' ');
-        if check::same(&names[from..end], word) {
+        let end = find(names, from, b' ');
+        if &names[from..end] == word {
             return index;
         }
         at = end;

@@ -1,94 +1,92 @@
 // Lines of text and numbers on standard output.
 use outcomes::Refusal;
+use std::io;
 
-pub fn text(s: &[u8]) {
-    io::write_all(1, s);
+pub fn text(rt: &impl Print, s: &[u8]) -> io::Result<()> {
+    rt.write_all(s)
 }
 
-pub fn number(v: u64) {
-    text(b" ");
-    io::print_decimal(1, v);
+pub fn number(rt: &impl Print, v: u64) -> io::Result<()> {
+    print!(rt; " {v}")
 }
 
-pub fn end() {
-    text(b"\n");
+pub fn end(rt: &impl Print) -> io::Result<()> {
+    text(rt, b"\n")
 }
 
-pub fn line(s: &[u8]) {
-    text(s);
-    end();
+pub fn line(rt: &impl Print, s: &[u8]) -> io::Result<()> {
+    text(rt, s)?;
+    end(rt)
 }
 
 // The answer of a row that is no call.
-pub fn no_call() {
-    line(b" no call");
+pub fn no_call(rt: &impl Print) -> io::Result<()> {
+    line(rt, b" no call")
 }
 
 // Numbers to the line's end.
-fn entries(s: &[u32]) {
-    let mut i = 0;
-    while i < s.len() {
-        number(s[i] as u64);
-        i += 1;
+fn entries(rt: &impl Print, s: &[u32]) -> io::Result<()> {
+    for v in s {
+        number(rt, *v as u64)?;
     }
-    end();
+    end(rt)
 }
 
 // How many entries a part of a table has, and which.
-pub fn stretch(s: &[u32]) {
-    number(s.len() as u64);
-    text(b" :");
-    entries(s);
+pub fn stretch(rt: &impl Print, s: &[u32]) -> io::Result<()> {
+    number(rt, s.len() as u64)?;
+    text(rt, b" :")?;
+    entries(rt, s)
 }
 
 // What a lent table holds.
-pub fn now(s: &[u32]) {
-    text(b"now");
-    entries(s);
+pub fn now(rt: &impl Print, s: &[u32]) -> io::Result<()> {
+    text(rt, b"now")?;
+    entries(rt, s)
 }
 
 // How many bytes were written to a lent text, and what it holds, with a bar at its end.
-pub fn written(count: usize, s: &[u8]) {
-    number(count as u64);
-    end();
-    text(s);
-    line(b"|");
+pub fn written(rt: &impl Print, count: usize, s: &[u8]) -> io::Result<()> {
+    number(rt, count as u64)?;
+    end(rt)?;
+    text(rt, s)?;
+    line(rt, b"|")
 }
 
 // Two numbers, as the number and the place of a refusal.
-pub fn pair(a: u64, b: u64) {
-    number(a);
-    number(b);
-    end();
+pub fn pair(rt: &impl Print, a: u64, b: u64) -> io::Result<()> {
+    number(rt, a)?;
+    number(rt, b)?;
+    end(rt)
 }
 
 // The number and the place of a refusal.
-pub fn refusal(r: Refusal) {
-    pair(r.number() as u64, r.place() as u64);
+pub fn refusal(rt: &impl Print, r: Refusal) -> io::Result<()> {
+    pair(rt, r.number() as u64, r.place() as u64)
 }
 
 // 0 and a value.
-pub fn one(a: u64) {
-    pair(0, a);
+pub fn one(rt: &impl Print, a: u64) -> io::Result<()> {
+    pair(rt, 0, a)
 }
 
 // The same with two values.
-pub fn two(a: u64, b: u64) {
-    number(0);
-    pair(a, b);
+pub fn two(rt: &impl Print, a: u64, b: u64) -> io::Result<()> {
+    number(rt, 0)?;
+    pair(rt, a, b)
 }
 
 // The same with three values.
-pub fn three(a: u64, b: u64, c: u64) {
-    number(0);
-    number(a);
-    pair(b, c);
+pub fn three(rt: &impl Print, a: u64, b: u64, c: u64) -> io::Result<()> {
+    number(rt, 0)?;
+    number(rt, a)?;
+    pair(rt, b, c)
 }
 
 // The same with four values.
-pub fn four(a: u64, b: u64, c: u64, d: u64) {
-    number(0);
-    number(a);
-    number(b);
-    pair(c, d);
+pub fn four(rt: &impl Print, a: u64, b: u64, c: u64, d: u64) -> io::Result<()> {
+    number(rt, 0)?;
+    number(rt, a)?;
+    number(rt, b)?;
+    pair(rt, c, d)
 }

@@ -27,10 +27,8 @@ fn byte(words: &[u32], i: usize) -> u8 {
 // The first 256 bytes of the words, and zeros.
 pub fn bytes_of(words: &[u32]) -> [u8; 256] {
     let mut laid = [0u8; 256];
-    let mut i = 0;
-    while i < 256 {
+    for i in 0..256 {
         laid[i] = byte(words, i);
-        i += 1;
     }
     laid
 }

@@ -7,7 +7,7 @@
 
 mod numbers;
 
-ghost use Rattle.std.specs.Prelude.{[], ◌∷◌, ◌++◌, ◌<◌, nat_abs};
+ghost use Rattle.std.specs.Prelude.{[], ◌∷◌, ◌++◌, ◌≡◌, ◌<◌, ◌≤◌, length, drop, nat_abs};
 ghost use Rattle.text.specs.Text.{max_size, decimal as Text·decimal, signed as Text·signed, pair_text, refusal_text};
 ghost use Rattle.text.specs.Page.{Fits, Wrote};
 
@@ -40,11 +40,21 @@ pub fn pair(page: &mut [u8], at: usize, v: u32, w: u32, after: u8) -> usize
     field(page, next, w, after)
 }
 
+// Copies s over the page's start, and answers how many bytes that are.
+pub fn copy(s: &[u8], page: &mut [u8]) -> usize
+    requires { length s.now ≤ length page.old }
+    ensures counts { result ≡ length s.now }
+    ensures copied { page.new ≡ s.now ++ drop (length s.now) page.old }
+{
+    page[..s.len()].copy_from_slice(s);
+    s.len()
+}
+
 // Writes a refusal's line at the page's start.
 pub fn refusal(page: &mut [u8], number: u32, place: u32) -> usize
     requires { Fits page.old 0 (refusal_text number place) }
     ensures { Wrote page.old 0 (refusal_text number place) page.new result }
 {
-    let next = bytes::copy(b"refused ", page);
+    let next = copy(b"refused ", page);
     pair(page, next, number, place, 10)
 }

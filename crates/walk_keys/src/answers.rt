@@ -2,20 +2,22 @@
 use bookmarks::{Bookmark, Marked};
 use preimages::Inverted;
 use rows::out;
+use std::io;
 use walks::{Found, Moved};
 use weights::{Stretched, Weighed};
 
-pub(crate) fn found(a: Found) {
+pub(crate) fn found(rt: &impl Print, a: Found) -> io::Result<()> {
     match a {
-        Found::Refused(r) => out::refusal(r),
-        Found::At(x) => out::one(x as u64),
+        Found::Refused(r) => out::refusal(rt, r),
+        Found::At(x) => out::one(rt, x as u64),
     }
 }
 
-pub(crate) fn moved(a: Moved) {
+pub(crate) fn moved(rt: &impl Print, a: Moved) -> io::Result<()> {
     match a {
-        Moved::Refused(r) => out::refusal(r),
+        Moved::Refused(r) => out::refusal(rt, r),
         Moved::To(t) => out::four(
+            rt,
             t.place as u64,
             t.interval as u64,
             t.distance as u64,
@@ -24,41 +26,41 @@ pub(crate) fn moved(a: Moved) {
     }
 }
 
-pub(crate) fn inverted(a: Inverted) {
+pub(crate) fn inverted(rt: &impl Print, a: Inverted) -> io::Result<()> {
     match a {
-        Inverted::Refused(r) => out::refusal(r),
-        Inverted::From(t) => out::two(t.place as u64, t.interval as u64),
+        Inverted::Refused(r) => out::refusal(rt, r),
+        Inverted::From(t) => out::two(rt, t.place as u64, t.interval as u64),
     }
 }
 
-pub(crate) fn weighed(a: Weighed) {
+pub(crate) fn weighed(rt: &impl Print, a: Weighed) -> io::Result<()> {
     match a {
-        Weighed::Refused(r) => out::refusal(r),
-        Weighed::Weight(w) => out::one(w as u64),
+        Weighed::Refused(r) => out::refusal(rt, r),
+        Weighed::Weight(w) => out::one(rt, w as u64),
     }
 }
 
-pub(crate) fn stretched(a: Stretched) {
+pub(crate) fn stretched(rt: &impl Print, a: Stretched) -> io::Result<()> {
     match a {
-        Stretched::Refused(r) => out::refusal(r),
-        Stretched::At(s) => out::two(s.first as u64, s.count as u64),
+        Stretched::Refused(r) => out::refusal(rt, r),
+        Stretched::At(s) => out::two(rt, s.first as u64, s.count as u64),
     }
 }
 
 // What a bookmark holds after its move: place, interval, distance, moves, and how many starts these read.
-fn mark(b: Bookmark) {
-    out::text(b"now");
-    out::number(b.place as u64);
-    out::number(b.interval as u64);
-    out::number(b.distance as u64);
-    out::number(b.moves as u64);
-    out::number(b.count);
-    out::end();
+fn mark(rt: &impl Print, b: Bookmark) -> io::Result<()> {
+    out::text(rt, b"now")?;
+    out::number(rt, b.place as u64)?;
+    out::number(rt, b.interval as u64)?;
+    out::number(rt, b.distance as u64)?;
+    out::number(rt, b.moves as u64)?;
+    out::number(rt, b.count)?;
+    out::end(rt)
 }
 
-pub(crate) fn marked(m: Marked) {
+pub(crate) fn marked(rt: &impl Print, m: Marked) -> io::Result<()> {
     let answer = m.moved;
     let after = m.bookmark;
-    moved(answer);
-    mark(after);
+    moved(rt, answer)?;
+    mark(rt, after)
 }

@@ -4,6 +4,7 @@ ghost use Rattle.std.specs.Prelude.{◌≤◌};
 use order::entry_or;
 use questions::{Answered, Question};
 use rows::out;
+use std::io;
 
 // A record that asks about the i-th place, or about 0 where there are fewer, with sevens in the fields to be filled in.
 fn ask(places: &[u32], i: usize) -> Question {
@@ -42,47 +43,47 @@ fn records_of(places: &[u32]) -> [Question; 8] {
 }
 
 // The answer, as the rest of a line.
-fn answer(a: Answered) {
+fn answer(rt: &impl Print, a: Answered) -> io::Result<()> {
     match a {
-        Answered::Passed(c) => out::one(c as u64),
-        Answered::Refused(r) => out::refusal(r),
-        Answered::PlaceOrder(i) => out::pair(16, i as u64),
+        Answered::Passed(c) => out::one(rt, c as u64),
+        Answered::Refused(r) => out::refusal(rt, r),
+        Answered::PlaceOrder(i) => out::pair(rt, 16, i as u64),
     }
 }
 
 // What a record that was lent holds: its place, the interval found, the place and the interval reached, the count, and the
 // distance.
-fn now(q: Question) {
-    out::text(b"now");
-    out::number(q.place as u64);
-    out::number(q.interval as u64);
-    out::number(q.to_place as u64);
-    out::number(q.to_interval as u64);
-    out::number(q.count as u64);
-    out::number(q.distance as u64);
-    out::end();
+fn now(rt: &impl Print, q: Question) -> io::Result<()> {
+    out::text(rt, b"now")?;
+    out::number(rt, q.place as u64)?;
+    out::number(rt, q.interval as u64)?;
+    out::number(rt, q.to_place as u64)?;
+    out::number(rt, q.to_interval as u64)?;
+    out::number(rt, q.count as u64)?;
+    out::number(rt, q.distance as u64)?;
+    out::end(rt)
 }
 
 // The records that were lent, a line each.
-fn records(questions: [Question; 8], count: usize)
+fn records(rt: &impl Print, questions: [Question; 8], count: usize) -> io::Result<()>
     requires { count ≤ 8 }
 {
-    let mut i = 0;
-    while i < count {
-        now(questions[i]);
-        i += 1;
+    for i in 0..count {
+        now(rt, questions[i])?;
     }
+    Ok(())
 }
 
 // Asks about the places together, and prints the answer and the records.
 pub(crate) fn questions(
+    rt: &impl Print,
     n: u32,
     starts: &[u32],
     images: &[u32],
     holders: &[u32],
     lengths: &[u32],
     places: &[u32],
-) {
+) -> io::Result<()> {
     let count = eight_of(places.len());
     let few = few_questions::answer_few(
         n,
@@ -95,6 +96,6 @@ pub(crate) fn questions(
     );
     let answered = few.answered;
     let left = few.questions;
-    answer(answered);
-    records(left, count);
+    answer(rt, answered)?;
+    records(rt, left, count)
 }

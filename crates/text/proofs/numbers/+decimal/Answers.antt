@@ -1,0 +1,24 @@
+-- `decimal` meets its contract: the digits of a tenth of v, and then the last one.
+use Rattle.std.proofs.Common.{arith}
+use Rattle.text.proofs.Writing.{fits_first, fits_second, wrote_both}
+use Rattle.text.proofs.Digits.{decimal_small, decimal_large}
+use Rattle.text.proofs.numbers.+decimal.Goals as goal
+
+pub put-requires : goal.put-requires
+put-requires t c = rw (decimal_small c.args.v c.if-v-lt10.true) at c.requires
+
+pub returns-then-v-lt10 : goal.returns-then-v-lt10
+returns-then-v-lt10 t c = rw (decimal_small c.args.v c.if-v-lt10.true) c.put.ensures
+
+pub decimal-next-requires : goal.decimal-next-requires
+decimal-next-requires t c =
+    (omega arith, fits_first _ _ _ _ (rw (decimal_large c.args.v c.if-v-lt10.false c.ranges.v.fits) at c.requires))
+
+pub put-requires-2 : goal.put-requires-2
+put-requires-2 t c =
+    fits_second _ _ _ _ (rw (decimal_large c.args.v c.if-v-lt10.false c.ranges.v.fits) at c.requires) _ _ c.decimal-next.ensures
+
+pub returns : goal.returns
+returns t c =
+    let e = decimal_large c.args.v c.if-v-lt10.false c.ranges.v.fits in
+    rw e (wrote_both _ _ _ _ (rw e at c.requires) _ _ c.decimal-next.ensures _ _ c.put-2.ensures)
