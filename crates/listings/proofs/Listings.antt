@@ -5,7 +5,7 @@ use mathlib.Core.Logic.{◌⊎◌, inl, inr}
 use mathlib.Core.List.{List, ◌++◌}
 use native.Mathlib.Omega.{arith}
 use lib.ListN.{length, take, drop, length-append}
-use lib.Seq.{take-append_seam, take-length}
+use lib.Seq.{take-append_seam}
 use lib.Dec.{ltb}
 use borrow.Author.Tests.{lt-ltb, le-ltb}
 use Rattle.order.proofs.Laws.{lt_or_le}
@@ -51,15 +51,8 @@ module _ (bytes text page page' : List ℕ) (end : ℕ) (w : Wrote page 0 (listi
   all : end ≤ length text → count ≡ end
   all l = rw (le-ltb _ _ l) at fitting
 
-  pub count_within : (count ≤ end) × (count ≤ length text)
-  count_within = go (lt_or_le (length text) end)
-    where
-      go : (length text < end) ⊎ (end ≤ length text) → (count ≤ end) × (count ≤ length text)
-      go (inl l) = (omega (arith, none l), omega (arith, none l))
-      go (inr l) = (omega (arith, all l), omega (arith, all l))
-
   pub list_copied : (n : ℕ) (text' : List ℕ) → n ≡ length (take count page')
-      → text' ≡ take (length (take count page')) (take count page') ++ drop (length (take count page')) text → FileListed bytes text text' n
+      → text' ≡ take count page' ++ drop (length (take count page')) text → FileListed bytes text text' n
   list_copied n text' f g = go (lt_or_le (length text) end)
     where
       go : (length text < end) ⊎ (end ≤ length text) → FileListed bytes text text' n
@@ -69,7 +62,7 @@ module _ (bytes text page page' : List ℕ) (end : ℕ) (w : Wrote page 0 (listi
       go (inr l) =
           let e = le-ltb (length text) (length (listing_of bytes)) (omega (arith, w.till)) in
           let s = ap (λ (k : ℕ). take k page') (all l) ∙ wrote_head page (listing_of bytes) page' end w in
-          record { counts = rw e (f ∙ ap length s); text_at_exit = rw e (g ∙ rw (s, take-length)) }
+          record { counts = rw e (f ∙ ap length s); text_at_exit = rw e (g ∙ rw s) }
 
 -- the bytes that are counted stand in the text
 pub listed_within : (bytes text text' : List ℕ) (count : ℕ) → FileListed bytes text text' count → count ≤ length text'

@@ -150,7 +150,7 @@ fn list_by(page: &mut [u8], file: &[u8], text: &mut [u8]) -> usize
 {
     let end = listing(page, file);
     let count = fitting(end, text.len());
-    bytes::copy(&page[..count], text)
+    text::copy(&page[..count], text)
 }
 
 // Writes the listing of a file, or the line of its refusal, at the start of `text`, and answers how many bytes that are;
