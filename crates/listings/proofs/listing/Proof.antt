@@ -7,41 +7,41 @@ use borrow.Author.Rules.{rules}
 use Rattle.listings.proofs.listing.Statement.{statement}
 use Rattle.listings.proofs.listing.Tie as tie
 
-read-header-requires : tie.Need-read-header-requires
+read-header-requires : tie.Need-read_header-requires
 read-header-requires c κs = search rules
 
-enum-known-r : tie.Need-enum-known-r
+enum-known-r : tie.Need-enum_known-r
 enum-known-r c = search rules
 
-refusal-line-requires : tie.Need-refusal-line-requires
+refusal-line-requires : tie.Need-refusal_line-requires
 refusal-line-requires c κs = search rules
 
-enum-known-h : tie.Need-enum-known-h
+enum-known-h : tie.Need-enum_known-h
 enum-known-h c = search rules
 
-list-body-requires : tie.Need-list-body-requires
+list-body-requires : tie.Need-list_body-requires
 list-body-requires c κs =
-    let h = c.before.before in
-    let r = h.before.before in
-    (heading_laid _ _ _ (sym (ap file_says h.h.given.1) ∙ r.read-header.ensures), r.before.before.before.requires)
+    let h = c in
+    let r = h in
+    (heading_laid _ _ _ (sym (ap file_says h.in-Read.is) ∙ r.read_header.ensures), r.requires)
 
-same_length : tie.Need-same-length
+same_length : tie.Need-shape_of-page-in-Refused
 same_length c = search rules
 
-returns : tie.Need-returns
+returns : tie.Need-returns-in-Refused
 returns c =
-    let f = c.before.before in
-    let w = f.before.before.before in
-    rw (listing_refused _ _ _ (sym (ap file_says w.r.given.1) ∙ w.before.before.read-header.ensures)) f.refusal-line.ensures
+    let f = c in
+    let w = f in
+    rw (listing_refused _ _ _ (sym (ap file_says w.in-Refused.is) ∙ w.read_header.ensures)) f.refusal_line.ensures
 
-same_length_2 : tie.Need-same-length-2
+same_length_2 : tie.Need-shape_of-page-in-Read
 same_length_2 c = search rules
 
-returns_2 : tie.Need-returns-2
+returns_2 : tie.Need-returns-in-Read
 returns_2 c =
-    let b = c.before.before in
-    let h = b.before.before.before in
-    rw (← listing_read _ _ (sym (ap file_says h.h.given.1) ∙ h.before.before.read-header.ensures)) b.list-body.ensures
+    let b = c in
+    let h = b in
+    rw (← listing_read _ _ (sym (ap file_says h.in-Read.is) ∙ h.read_header.ensures)) b.list_body.ensures
 
 pub listing_spec : {M : Type 1} → statement M
 listing_spec =

@@ -13,16 +13,16 @@ place-requires c κs = search rules
 
 refusal-requires : tie.Need-refusal-requires
 refusal-requires c κs =
-    let l = refusal_length c.before.number.result c.place.result (omega arith) (omega arith) in
+    let l = refusal_length c.number.result c.place.result (omega arith) (omega arith) in
     record { room = omega arith }
 
-same_length : tie.Need-same-length
+same_length : tie.Need-shape_of-page
 same_length c = search rules
 
 returns : tie.Need-returns
 returns c =
-    let f = c.before.before in
-    rw (f.before.before.number.ensures, f.before.place.ensures) at f.refusal.ensures
+    let f = c in
+    rw (f.number.ensures, f.place.ensures) at f.refusal.ensures
 
 pub refusal_line_spec : {M : Type 1} → statement M
 refusal_line_spec = tie.close (tie.spec number-requires place-requires refusal-requires same_length returns)

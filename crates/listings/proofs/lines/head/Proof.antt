@@ -12,22 +12,22 @@ use Rattle.listings.proofs.lines.head.Tie as tie
 fit : (c : tie.Start) → Fits c.args.page.now c.args.at (pair_text c.args.n c.args.k 32 ++ pair_text c.args.d c.args.size 10)
 fit c = rw head_parts at c.requires
 
-pair-requires : tie.Need-pair-requires
+pair-requires : tie.Need-pair-next-requires
 pair-requires c κs = fits_first _ _ _ _ (fit c.before.before)
 
-pair-requires-2 : tie.Need-pair-requires-2
+pair-requires-2 : tie.Need-pair-requires
 pair-requires-2 c κs =
-    let p = c.before.before.before in
-    fits_second _ _ _ _ (fit p.before.before.before) _ _ p.pair.ensures
+    let p = c in
+    fits_second _ _ _ _ (fit p.before.before.before.before.before.before) _ _ p.pair-next.ensures
 
-same_length : tie.Need-same-length
+same_length : tie.Need-shape_of-page
 same_length c = search rules
 
 returns : tie.Need-returns
 returns c =
-    let q = c.before.before in
-    let p = q.before.before.before.before in
-    rw head_parts (wrote_both _ _ _ _ (fit p.before.before.before) _ _ p.pair.ensures _ _ q.pair2.ensures)
+    let q = c in
+    let p = q in
+    rw head_parts (wrote_both _ _ _ _ (fit p.before.before.before.before.before.before.before.before.before) _ _ p.pair-next.ensures _ _ q.pair.ensures)
 
 pub head_spec : {M : Type 1} → statement M
 head_spec = tie.close (tie.spec pair-requires pair-requires-2 same_length returns)

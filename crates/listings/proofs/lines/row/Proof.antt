@@ -10,61 +10,61 @@ use Rattle.listings.proofs.lines.row.Statement.{statement}
 use Rattle.listings.proofs.lines.row.Tie as tie
 
 -- the call that a part belongs to
-abbrev start₁ : tie.After-pair → tie.Start
+abbrev start₁ : tie.After-pair-at_image → tie.Start
 start₁ c = c.before.before.before
 
-abbrev start₂ : tie.After-field → tie.Start
-start₂ c = start₁ c.before.before.before.before
+abbrev start₂ : tie.After-field-at_shift → tie.Start
+start₂ c = c.before.before.before.before.before.before.before
 
-abbrev start₃ : tie.After-signed-field → tie.Start
-start₃ c = start₂ c.before.before.before.before
+abbrev start₃ : tie.After-signed_field-at_holder → tie.Start
+start₃ c = c.before.before.before.before.before.before.before.before.before.before.before
 
 -- the room for what is left to be written after each, and the shift's field
 fit₀ : (c : tie.Start) → Fits c.args.page.now c.args.at (pair_text c.args.x c.args.start 32
     ++ ((decimal c.args.image ++ (32 ∷ [])) ++ ((signed c.args.shift ++ (32 ∷ [])) ++ pair_text c.args.holder c.args.weight 10)))
 fit₀ c = rw row_parts at c.requires.1
 
-fit₁ : (c : tie.After-pair) → Fits c.pair.new.0 c.pair.result ((decimal (start₁ c).args.image ++ (32 ∷ []))
-    ++ ((signed (start₁ c).args.shift ++ (32 ∷ [])) ++ pair_text (start₁ c).args.holder (start₁ c).args.weight 10))
-fit₁ c = fits_second _ _ _ _ (fit₀ (start₁ c)) _ _ c.pair.ensures
+fit₁ : (c : tie.After-pair-at_image) → Fits c.pair-at_image.new.page c.pair-at_image.result ((decimal c.args.image ++ (32 ∷ []))
+    ++ ((signed c.args.shift ++ (32 ∷ [])) ++ pair_text c.args.holder c.args.weight 10))
+fit₁ c = fits_second _ _ _ _ (fit₀ (start₁ c)) _ _ c.pair-at_image.ensures
 
-fit₂ : (c : tie.After-field) → Fits c.field.new.0 c.field.result
-    ((signed (start₂ c).args.shift ++ (32 ∷ [])) ++ pair_text (start₂ c).args.holder (start₂ c).args.weight 10)
-fit₂ c = fits_second _ _ _ _ (fit₁ c.before.before.before.before) _ _ c.field.ensures
+fit₂ : (c : tie.After-field-at_shift) → Fits c.field-at_shift.new.page c.field-at_shift.result
+    ((signed c.args.shift ++ (32 ∷ [])) ++ pair_text c.args.holder c.args.weight 10)
+fit₂ c = fits_second _ _ _ _ (fit₁ c.before.before.before.before) _ _ c.field-at_shift.ensures
 
-shifted : (c : tie.After-signed-field) → let f = c.before.before.before.before.field in
-    Wrote f.new.0 f.result (signed (start₃ c).args.shift ++ (32 ∷ [])) c.signed-field.new.0 c.signed-field.result
-shifted c = rw (bits_back _ (start₃ c).ranges.shift) at c.signed-field.ensures
+shifted : (c : tie.After-signed_field-at_holder) → let f = c.field-at_shift in
+    Wrote f.new.page f.result (signed c.args.shift ++ (32 ∷ [])) c.signed_field-at_holder.new.page c.signed_field-at_holder.result
+shifted c = rw (bits_back _ c.ranges.shift) at c.signed_field-at_holder.ensures
 
-pair-requires : tie.Need-pair-requires
+pair-requires : tie.Need-pair-at_image-requires
 pair-requires c κs = fits_first _ _ _ _ (fit₀ c.before.before)
 
-field-requires : tie.Need-field-requires
+field-requires : tie.Need-field-at_shift-requires
 field-requires c κs = fits_first _ _ _ _ (fit₁ c.before.before.before)
 
-signed-field-requires : tie.Need-signed-field-requires
+signed-field-requires : tie.Need-signed_field-at_holder-requires
 signed-field-requires c κs =
-    let f = c.before.before.before in
-    rw (bits_back _ (start₂ f).ranges.shift) ((start₂ f).requires.0, fits_first _ _ _ _ (fit₂ f))
+    let f = c in
+    rw (bits_back _ f.ranges.shift) (f.requires.0, fits_first _ _ _ _ (fit₂ f.before.before.before))
 
-pair-requires-2 : tie.Need-pair-requires-2
+pair-requires-2 : tie.Need-pair-requires
 pair-requires-2 c κs =
-    let p = c.before.before.before in
-    fits_second _ _ _ _ (fit₂ p.before.before.before.before) _ _ (shifted p)
+    let p = c in
+    fits_second _ _ _ _ (fit₂ p.before.before.before.before.before.before.before) _ _ (shifted p.before.before.before)
 
-same_length : tie.Need-same-length
+same_length : tie.Need-shape_of-page
 same_length c = search rules
 
 returns : tie.Need-returns
 returns c =
-    let p₄ = c.before.before in
-    let p₃ = p₄.before.before.before.before in
-    let p₂ = p₃.before.before.before.before in
-    let p₁ = p₂.before.before.before.before in
+    let p₄ = c in
+    let p₃ = p₄ in
+    let p₂ = p₃ in
+    let p₁ = p₂ in
     rw row_parts
-    (wrote_both _ _ _ _ (fit₀ (start₁ p₁)) _ _ p₁.pair.ensures _ _
-    (wrote_both _ _ _ _ (fit₁ p₁) _ _ p₂.field.ensures _ _
-    (wrote_both _ _ _ _ (fit₂ p₂) _ _ (shifted p₃) _ _ p₄.pair2.ensures)))
+    (wrote_both _ _ _ _ (fit₀ (start₁ p₁.before.before.before.before.before.before.before.before.before.before.before.before.before.before)) _ _ p₁.pair-at_image.ensures _ _
+    (wrote_both _ _ _ _ (fit₁ p₁.before.before.before.before.before.before.before.before.before.before.before.before.before.before) _ _ p₂.field-at_shift.ensures _ _
+    (wrote_both _ _ _ _ (fit₂ p₂.before.before.before.before.before.before.before.before.before.before) _ _ (shifted p₃.before.before.before.before.before.before) _ _ p₄.pair.ensures)))
 
 pub row_spec : {M : Type 1} → statement M
 row_spec =

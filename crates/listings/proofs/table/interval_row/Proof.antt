@@ -14,60 +14,60 @@ abbrev tables-of : tie.Start → Tables
 tables-of a = tables a.args.starts.now a.args.images.now a.args.holders.now a.args.lengths.now
 
 -- the call that a weight belongs to
-abbrev start : tie.After-weight-of → tie.Start
+abbrev start : tie.After-weight_of-weight → tie.Start
 start c = c.before.before.before.before.before.before.before.before
 
-mul-start : tie.Need-overflow-mul-start
+mul-start : tie.Need-offset_bounds-starts-i
 mul-start c = search rules
 
-shared-slice-read-start : tie.Need-shared-slice-read-start
+shared-slice-read-start : tie.Need-bounds-starts-i
 shared-slice-read-start c = search rules
 
-mul-image : tie.Need-overflow-mul-image
+mul-image : tie.Need-offset_bounds-images-i
 mul-image c = search rules
 
-shared-slice-read-image : tie.Need-shared-slice-read-image
+shared-slice-read-image : tie.Need-bounds-images-i
 shared-slice-read-image c = search rules
 
-weight-of-requires : tie.Need-weight-of-requires
+weight-of-requires : tie.Need-weight_of-weight-requires
 weight-of-requires c κs = search rules
 
 shift-requires : tie.Need-shift-requires
 shift-requires c κs = search rules
 
-mul-row : tie.Need-overflow-mul-row
+mul-row : tie.Need-offset_bounds-holders-i
 mul-row c = search rules
 
-shared-slice-read-row : tie.Need-shared-slice-read-row
+shared-slice-read-row : tie.Need-bounds-holders-i
 shared-slice-read-row c =
     let a = start c.before.before.before in
-    omega (arith, holders_long a.args.n (tables-of a) a.pre.0 a.args.x a.pre.1)
+    omega (arith, holders_long a.args.n (tables-of a) a.requires.0 a.args.x a.requires.1)
 
 row-requires : tie.Need-row-requires
 row-requires c κs =
-    let s = c.before in
-    let w = s.before.before in
-    let a = start w in
+    let s = c in
+    let w = s in
+    let a = start w.before.before.before in
     let t = tables-of a in
-    let e = row_bits _ t a.pre.0 _ a.pre.1 a.fits.n.fits _ (record { sfits = s.shift.type-inv })
-    s.shift.ensures _ w.weight-of.ensures in (
-      bits_small _ t a.pre.0 _ a.pre.1 a.fits.n.fits _ (record { sfits = s.shift.type-inv }) s.shift.ensures,
-      subst (λ (u : List ℕ). Fits a.args.page.now a.args.at u) (sym e) a.pre.2,
+    let e = row_bits _ t a.requires.0 _ a.requires.1 a.ranges.n.fits _ (record { sfits = s.shift.type_inv })
+    s.shift.ensures _ w.weight_of-weight.ensures in (
+      bits_small _ t a.requires.0 _ a.requires.1 a.ranges.n.fits _ (record { sfits = s.shift.type_inv }) s.shift.ensures,
+      subst (λ (u : List ℕ). Fits a.args.page.now a.args.at u) (sym e) a.requires.2,
     )
 
-same_length : tie.Need-same-length
+same_length : tie.Need-shape_of-page
 same_length c = search rules
 
 returns : tie.Need-returns
 returns c =
-    let r = c.before.before in
-    let k = r.before in
-    let s = k.before in
-    let w = s.before.before in
-    let a = start w in
-    let e = row_bits _ (tables-of a) a.pre.0 _ a.pre.1 a.fits.n.fits _ (record { sfits = s.shift.type-inv })
-    s.shift.ensures _ w.weight-of.ensures in
-    subst (λ (u : List ℕ). Wrote a.args.page.now a.args.at u r.row.new.0 r.row.result) e r.row.ensures
+    let r = c in
+    let k = r in
+    let s = k in
+    let w = s in
+    let a = start w.before.before.before.before.before.before in
+    let e = row_bits _ (tables-of a) a.requires.0 _ a.requires.1 a.ranges.n.fits _ (record { sfits = s.shift.type_inv })
+    s.shift.ensures _ w.weight_of-weight.ensures in
+    subst (λ (u : List ℕ). Wrote a.args.page.now a.args.at u r.row.new.page r.row.result) e r.row.ensures
 
 pub interval_row_spec : {M : Type 1} → statement M
 interval_row_spec =

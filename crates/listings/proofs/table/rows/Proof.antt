@@ -9,65 +9,65 @@ use Rattle.listings.proofs.Rows.{Rows, rows_start, row_fits, rows_more}
 use Rattle.listings.proofs.table.rows.Statement.{statement}
 use Rattle.listings.proofs.table.rows.Tie as tie
 
-abbrev invariant-loop : tie.invariant-loop
-invariant-loop page₀ at n starts images holders lengths next₀ x₀ page next x =
+abbrev invariant-loop-x : tie.invariant-loop-x
+invariant-loop-x page₀ at n starts images holders lengths next₀ x₀ page next x =
     Rows n (tables starts images holders lengths) page₀ at page next x × (length page ≡ length page₀)
 
-abbrev decreases-loop : tie.decreases-loop
-decreases-loop page₀ at n starts images holders lengths next₀ x₀ page next x = length starts - x
+abbrev decreases-loop-x : tie.decreases-loop-x
+decreases-loop-x page₀ at n starts images holders lengths next₀ x₀ page next x = length starts - x
 
-abbrev tables-of : tie.Start invariant-loop decreases-loop → Tables
+abbrev tables-of : tie.Start invariant-loop-x decreases-loop-x → Tables
 tables-of a = tables a.args.starts.now a.args.images.now a.args.holders.now a.args.lengths.now
 
 -- the call that a turn belongs to
-abbrev start : tie.At-loop invariant-loop decreases-loop → tie.Start invariant-loop decreases-loop
+abbrev start : tie.At-loop-x invariant-loop-x decreases-loop-x → tie.Start invariant-loop-x decreases-loop-x
 start c = c.before.before.before.before.before.before
 
-loop-holds : tie.Need-loop-init invariant-loop decreases-loop
+loop-holds : tie.Need-loop-x-init invariant-loop-x decreases-loop-x
 loop-holds c = (rows_start _ _ _ _ (omega arith), refl)
 
-cast-interval-row : tie.Need-overflow-cast-interval-row invariant-loop decreases-loop
-cast-interval-row c = omega (arith, (start c.before.before).pre.0.few)
+cast-interval-row : tie.Need-overflow_cast-x invariant-loop-x decreases-loop-x
+cast-interval-row c = omega (arith, c.requires.0.few)
 
-interval-row-requires : tie.Need-interval-row-requires invariant-loop decreases-loop
+interval-row-requires : tie.Need-interval_row-next-requires invariant-loop-x decreases-loop-x
 interval-row-requires c κs =
-    let l = c.before.before in
-    let a = start l in
-    let h = c.before.loop-test.true in
-    (a.pre.0, h, row_fits _ (tables-of a) a.pre.0 a.fits.n.fits _ _ a.pre.1 _ _ _ l.loop.invariant.0 h)
+    let l = c in
+    let a = start l.before.before in
+    let h = c.loop-x-test.true in
+    (a.requires.0, h, row_fits _ (tables-of a) a.requires.0 a.ranges.n.fits _ _ a.requires.1 _ _ _ l.loop-x.invariant.0 h)
 
-add-x : tie.Need-overflow-add-x invariant-loop decreases-loop
+add-x : tie.Need-overflow_add-x invariant-loop-x decreases-loop-x
 add-x c = search rules
 
-loop-less : tie.Need-loop-smaller invariant-loop decreases-loop
+loop-less : tie.Need-loop-x-smaller invariant-loop-x decreases-loop-x
 loop-less c = search rules
 
-loop-again : tie.Need-loop-preserved invariant-loop decreases-loop
+loop-again : tie.Need-loop-x-preserved invariant-loop-x decreases-loop-x
 loop-again c =
-    let i = c.before.before in
-    let l = i.before.before.before in
-    let a = start l in (
-      rows_more _ (tables-of a) a.pre.0 a.fits.n.fits _ _ a.pre.1 _ _ _
-          l.loop.invariant.0 i.before.before.loop-test.true _ _ i.interval-row.ensures,
-      i.interval-row.auto.0 ∙ l.loop.invariant.1,
+    let i = c in
+    let l = i in
+    let a = start l.before.before.before.before.before in (
+      rows_more _ (tables-of a) a.requires.0 a.ranges.n.fits _ _ a.requires.1 _ _ _
+          l.loop-x.invariant.0 i.loop-x-test.true _ _ i.interval_row-next.ensures,
+      i.interval_row-next.auto.page ∙ l.loop-x.invariant.1,
     )
 
-same_length : tie.Need-same-length invariant-loop decreases-loop
+same_length : tie.Need-shape_of-page invariant-loop-x decreases-loop-x
 same_length c = search rules
 
-returns : tie.Need-returns invariant-loop decreases-loop
+returns : tie.Need-returns invariant-loop-x decreases-loop-x
 returns c =
-    let l = c.before in
-    let a = start l in
-    let e : l.loop.x ≡ length a.args.starts.now = omega (arith, l.loop.invariant.0.within) in
-    rw e at l.loop.invariant.0.wrote
+    let l = c in
+    let a = start l.before in
+    let e : l.loop-x.x ≡ length a.args.starts.now = omega (arith, l.loop-x.invariant.0.within) in
+    rw e at l.loop-x.invariant.0.wrote
 
 pub rows_spec : {M : Type 1} → statement M
 rows_spec =
     tie.close
     (tie.spec
-    invariant-loop
-    decreases-loop
+    invariant-loop-x
+    decreases-loop-x
     loop-holds
     cast-interval-row
     interval-row-requires

@@ -37,55 +37,55 @@ head_most c =
     (omega (arith, c)) (omega (arith, c)) (omega (arith, c)) (omega (arith, c))
 
 -- the places: the call, and after the first line is written
-abbrev start : tie.After-head → tie.Start
+abbrev start : tie.After-head-next → tie.Start
 start c = c.before.before.before.before.before.before.before
 
-abbrev headed : tie.After-rows-arg2 → tie.After-head
-headed c = c.before.before.before.before
+abbrev headed : tie.After-rows-arg-1 → tie.After-head-next
+headed c = c.before.before.before
 
-head_wrote : (c : tie.After-head) → let a = start c in
-    Wrote a.args.page.now 0 (head_of a (size_of (listed a).links)) c.head.new.0 c.head.result
+head_wrote : (c : tie.After-head-next) → let a = start c in
+    Wrote a.args.page.now 0 (head_of a (size_of (listed a).links)) c.head-next.new.page c.head-next.result
 head_wrote c =
     let a = start c in
-    subst (λ (z : ℕ). Wrote a.args.page.now 0 (head_of a z) c.head.new.0 c.head.result)
-    (sym (counted a)) c.head.ensures
+    subst (λ (z : ℕ). Wrote a.args.page.now 0 (head_of a z) c.head-next.new.page c.head-next.result)
+    (sym (counted a)) c.head-next.ensures
 
-head-requires : tie.Need-head-requires
+head-requires : tie.Need-head-next-requires
 head-requires c κs =
-    let a = c.before.before.before.before.before.before in
-    record { room = omega (arith, head_most a, a.requires.1) }
+    let a = c in
+    record { room = omega (arith, head_most a.before.before.before.before.before.before, a.requires.1) }
 
-slice-aggregate-rows : tie.Need-slice-aggregate-rows
+slice-aggregate-rows : tie.Need-slice_bounds-rows-end
 slice-aggregate-rows c = sym (length-take-le _ _ (start (headed c)).requires.0.long.0)
 
-slice-aggregate-rows-2 : tie.Need-slice-aggregate-rows-2
-slice-aggregate-rows-2 c = sym (length-take-le _ _ (start (headed c.before)).requires.0.long.1.0)
+slice-aggregate-rows-2 : tie.Need-slice_bounds-rows-end-2
+slice-aggregate-rows-2 c = sym (length-take-le _ _ (start (headed c)).requires.0.long.1.0)
 
-slice-aggregate-rows-3 : tie.Need-slice-aggregate-rows-3
-slice-aggregate-rows-3 c = sym (length-take-le _ _ (start (headed c.before.before)).requires.0.long.1.1.0)
+slice-aggregate-rows-3 : tie.Need-slice_bounds-rows-end-3
+slice-aggregate-rows-3 c = sym (length-take-le _ _ (start (headed c)).requires.0.long.1.1.0)
 
-slice-aggregate-rows-4 : tie.Need-slice-aggregate-rows-4
-slice-aggregate-rows-4 c = sym (length-take-le _ _ (start (headed c.before.before.before)).requires.0.long.1.1.1.0)
+slice-aggregate-rows-4 : tie.Need-slice_bounds-rows-end-4
+slice-aggregate-rows-4 c = sym (length-take-le _ _ (start (headed c)).requires.0.long.1.1.1.0)
 
 rows-requires : tie.Need-rows-requires
 rows-requires c κs =
-    let d = headed c.before.before.before in
+    let d = headed c in
     let a = start d in
-    (a.pre.0.listed, omega (arith, d.head.kept.0, d.head.ensures.till, head_most a, a.pre.0.listed.few, a.pre.1))
+    (a.requires.0.listed, omega (arith, d.head-next.auto.page, d.head-next.ensures.till, head_most a, a.requires.0.listed.few, a.requires.1))
 
-same_length : tie.Need-same-length
+same_length : tie.Need-shape_of-page
 same_length c = search rules
 
 returns : tie.Need-returns
 returns c =
-    let r = c.before.before in
-    let d = headed r.before.before.before.before in
+    let r = c in
+    let d = headed r.before.before.before in
     let a = start d in
     let k = size_of (listed a).links in
-    let x = texts_most a.args.h.n (listed a) a.pre.0.listed (omega (arith, a)) k (omega arith) in
+    let x = texts_most a.args.h.n (listed a) a.requires.0.listed (omega (arith, a)) k (omega arith) in
     let y = length-append (head_of a k) (texts (row_of a.args.h.n (listed a).links.list) (up_to k)) in
     wrote_both _ _ _ _
-    (record { room = omega (arith, y, (head_wrote d).till, d.head.ensures.till, head_most a, a.pre.0.listed.few, a.pre.1) })
+    (record { room = omega (arith, y, (head_wrote d).till, d.head-next.ensures.till, head_most a, a.requires.0.listed.few, a.requires.1) })
     _ _ (head_wrote d) _ _ r.rows.ensures
 
 pub table_spec : {M : Type 1} → statement M

@@ -13,23 +13,23 @@ tables-of a = tables a.args.starts.now a.args.images.now a.args.holders.now a.ar
 weight-requires : tie.Need-weight-requires
 weight-requires c κs = search rules
 
-enum-known-w : tie.Need-enum-known-w
+enum-known-w : tie.Need-enum_known-w
 enum-known-w c = search rules
 
-enum_told : tie.Need-enum-told
+enum_told : tie.Need-enum_told-1
 enum_told c = search rules
 
-returns : tie.Need-returns
+returns : tie.Need-returns-in-Weight
 returns c =
-    let a = c.before.before.before.before.before.before.before.before in
-    weighed _ (tables-of a) a.requires.0 _ a.requires.1 _
-    (sym (ap weighed_says c.before.w.given.1) ∙ c.before.before.before.weight.ensures)
+    let a = c in
+    weighed _ (tables-of a.before.before.before.before.before.before) a.requires.0 _ a.requires.1 _
+    (sym (ap weighed_says c.in-Weight.is) ∙ c.weight.ensures)
 
-returns_2 : tie.Need-returns-2
+returns_2 : tie.Need-returns-in-Refused
 returns_2 c =
-    let a = c.before.before.before.before.before.before.before in
-    unrefused _ (tables-of a) a.requires.0 _ a.requires.1 _ _
-    (sym (ap weighed_says c.enum_told.given.1) ∙ c.before.before.weight.ensures)
+    let a = c in
+    unrefused _ (tables-of a.before.before.before.before.before.before) a.requires.0 _ a.requires.1 _ _
+    (sym (ap weighed_says c.in-Refused.is) ∙ c.weight.ensures)
 
 pub weight_of_spec : {M : Type 1} → statement M
 weight_of_spec = tie.close (tie.spec weight-requires enum-known-w enum_told returns returns_2)
