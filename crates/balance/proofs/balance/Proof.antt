@@ -19,8 +19,8 @@ start c = c.before.before.before.before.before.before.before.before.before
 abbrev planned : tie.After-slice_known-6-1 → tie.After-plan-planned
 planned c = c.before.before
 
-abbrev plan-of : tie.In-Cuts → tie.After-plan-planned
-plan-of c = c.before.before.before
+abbrev plan_of : tie.In-Cuts → tie.After-plan-planned
+plan_of c = c.before.before.before
 
 abbrev filled : tie.After-slice_known-in-Cuts-4-1 → tie.After-fill_tables-answer
 filled c = c.before.before.before.before.before.before.before.before
@@ -43,89 +43,89 @@ promised c p e = let a = start c in
     subst (λ (q : Planned). Plans a.args.n (list_of a) no_limit a.args.d a.args.working.now
     c.plan-planned.new.working q) e c.plan-planned.ensures
 
-plan-requires : tie.Need-plan-planned-requires
-plan-requires c κs = search rules
+plan-planned-requires : tie.Need-plan-planned-requires
+plan-planned-requires c κs = search rules
 
-enum-known-planned : tie.Need-enum_known-planned
-enum-known-planned c = search rules
+enum_known-planned : tie.Need-enum_known-planned
+enum_known-planned c = search rules
 
-enum-known-planned-2 : tie.Need-enum_known-planned-in-Cuts-1
-enum-known-planned-2 c = search rules
+enum_known-planned-in-Cuts-1 : tie.Need-enum_known-planned-in-Cuts-1
+enum_known-planned-in-Cuts-1 c = search rules
 
 -- the cuts that were found
-found : (c : tie.In-Cuts) → let a = start (plan-of c) in
+found : (c : tie.In-Cuts) → let a = start (plan_of c) in
     CutsFound a.args.n (list_of a) no_limit a.args.d a.args.working.now c.plan-planned.new.working
     c.in-Cuts.plan
-found c = promised (plan-of c) _ c.in-Cuts.is
+found c = promised (plan_of c) _ c.in-Cuts.is
 
-slice-reshare-prefix-fill-tables : tie.Need-slice_bounds-fill_tables-end
-slice-reshare-prefix-fill-tables c = (found c).cuts.fits
+slice_bounds-fill_tables-end : tie.Need-slice_bounds-fill_tables-end
+slice_bounds-fill_tables-end c = (found c).cuts.fits
 
-slice-aggregate-fill-tables : tie.Need-slice_bounds-fill_tables-end-in-Cuts
-slice-aggregate-fill-tables c =
+slice_bounds-fill_tables-end-in-Cuts : tie.Need-slice_bounds-fill_tables-end-in-Cuts
+slice_bounds-fill_tables-end-in-Cuts c =
     sym (length-take-le c.in-Cuts.plan.cuts _ (found c).cuts.fits)
 
-fill-tables-requires : tie.Need-fill_tables-answer-requires
-fill-tables-requires c κs =
+fill_tables-answer-requires : tie.Need-fill_tables-answer-requires
+fill_tables-answer-requires c κs =
     let k = c in
-    let a = start (plan-of k.before.before.before.before) in
+    let a = start (plan_of k.before.before.before.before) in
     plan_fillable _ (list_of a) _ (lent_of a) _ _ (found k.before.before.before.before)
 
 clear-requires : tie.Need-clear-requires
 clear-requires c κs =
     let k = cut (filled c.before) in
-    let g = plan-of k in
+    let g = plan_of k in
     let a = start g in
     clearable _ (list_of a) _ _ (found_planned _ (list_of a) _ _ _ _ (found k)) _ g.plan-planned.auto.working
 
-same_length : tie.Need-shape_of-working-in-Refused
-same_length c = search rules
+shape_of-working-in-Refused : tie.Need-shape_of-working-in-Refused
+shape_of-working-in-Refused c = search rules
 
-returns : tie.Need-returns-in-Refused
-returns c =
+returns-in-Refused : tie.Need-returns-in-Refused
+returns-in-Refused c =
     let g = planned c.before in
     let p = promised g _ c.in-Refused.is in
     plan_refused _ (list_of (start g)) _ (lent_of (start g)) _ _ p.0 p.1
 
-same_length_2 : tie.Need-shape_of-to_starts
-same_length_2 c = search rules
+shape_of-to_starts : tie.Need-shape_of-to_starts
+shape_of-to_starts c = search rules
 
-same-length-3 : tie.Need-shape_of-to_images
-same-length-3 c = search rules
+shape_of-to_images : tie.Need-shape_of-to_images
+shape_of-to_images c = search rules
 
-same-length-4 : tie.Need-shape_of-to_holders
-same-length-4 c = search rules
+shape_of-to_holders : tie.Need-shape_of-to_holders
+shape_of-to_holders c = search rules
 
-same-length-5 : tie.Need-shape_of-to_lengths
-same-length-5 c = search rules
+shape_of-to_lengths : tie.Need-shape_of-to_lengths
+shape_of-to_lengths c = search rules
 
-same-length-6 : tie.Need-shape_of-working-in-Cuts
-same-length-6 c = search rules
+shape_of-working-in-Cuts : tie.Need-shape_of-working-in-Cuts
+shape_of-working-in-Cuts c = search rules
 
-returns_2 : tie.Need-returns-in-Cuts
-returns_2 c =
+returns-in-Cuts : tie.Need-returns-in-Cuts
+returns-in-Cuts c =
     let w = c in
     let f = filled w.before.before.before.before in
     let k = cut f in
-    let a = start (plan-of k) in
+    let a = start (plan_of k) in
     plan_filled _ (list_of a) _ (lent_of a) _ _ (found k) _ _ _ f.fill_tables-answer.ensures w.clear.ensures
 
 pub balance_spec : {M : Type 1} → statement M
 balance_spec =
     tie.close
     (tie.spec
-    plan-requires
-    enum-known-planned
-    enum-known-planned-2
-    slice-reshare-prefix-fill-tables
-    slice-aggregate-fill-tables
-    fill-tables-requires
+    plan-planned-requires
+    enum_known-planned
+    enum_known-planned-in-Cuts-1
+    slice_bounds-fill_tables-end
+    slice_bounds-fill_tables-end-in-Cuts
+    fill_tables-answer-requires
     clear-requires
-    same_length
-    returns
-    same_length_2
-    same-length-3
-    same-length-4
-    same-length-5
-    same-length-6
-    returns_2)
+    shape_of-working-in-Refused
+    returns-in-Refused
+    shape_of-to_starts
+    shape_of-to_images
+    shape_of-to_holders
+    shape_of-to_lengths
+    shape_of-working-in-Cuts
+    returns-in-Cuts)

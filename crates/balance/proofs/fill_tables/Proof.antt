@@ -18,8 +18,8 @@ use Rattle.balance.proofs.fill_tables.Tie as tie
 abbrev list_of : tie.Start → Runs
 list_of a = runs a.args.starts.now a.args.images.now
 
-abbrev tables-of : tie.Start → Tables
-tables-of a = tables a.args.to_starts.now a.args.to_images.now a.args.to_holders.now a.args.to_lengths.now
+abbrev tables_of : tie.Start → Tables
+tables_of a = tables a.args.to_starts.now a.args.to_images.now a.args.to_holders.now a.args.to_lengths.now
 
 -- the places: the call that a test belongs to, and a test that is passed, from after the tables are written
 abbrev start : tie.After-is_short → tie.Start
@@ -33,64 +33,64 @@ written c = c.before.before.before.before.before.before.before.before
 
 -- what the test says of the tables
 long : (c : tie.Else-is_short) → let a = start c.before in
-    any_short (length a.args.starts.now + length a.args.cuts.now) (all_columns (tables-of a)) ≡ false
+    any_short (length a.args.starts.now + length a.args.cuts.now) (all_columns (tables_of a)) ≡ false
 long c = sym c.is_short.ensures ∙ c.if-is_short.false
 
-add-size : tie.Need-overflow_add-size
-add-size c = search rules
+overflow_add-size : tie.Need-overflow_add-size
+overflow_add-size c = search rules
 
-is-short-requires : tie.Need-is_short-requires
-is-short-requires c κs = search rules
+is_short-requires : tie.Need-is_short-requires
+is_short-requires c κs = search rules
 
-cast-t16 : tie.Need-overflow_cast-result
-cast-t16 c = search rules
+overflow_cast-result : tie.Need-overflow_cast-result
+overflow_cast-result c = search rules
 
-returns : tie.Need-returns-then-is_short
-returns c =
+returns-then-is_short : tie.Need-returns-then-is_short
+returns-then-is_short c =
     let a = start c.before in
-    fills_short _ _ (tables-of a) (sym c.is_short.ensures ∙ c.if-is_short.true)
+    fills_short _ _ (tables_of a) (sym c.is_short.ensures ∙ c.if-is_short.true)
 
-write-tables-requires : tie.Need-write_tables-requires
-write-tables-requires c κs =
+write_tables-requires : tie.Need-write_tables-requires
+write_tables-requires c κs =
     let e = passed c in
     let a = start e.before in
-    (a.requires.legal, a.requires.starts, none_below _ (map length (all_columns (tables-of a))) (long e))
+    (a.requires.legal, a.requires.starts, none_below _ (map length (all_columns (tables_of a))) (long e))
 
-cast-t27 : tie.Need-overflow_cast-result-2
-cast-t27 c = search rules
+overflow_cast-result-2 : tie.Need-overflow_cast-result-2
+overflow_cast-result-2 c = search rules
 
-same_length : tie.Need-shape_of-to_starts
-same_length c = search rules
+shape_of-to_starts : tie.Need-shape_of-to_starts
+shape_of-to_starts c = search rules
 
-same_length_2 : tie.Need-shape_of-to_images
-same_length_2 c = search rules
+shape_of-to_images : tie.Need-shape_of-to_images
+shape_of-to_images c = search rules
 
-same-length-3 : tie.Need-shape_of-to_holders
-same-length-3 c = search rules
+shape_of-to_holders : tie.Need-shape_of-to_holders
+shape_of-to_holders c = search rules
 
-same-length-4 : tie.Need-shape_of-to_lengths
-same-length-4 c = search rules
+shape_of-to_lengths : tie.Need-shape_of-to_lengths
+shape_of-to_lengths c = search rules
 
-returns_2 : tie.Need-returns
-returns_2 c =
+returns : tie.Need-returns
+returns c =
     let w = written c in
     let e = passed w.before in
     let a = start e.before in
-    fills_done _ _ (tables-of a) (long e) _ w.write_tables.ensures
+    fills_done _ _ (tables_of a) (long e) _ w.write_tables.ensures
     (omega (arith, merged_length a.args.starts.now a.args.cuts.now))
 
 pub fill_tables_spec : {M : Type 1} → statement M
 fill_tables_spec =
     tie.close
     (tie.spec
-    add-size
-    is-short-requires
-    cast-t16
-    returns
-    write-tables-requires
-    cast-t27
-    same_length
-    same_length_2
-    same-length-3
-    same-length-4
-    returns_2)
+    overflow_add-size
+    is_short-requires
+    overflow_cast-result
+    returns-then-is_short
+    write_tables-requires
+    overflow_cast-result-2
+    shape_of-to_starts
+    shape_of-to_images
+    shape_of-to_holders
+    shape_of-to_lengths
+    returns)

@@ -5,21 +5,21 @@ use borrow.Author.Tests.{lt-ltb, le-ltb}
 use Rattle.balance.proofs.is_short.Statement.{statement}
 use Rattle.balance.proofs.is_short.Tie as tie
 
-returns : tie.Need-returns-then-sizes-size
-returns c = simp (lt-ltb _ _ c.if-sizes-size.true)
+returns-then-sizes-size : tie.Need-returns-then-sizes-size
+returns-then-sizes-size c = simp (lt-ltb _ _ c.if-sizes-size.true)
 
-returns_2 : tie.Need-returns-then-sizes-size-2
-returns_2 c = simp (le-ltb _ _ c.if-sizes-size.false, lt-ltb _ _ c.if-sizes-size-2.true)
+returns-then-sizes-size-2 : tie.Need-returns-then-sizes-size-2
+returns-then-sizes-size-2 c = simp (le-ltb _ _ c.if-sizes-size.false, lt-ltb _ _ c.if-sizes-size-2.true)
 
-returns-3 : tie.Need-returns-then-sizes-size-3
-returns-3 c = simp (
+returns-then-sizes-size-3 : tie.Need-returns-then-sizes-size-3
+returns-then-sizes-size-3 c = simp (
   le-ltb _ _ c.if-sizes-size.false,
   le-ltb _ _ c.if-sizes-size-2.false,
   lt-ltb _ _ c.if-sizes-size-3.true,
 )
 
-returns-4 : tie.Need-returns
-returns-4 c =
+returns : tie.Need-returns
+returns c =
     let e = c in
     let a = e.args in
     rw (
@@ -30,4 +30,4 @@ returns-4 c =
     )
 
 pub is_short_spec : {M : Type 1} → statement M
-is_short_spec = tie.close (tie.spec returns returns_2 returns-3 returns-4)
+is_short_spec = tie.close (tie.spec returns-then-sizes-size returns-then-sizes-size-2 returns-then-sizes-size-3 returns)

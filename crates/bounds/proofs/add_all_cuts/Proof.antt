@@ -15,35 +15,35 @@ invariant-loop-j n starts images order totals₀ passed₀ j₀ totals passed j 
 abbrev decreases-loop-j : tie.decreases-loop-j
 decreases-loop-j n starts images order totals₀ passed₀ j₀ totals passed j = length starts - j
 
-loop-holds : tie.Need-loop-j-init invariant-loop-j decreases-loop-j
-loop-holds c = let a = c.requires in (refl, passed_none _ _ a.legal _ a.cleared)
+loop-j-init : tie.Need-loop-j-init invariant-loop-j decreases-loop-j
+loop-j-init c = let a = c.requires in (refl, passed_none _ _ a.legal _ a.cleared)
 
-add-image-from : tie.Need-overflow_add-j invariant-loop-j decreases-loop-j
-add-image-from c = omega arith
+overflow_add-j : tie.Need-overflow_add-j invariant-loop-j decreases-loop-j
+overflow_add-j c = omega arith
 
-image-from-requires : tie.Need-image_from-end-requires invariant-loop-j decreases-loop-j
-image-from-requires c κs = c.requires.ordered
+image_from-end-requires : tie.Need-image_from-end-requires invariant-loop-j decreases-loop-j
+image_from-end-requires c κs = c.requires.ordered
 
-sub-near-end : tie.Need-overflow_sub-end invariant-loop-j decreases-loop-j
-sub-near-end c =
+overflow_sub-end : tie.Need-overflow_sub-end invariant-loop-j decreases-loop-j
+overflow_sub-end c =
     let l = c in
     let a = l in
     omega (arith, c.image_from-end.ensures, from_some _ _ a.requires.legal l.loop-j.j c.loop-j-test.true)
 
-near-end-requires : tie.Need-near_end-to-requires invariant-loop-j decreases-loop-j
-near-end-requires c κs =
+near_end-to-requires : tie.Need-near_end-to-requires invariant-loop-j decreases-loop-j
+near_end-to-requires c κs =
     let l = c in passed_few _ _ l.requires.legal _ _ _ l.loop-j.invariant.1
 
-sub-add-cuts : tie.Need-overflow_sub-to invariant-loop-j decreases-loop-j
-sub-add-cuts c = omega (arith, c.near_end-to.ensures.0)
+overflow_sub-to : tie.Need-overflow_sub-to invariant-loop-j decreases-loop-j
+overflow_sub-to c = omega (arith, c.near_end-to.ensures.0)
 
-cast-add-cuts : tie.Need-overflow_cast-to invariant-loop-j decreases-loop-j
-cast-add-cuts c =
+overflow_cast-to : tie.Need-overflow_cast-to invariant-loop-j decreases-loop-j
+overflow_cast-to c =
     let a = c in
     omega (arith, c.near_end-to.ensures.1, a.requires.few)
 
-add-cuts-requires : tie.Need-add_cuts-requires invariant-loop-j decreases-loop-j
-add-cuts-requires c κs =
+add_cuts-requires : tie.Need-add_cuts-requires invariant-loop-j decreases-loop-j
+add_cuts-requires c κs =
     let l = c in
     let a = l in
     let e = c.near_end-to.ensures in
@@ -52,14 +52,14 @@ add-cuts-requires c κs =
       fits = λ i h. omega (arith, l.loop-j.invariant.1.small i h, e.0, e.1, a.requires.few);
     }
 
-add-j : tie.Need-overflow_add-j-in-loop-j invariant-loop-j decreases-loop-j
-add-j c = omega arith
+overflow_add-j-in-loop-j : tie.Need-overflow_add-j-in-loop-j invariant-loop-j decreases-loop-j
+overflow_add-j-in-loop-j c = omega arith
 
-loop-less : tie.Need-loop-j-smaller invariant-loop-j decreases-loop-j
-loop-less c = omega arith
+loop-j-smaller : tie.Need-loop-j-smaller invariant-loop-j decreases-loop-j
+loop-j-smaller c = omega arith
 
-loop-again : tie.Need-loop-j-preserved invariant-loop-j decreases-loop-j
-loop-again c =
+loop-j-preserved : tie.Need-loop-j-preserved invariant-loop-j decreases-loop-j
+loop-j-preserved c =
     let e = c in
     let m = e in
     let l = m in
@@ -68,8 +68,8 @@ loop-again c =
     m.image_from-end.ensures m.near_end-to.ensures.0 _ e.add_cuts.ensures in
     (e.add_cuts.auto.totals ∙ l.loop-j.invariant.0, next)
 
-same_length : tie.Need-shape_of-totals invariant-loop-j decreases-loop-j
-same_length c = c.loop-j.invariant.0
+shape_of-totals : tie.Need-shape_of-totals invariant-loop-j decreases-loop-j
+shape_of-totals c = c.loop-j.invariant.0
 
 returns : tie.Need-returns invariant-loop-j decreases-loop-j
 returns c =
@@ -82,16 +82,16 @@ add_all_cuts_spec =
     (tie.spec
     invariant-loop-j
     decreases-loop-j
-    loop-holds
-    add-image-from
-    image-from-requires
-    sub-near-end
-    near-end-requires
-    sub-add-cuts
-    cast-add-cuts
-    add-cuts-requires
-    add-j
-    loop-less
-    loop-again
-    same_length
+    loop-j-init
+    overflow_add-j
+    image_from-end-requires
+    overflow_sub-end
+    near_end-to-requires
+    overflow_sub-to
+    overflow_cast-to
+    add_cuts-requires
+    overflow_add-j-in-loop-j
+    loop-j-smaller
+    loop-j-preserved
+    shape_of-totals
     returns)

@@ -19,59 +19,59 @@ inside : (c : tie.After-slice_known-1 invariant-loop-d decreases-loop-d)
 inside c =
     let l = c in omega (arith, l.loop-d.invariant.stored.size, l.requires.sized)
 
-loop-holds : tie.Need-loop-d-init invariant-loop-d decreases-loop-d
-loop-holds c = adding_none _ _
+loop-d-init : tie.Need-loop-d-init invariant-loop-d decreases-loop-d
+loop-d-init c = adding_none _ _
 
-mul-if1 : tie.Need-overflow_mul-d invariant-loop-d decreases-loop-d
-mul-if1 c = omega arith
+overflow_mul-d : tie.Need-overflow_mul-d invariant-loop-d decreases-loop-d
+overflow_mul-d c = omega arith
 
-div-totals : tie.Need-nonzero_div-totals invariant-loop-d decreases-loop-d
-div-totals c = omega arith
+nonzero_div-totals : tie.Need-nonzero_div-totals invariant-loop-d decreases-loop-d
+nonzero_div-totals c = omega arith
 
-sub-totals : tie.Need-overflow_sub-totals invariant-loop-d decreases-loop-d
-sub-totals c =
+overflow_sub-totals : tie.Need-overflow_sub-totals invariant-loop-d decreases-loop-d
+overflow_sub-totals c =
     let l = c in
     omega (arith, (le-div_iff_mul-le {k = l.loop-d.d} {x = 1} {y = l.args.w} (omega arith)).1 (omega arith))
 
-sub-totals-2 : tie.Need-overflow_sub-totals-in-loop-d invariant-loop-d decreases-loop-d
-sub-totals-2 c = omega arith
+overflow_sub-totals-in-loop-d : tie.Need-overflow_sub-totals-in-loop-d invariant-loop-d decreases-loop-d
+overflow_sub-totals-in-loop-d c = omega arith
 
-cast-totals : tie.Need-overflow_cast-totals invariant-loop-d decreases-loop-d
-cast-totals c = omega arith
+overflow_cast-totals : tie.Need-overflow_cast-totals invariant-loop-d decreases-loop-d
+overflow_cast-totals c = omega arith
 
-mul-totals : tie.Need-offset_bounds-totals-d invariant-loop-d decreases-loop-d
-mul-totals c = omega arith
+offset_bounds-totals-d : tie.Need-offset_bounds-totals-d invariant-loop-d decreases-loop-d
+offset_bounds-totals-d c = omega arith
 
-slice-read-totals : tie.Need-bounds-totals-d invariant-loop-d decreases-loop-d
-slice-read-totals c = omega (arith, c.loop-d.invariant.stored.size, c.requires.sized)
+bounds-totals-d : tie.Need-bounds-totals-d invariant-loop-d decreases-loop-d
+bounds-totals-d c = omega (arith, c.loop-d.invariant.stored.size, c.requires.sized)
 
-add-totals : tie.Need-overflow_add-totals invariant-loop-d decreases-loop-d
-add-totals c =
+overflow_add-totals : tie.Need-overflow_add-totals invariant-loop-d decreases-loop-d
+overflow_add-totals c =
     let l = c in omega (arith, adding_fits _ _ _ _ l.loop-d.invariant l.requires (omega arith))
 
-slice-write-totals : tie.Need-bounds-totals-d-in-loop-d invariant-loop-d decreases-loop-d
-slice-write-totals c = inside c
+bounds-totals-d-in-loop-d : tie.Need-bounds-totals-d-in-loop-d invariant-loop-d decreases-loop-d
+bounds-totals-d-in-loop-d c = inside c
 
-add-d : tie.Need-overflow_add-d invariant-loop-d decreases-loop-d
-add-d c = omega arith
+overflow_add-d : tie.Need-overflow_add-d invariant-loop-d decreases-loop-d
+overflow_add-d c = omega arith
 
-loop-less : tie.Need-loop-d-smaller invariant-loop-d decreases-loop-d
-loop-less c = omega arith
+loop-d-smaller : tie.Need-loop-d-smaller invariant-loop-d decreases-loop-d
+loop-d-smaller c = omega arith
 
-loop-again : tie.Need-loop-d-preserved invariant-loop-d decreases-loop-d
-loop-again c = adding_next _ _ _ _ c.loop-d.invariant (omega arith) (inside c)
+loop-d-preserved : tie.Need-loop-d-preserved invariant-loop-d decreases-loop-d
+loop-d-preserved c = adding_next _ _ _ _ c.loop-d.invariant (omega arith) (inside c)
 
-same_length : tie.Need-shape_of-totals-else-d-w invariant-loop-d decreases-loop-d
-same_length c = c.loop-d.invariant.stored.size
+shape_of-totals-else-d-w : tie.Need-shape_of-totals-else-d-w invariant-loop-d decreases-loop-d
+shape_of-totals-else-d-w c = c.loop-d.invariant.stored.size
 
-returns : tie.Need-returns-else-d-w invariant-loop-d decreases-loop-d
-returns c = adding_all _ _ _ _ c.loop-d.invariant (λ h. c.if-d-w.false)
+returns-else-d-w : tie.Need-returns-else-d-w invariant-loop-d decreases-loop-d
+returns-else-d-w c = adding_all _ _ _ _ c.loop-d.invariant (λ h. c.if-d-w.false)
 
-same_length_2 : tie.Need-shape_of-totals-after-loop-d invariant-loop-d decreases-loop-d
-same_length_2 c = c.loop-d.invariant.stored.size
+shape_of-totals-after-loop-d : tie.Need-shape_of-totals-after-loop-d invariant-loop-d decreases-loop-d
+shape_of-totals-after-loop-d c = c.loop-d.invariant.stored.size
 
-returns_2 : tie.Need-returns-after-loop-d invariant-loop-d decreases-loop-d
-returns_2 c = adding_all _ _ _ _ c.loop-d.invariant (λ h. omega arith)
+returns-after-loop-d : tie.Need-returns-after-loop-d invariant-loop-d decreases-loop-d
+returns-after-loop-d c = adding_all _ _ _ _ c.loop-d.invariant (λ h. omega arith)
 
 pub add_cuts_spec : {M : Type 1} → statement M
 add_cuts_spec =
@@ -79,20 +79,20 @@ add_cuts_spec =
     (tie.spec
     invariant-loop-d
     decreases-loop-d
-    loop-holds
-    mul-if1
-    div-totals
-    sub-totals
-    sub-totals-2
-    cast-totals
-    mul-totals
-    slice-read-totals
-    add-totals
-    slice-write-totals
-    add-d
-    loop-less
-    loop-again
-    same_length
-    returns
-    same_length_2
-    returns_2)
+    loop-d-init
+    overflow_mul-d
+    nonzero_div-totals
+    overflow_sub-totals
+    overflow_sub-totals-in-loop-d
+    overflow_cast-totals
+    offset_bounds-totals-d
+    bounds-totals-d
+    overflow_add-totals
+    bounds-totals-d-in-loop-d
+    overflow_add-d
+    loop-d-smaller
+    loop-d-preserved
+    shape_of-totals-else-d-w
+    returns-else-d-w
+    shape_of-totals-after-loop-d
+    returns-after-loop-d)

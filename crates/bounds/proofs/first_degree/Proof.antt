@@ -6,14 +6,14 @@ use Rattle.bounds.proofs.Ruling.{ruled_all, opens}
 use Rattle.bounds.proofs.first_degree.Statement.{statement}
 use Rattle.bounds.proofs.first_degree.Tie as tie
 
-add-t12 : tie.Need-overflow_add-result
-add-t12 c = search rules
+overflow_add-result : tie.Need-overflow_add-result
+overflow_add-result c = search rules
 
-add-t13 : tie.Need-overflow_add-result-then-entries-k
-add-t13 c = search rules
+overflow_add-result-then-entries-k : tie.Need-overflow_add-result-then-entries-k
+overflow_add-result-then-entries-k c = search rules
 
-returns : tie.Need-returns-then-entries-k
-returns c =
+returns-then-entries-k : tie.Need-returns-then-entries-k
+returns-then-entries-k c =
     let a = c in
     record {
       ruled = ruled_all _ _ a.requires.legal _ _ a.requires.from a.requires.high c.if-entries-k.true;
@@ -25,8 +25,8 @@ returns c =
 clear-requires : tie.Need-clear-requires
 clear-requires c κs = search rules
 
-add-all-cuts-requires : tie.Need-add_all_cuts-requires
-add-all-cuts-requires c κs =
+add_all_cuts-requires : tie.Need-add_all_cuts-requires
+add_all_cuts-requires c κs =
     let k = c in
     let a = k in
     record {
@@ -37,17 +37,17 @@ add-all-cuts-requires c κs =
       cleared = cleared_all _ _ k.clear.ensures;
     }
 
-first-within-requires : tie.Need-first_within-degree-requires
-first-within-requires c κs = search rules
+first_within-degree-requires : tie.Need-first_within-degree-requires
+first_within-degree-requires c κs = search rules
 
-first-within-requires-2 : tie.Need-first_within-whole-requires
-first-within-requires-2 c κs = search rules
+first_within-whole-requires : tie.Need-first_within-whole-requires
+first_within-whole-requires c κs = search rules
 
-same_length : tie.Need-shape_of-room
-same_length c = search rules
+shape_of-room : tie.Need-shape_of-room
+shape_of-room c = search rules
 
-returns_2 : tie.Need-returns
-returns_2 c =
+returns : tie.Need-returns
+returns c =
     let f = c in
     let m = f in
     let e = m in
@@ -59,12 +59,12 @@ pub first_degree_spec : {M : Type 1} → statement M
 first_degree_spec =
     tie.close
     (tie.spec
-    add-t12
-    add-t13
-    returns
+    overflow_add-result
+    overflow_add-result-then-entries-k
+    returns-then-entries-k
     clear-requires
-    add-all-cuts-requires
-    first-within-requires
-    first-within-requires-2
-    same_length
-    returns_2)
+    add_all_cuts-requires
+    first_within-degree-requires
+    first_within-whole-requires
+    shape_of-room
+    returns)

@@ -8,31 +8,31 @@ use Rattle.bounds.proofs.Passing.{from_held, from_end}
 use Rattle.bounds.proofs.image_from.Statement.{statement}
 use Rattle.bounds.proofs.image_from.Tie as tie
 
-mul-result : tie.Need-offset_bounds-order-j
-mul-result c = search rules
+offset_bounds-order-j : tie.Need-offset_bounds-order-j
+offset_bounds-order-j c = search rules
 
-shared-slice-read-result : tie.Need-bounds-order-j
-shared-slice-read-result c = let o = ordered_room _ _ c.requires in omega arith
+bounds-order-j : tie.Need-bounds-order-j
+bounds-order-j c = let o = ordered_room _ _ c.requires in omega arith
 
-cast-result : tie.Need-overflow_cast-result
-cast-result c = omega (arith, c.shared_slice_known-1.given c.args.j)
+overflow_cast-result : tie.Need-overflow_cast-result
+overflow_cast-result c = omega (arith, c.shared_slice_known-1.given c.args.j)
 
-mul-result-2 : tie.Need-offset_bounds-images-order
-mul-result-2 c = omega (arith, c.shared_slice_known-1.given c.args.j)
+offset_bounds-images-order : tie.Need-offset_bounds-images-order
+offset_bounds-images-order c = omega (arith, c.shared_slice_known-1.given c.args.j)
 
-shared-slice-read-result-2 : tie.Need-bounds-images-order
-shared-slice-read-result-2 c =
+bounds-images-order : tie.Need-bounds-images-order
+bounds-images-order c =
     let a = c in entry_below _ _ a.requires a.args.j (omega arith)
 
-returns : tie.Need-returns-then-j-starts
-returns c =
+returns-then-j-starts : tie.Need-returns-then-j-starts
+returns-then-j-starts c =
     let a = c in
     let r = runs a.args.starts.now a.args.images.now in
     entry_image r _ a.requires a.args.j c.if-j-starts.true
     ∙ sym (from_held a.args.n r a.requires.paired a.args.j c.if-j-starts.true)
 
-returns_2 : tie.Need-returns-else-j-starts
-returns_2 c =
+returns-else-j-starts : tie.Need-returns-else-j-starts
+returns-else-j-starts c =
     let a = c in
     let r = runs a.args.starts.now a.args.images.now in
     sym (from_end a.args.n r a.requires.paired a.args.j c.if-j-starts.false)
@@ -41,10 +41,10 @@ pub image_from_spec : {M : Type 1} → statement M
 image_from_spec =
     tie.close
     (tie.spec
-    mul-result
-    shared-slice-read-result
-    cast-result
-    mul-result-2
-    shared-slice-read-result-2
-    returns
-    returns_2)
+    offset_bounds-order-j
+    bounds-order-j
+    overflow_cast-result
+    offset_bounds-images-order
+    bounds-images-order
+    returns-then-j-starts
+    returns-else-j-starts)

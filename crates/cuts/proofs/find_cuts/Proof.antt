@@ -18,23 +18,23 @@ start c = c.before.before.before.before.before.before
 abbrev gathered : tie.After-slice_known-3-1 → tie.After-gather
 gathered c = c.before.before
 
-abbrev images-of : tie.Start → List ℕ
-images-of a = a.args.images.now
+abbrev images_of : tie.Start → List ℕ
+images_of a = a.args.images.now
 
 -- `order` begins with the order by image
-ordered : (a : tie.Start) → take (length (images-of a)) a.args.order.now ≡ order_of (images-of a)
+ordered : (a : tie.Start) → take (length (images_of a)) a.args.order.now ≡ order_of (images_of a)
 ordered a = ap (λ (k : ℕ). take k a.args.order.now) a.requires.ordered.paired ∙ a.requires.ordered.sorted
 
-taken : (a : tie.Start) → length (take (length (images-of a)) a.args.order.now) ≡ length (images-of a)
-taken a = length-take-le (length (images-of a)) a.args.order.now
+taken : (a : tie.Start) → length (take (length (images_of a)) a.args.order.now) ≡ length (images_of a)
+taken a = length-take-le (length (images_of a)) a.args.order.now
     (omega (arith, a.requires.ordered.paired, a.requires.in_order))
 
 -- and `ranked` with the images in that order
 ranks : (c : tie.After-gather) → let a = start c.before in
-    take (length (images-of a)) c.gather.new.to ≡ map (key_of (images-of a)) (order_of (images-of a))
+    take (length (images_of a)) c.gather.new.to ≡ map (key_of (images_of a)) (order_of (images_of a))
 ranks c =
     let a = start c.before in
-    let i = images-of a in
+    let i = images_of a in
     let l = take (length i) a.args.order.now in
     ap (take (length i)) c.gather.ensures
     ∙ take_at (map (key_of i) l) _ (length i) (length-map l (key_of i) ∙ taken a)
@@ -43,7 +43,7 @@ ranks c =
 gather-requires : tie.Need-gather-requires
 gather-requires c κs =
     let a = start c in
-    let i = images-of a in
+    let i = images_of a in
     record {
       room = omega (arith, a.requires.ordered.paired, a.requires.in_ranked);
       indexes = omega (arith, a.requires.ordered.paired, a.requires.in_order);
@@ -55,17 +55,17 @@ gather-requires c κs =
       );
     }
 
-slice-aggregate-sweep : tie.Need-slice_bounds-sweep-end
-slice-aggregate-sweep c = sym (taken (start (gathered c).before))
+slice_bounds-sweep-end : tie.Need-slice_bounds-sweep-end
+slice_bounds-sweep-end c = sym (taken (start (gathered c).before))
 
-slice-reshare-prefix-sweep : tie.Need-slice_bounds-sweep-end-2
-slice-reshare-prefix-sweep c = search rules
+slice_bounds-sweep-end-2 : tie.Need-slice_bounds-sweep-end-2
+slice_bounds-sweep-end-2 c = search rules
 
-slice-aggregate-sweep-2 : tie.Need-slice_bounds-sweep-end-3
-slice-aggregate-sweep-2 c =
+slice_bounds-sweep-end-3 : tie.Need-slice_bounds-sweep-end-3
+slice_bounds-sweep-end-3 c =
     let g = gathered c in
     let a = start g.before in
-    sym (length-take-le (length (images-of a)) g.gather.new.to
+    sym (length-take-le (length (images_of a)) g.gather.new.to
     (omega (arith, g.gather.auto.to, a.requires.ordered.paired, a.requires.in_ranked)))
 
 sweep-requires : tie.Need-sweep-requires
@@ -78,11 +78,11 @@ sweep-requires c κs =
       a.requires.in_working,
     )
 
-same_length : tie.Need-shape_of-ranked
-same_length c = search rules
+shape_of-ranked : tie.Need-shape_of-ranked
+shape_of-ranked c = search rules
 
-same_length_2 : tie.Need-shape_of-working
-same_length_2 c = search rules
+shape_of-working : tie.Need-shape_of-working
+shape_of-working c = search rules
 
 returns : tie.Need-returns
 returns c = search rules
@@ -92,10 +92,10 @@ find_cuts_spec =
     tie.close
     (tie.spec
     gather-requires
-    slice-aggregate-sweep
-    slice-reshare-prefix-sweep
-    slice-aggregate-sweep-2
+    slice_bounds-sweep-end
+    slice_bounds-sweep-end-2
+    slice_bounds-sweep-end-3
     sweep-requires
-    same_length
-    same_length_2
+    shape_of-ranked
+    shape_of-working
     returns)

@@ -8,23 +8,23 @@ use Rattle.export_balance.proofs.zibewoka_balance.Tie as tie
 balance-requires : tie.Need-balance-requires
 balance-requires c κs = search rules
 
-of-balance-requires : tie.Need-of_balance-requires
-of-balance-requires c κs = search rules
+of_balance-requires : tie.Need-of_balance-requires
+of_balance-requires c κs = search rules
 
-same_length : tie.Need-shape_of-to_starts
-same_length c = search rules
+shape_of-to_starts : tie.Need-shape_of-to_starts
+shape_of-to_starts c = search rules
 
-same_length_2 : tie.Need-shape_of-to_images
-same_length_2 c = search rules
+shape_of-to_images : tie.Need-shape_of-to_images
+shape_of-to_images c = search rules
 
-same-length-3 : tie.Need-shape_of-to_holders
-same-length-3 c = search rules
+shape_of-to_holders : tie.Need-shape_of-to_holders
+shape_of-to_holders c = search rules
 
-same-length-4 : tie.Need-shape_of-to_lengths
-same-length-4 c = search rules
+shape_of-to_lengths : tie.Need-shape_of-to_lengths
+shape_of-to_lengths c = search rules
 
-same-length-5 : tie.Need-shape_of-working
-same-length-5 c = search rules
+shape_of-working : tie.Need-shape_of-working
+shape_of-working c = search rules
 
 returns : tie.Need-returns
 returns c =
@@ -36,10 +36,10 @@ zibewoka_balance_spec =
     tie.close
     (tie.spec
     balance-requires
-    of-balance-requires
-    same_length
-    same_length_2
-    same-length-3
-    same-length-4
-    same-length-5
+    of_balance-requires
+    shape_of-to_starts
+    shape_of-to_images
+    shape_of-to_holders
+    shape_of-to_lengths
+    shape_of-working
     returns)

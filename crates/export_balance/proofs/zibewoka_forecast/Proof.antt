@@ -8,11 +8,11 @@ use Rattle.export_balance.proofs.zibewoka_forecast.Tie as tie
 forecast-requires : tie.Need-forecast-requires
 forecast-requires c κs = search rules
 
-of-size-requires : tie.Need-of_size-requires
-of-size-requires c κs = search rules
+of_size-requires : tie.Need-of_size-requires
+of_size-requires c κs = search rules
 
-same_length : tie.Need-shape_of-working
-same_length c = search rules
+shape_of-working : tie.Need-shape_of-working
+shape_of-working c = search rules
 
 returns : tie.Need-returns
 returns c =
@@ -20,4 +20,4 @@ returns c =
     record { says = c.of_size.ensures ∙ ap forecast_answer f.ensures.says; working = f.ensures.working }
 
 pub zibewoka_forecast_spec : {M : Type 1} → statement M
-zibewoka_forecast_spec = tie.close (tie.spec forecast-requires of-size-requires same_length returns)
+zibewoka_forecast_spec = tie.close (tie.spec forecast-requires of_size-requires shape_of-working returns)

@@ -5,14 +5,14 @@ use Rattle.export_balance.specs.Answers.{degree_answer}
 use Rattle.export_balance.proofs.zibewoka_least_degree.Statement.{statement}
 use Rattle.export_balance.proofs.zibewoka_least_degree.Tie as tie
 
-least-degree-requires : tie.Need-least_degree-requires
-least-degree-requires c κs = search rules
+least_degree-requires : tie.Need-least_degree-requires
+least_degree-requires c κs = search rules
 
-of-degree-requires : tie.Need-of_degree-requires
-of-degree-requires c κs = search rules
+of_degree-requires : tie.Need-of_degree-requires
+of_degree-requires c κs = search rules
 
-same_length : tie.Need-shape_of-working
-same_length c = search rules
+shape_of-working : tie.Need-shape_of-working
+shape_of-working c = search rules
 
 returns : tie.Need-returns
 returns c =
@@ -20,4 +20,4 @@ returns c =
     record { says = c.of_degree.ensures ∙ ap degree_answer f.ensures.says; working = f.ensures.working }
 
 pub zibewoka_least_degree_spec : {M : Type 1} → statement M
-zibewoka_least_degree_spec = tie.close (tie.spec least-degree-requires of-degree-requires same_length returns)
+zibewoka_least_degree_spec = tie.close (tie.spec least_degree-requires of_degree-requires shape_of-working returns)

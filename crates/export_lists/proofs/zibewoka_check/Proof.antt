@@ -8,11 +8,11 @@ use Rattle.export_lists.proofs.zibewoka_check.Tie as tie
 check-requires : tie.Need-check-requires
 check-requires c κs = search rules
 
-of-list-requires : tie.Need-of_list-requires
-of-list-requires c κs = search rules
+of_list-requires : tie.Need-of_list-requires
+of_list-requires c κs = search rules
 
 returns : tie.Need-returns
 returns c = c.of_list.ensures ∙ ap (list_answer) c.check.ensures
 
 pub zibewoka_check_spec : {M : Type 1} → statement M
-zibewoka_check_spec = tie.close (tie.spec check-requires of-list-requires returns)
+zibewoka_check_spec = tie.close (tie.spec check-requires of_list-requires returns)

@@ -6,17 +6,17 @@ use Rattle.export_lists.proofs.Answering.{list_answer_map}
 use Rattle.export_lists.proofs.zibewoka_inverse_list.Statement.{statement}
 use Rattle.export_lists.proofs.zibewoka_inverse_list.Tie as tie
 
-inverse-list-requires : tie.Need-inverse_list-requires
-inverse-list-requires c κs = search rules
+inverse_list-requires : tie.Need-inverse_list-requires
+inverse_list-requires c κs = search rules
 
-of-list-requires : tie.Need-of_list-requires
-of-list-requires c κs = search rules
+of_list-requires : tie.Need-of_list-requires
+of_list-requires c κs = search rules
 
-same_length : tie.Need-shape_of-to_starts
-same_length c = search rules
+shape_of-to_starts : tie.Need-shape_of-to_starts
+shape_of-to_starts c = search rules
 
-same_length_2 : tie.Need-shape_of-to_images
-same_length_2 c = search rules
+shape_of-to_images : tie.Need-shape_of-to_images
+shape_of-to_images c = search rules
 
 returns : tie.Need-returns
 returns c =
@@ -29,4 +29,4 @@ returns c =
 
 pub zibewoka_inverse_list_spec : {M : Type 1} → statement M
 zibewoka_inverse_list_spec =
-    tie.close (tie.spec inverse-list-requires of-list-requires same_length same_length_2 returns)
+    tie.close (tie.spec inverse_list-requires of_list-requires shape_of-to_starts shape_of-to_images returns)

@@ -8,14 +8,14 @@ use Rattle.export_permutations.proofs.zibewoka_fold.Tie as tie
 fold-requires : tie.Need-fold-requires
 fold-requires c κs = search rules
 
-of-written-requires : tie.Need-of_written-requires
-of-written-requires c κs = search rules
+of_written-requires : tie.Need-of_written-requires
+of_written-requires c κs = search rules
 
-same_length : tie.Need-shape_of-to_starts
-same_length c = search rules
+shape_of-to_starts : tie.Need-shape_of-to_starts
+shape_of-to_starts c = search rules
 
-same_length_2 : tie.Need-shape_of-to_images
-same_length_2 c = search rules
+shape_of-to_images : tie.Need-shape_of-to_images
+shape_of-to_images c = search rules
 
 returns : tie.Need-returns
 returns c =
@@ -27,4 +27,4 @@ returns c =
     }
 
 pub zibewoka_fold_spec : {M : Type 1} → statement M
-zibewoka_fold_spec = tie.close (tie.spec fold-requires of-written-requires same_length same_length_2 returns)
+zibewoka_fold_spec = tie.close (tie.spec fold-requires of_written-requires shape_of-to_starts shape_of-to_images returns)

@@ -5,17 +5,17 @@ use Rattle.export_permutations.specs.Answers.{next_answer}
 use Rattle.export_permutations.proofs.zibewoka_next_list.Statement.{statement}
 use Rattle.export_permutations.proofs.zibewoka_next_list.Tie as tie
 
-next-list-requires : tie.Need-next_list-requires
-next-list-requires c κs = search rules
+next_list-requires : tie.Need-next_list-requires
+next_list-requires c κs = search rules
 
-of-next-requires : tie.Need-of_next-requires
-of-next-requires c κs = search rules
+of_next-requires : tie.Need-of_next-requires
+of_next-requires c κs = search rules
 
-same_length : tie.Need-shape_of-to_starts
-same_length c = search rules
+shape_of-to_starts : tie.Need-shape_of-to_starts
+shape_of-to_starts c = search rules
 
-same_length_2 : tie.Need-shape_of-to_images
-same_length_2 c = search rules
+shape_of-to_images : tie.Need-shape_of-to_images
+shape_of-to_images c = search rules
 
 returns : tie.Need-returns
 returns c =
@@ -27,4 +27,4 @@ returns c =
     }
 
 pub zibewoka_next_list_spec : {M : Type 1} → statement M
-zibewoka_next_list_spec = tie.close (tie.spec next-list-requires of-next-requires same_length same_length_2 returns)
+zibewoka_next_list_spec = tie.close (tie.spec next_list-requires of_next-requires shape_of-to_starts shape_of-to_images returns)

@@ -5,14 +5,14 @@ use Rattle.export_walks.specs.Answers.{find_answer}
 use Rattle.export_walks.proofs.zibewoka_find.Statement.{statement}
 use Rattle.export_walks.proofs.zibewoka_find.Tie as tie
 
-find-requires : tie.Need-find-found-requires
-find-requires c κs = search rules
+find-found-requires : tie.Need-find-found-requires
+find-found-requires c κs = search rules
 
-of-find-requires : tie.Need-of_find-requires
-of-find-requires c κs = search rules
+of_find-requires : tie.Need-of_find-requires
+of_find-requires c κs = search rules
 
 returns : tie.Need-returns
 returns c = c.of_find.ensures ∙ ap (find_answer _) c.find-found.ensures
 
 pub zibewoka_find_spec : {M : Type 1} → statement M
-zibewoka_find_spec = tie.close (tie.spec find-requires of-find-requires returns)
+zibewoka_find_spec = tie.close (tie.spec find-found-requires of_find-requires returns)

@@ -5,14 +5,14 @@ use Rattle.export_walks.proofs.Answering.{move_answer_narrow, move_answer_count}
 use Rattle.export_walks.proofs.zibewoka_move.Statement.{statement}
 use Rattle.export_walks.proofs.zibewoka_move.Tie as tie
 
-move-query-requires : tie.Need-move_query-requires
-move-query-requires c κs = search rules
+move_query-requires : tie.Need-move_query-requires
+move_query-requires c κs = search rules
 
-of-moves-requires : tie.Need-of_moves-wide-requires
-of-moves-requires c κs = search rules
+of_moves-wide-requires : tie.Need-of_moves-wide-requires
+of_moves-wide-requires c κs = search rules
 
-cast-t10 : tie.Need-overflow_cast-result
-cast-t10 c =
+overflow_cast-result : tie.Need-overflow_cast-result
+overflow_cast-result c =
     let e = c in
     omega (arith, move_answer_count _ _ _ _ _ _ e.of_moves-wide.ensures e.move_query.ensures)
 
@@ -22,4 +22,4 @@ returns c =
     move_answer_narrow _ _ _ e.of_moves-wide.ensures e.move_query.ensures
 
 pub zibewoka_move_spec : {M : Type 1} → statement M
-zibewoka_move_spec = tie.close (tie.spec move-query-requires of-moves-requires cast-t10 returns)
+zibewoka_move_spec = tie.close (tie.spec move_query-requires of_moves-wide-requires overflow_cast-result returns)

@@ -8,11 +8,11 @@ use Rattle.export_walks.proofs.zibewoka_weight.Tie as tie
 weight-requires : tie.Need-weight-requires
 weight-requires c κs = search rules
 
-of-weight-requires : tie.Need-of_weight-requires
-of-weight-requires c κs = search rules
+of_weight-requires : tie.Need-of_weight-requires
+of_weight-requires c κs = search rules
 
 returns : tie.Need-returns
 returns c = c.of_weight.ensures ∙ ap (weight_answer) c.weight.ensures
 
 pub zibewoka_weight_spec : {M : Type 1} → statement M
-zibewoka_weight_spec = tie.close (tie.spec weight-requires of-weight-requires returns)
+zibewoka_weight_spec = tie.close (tie.spec weight-requires of_weight-requires returns)

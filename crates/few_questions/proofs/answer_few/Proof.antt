@@ -9,8 +9,8 @@ use Rattle.few_questions.proofs.answer_few.Tie as tie
 lend-requires : tie.Need-lend-requires
 lend-requires c κs = omega arith
 
-returns : tie.Need-returns-then-count-gt8
-returns c =
+returns-then-count-gt8 : tie.Need-returns-then-count-gt8
+returns-then-count-gt8 c =
     let k = c.args.count in
     let e : min k 8 ≡ 8 = min-eq_right (omega arith) in
     rw e c.lend.ensures
@@ -18,11 +18,11 @@ returns c =
 lend-requires-2 : tie.Need-lend-requires-2
 lend-requires-2 c κs = omega arith
 
-returns_2 : tie.Need-returns
-returns_2 c =
+returns : tie.Need-returns
+returns c =
     let k = c.args.count in
     let e : min k 8 ≡ k = min-eq_left (omega arith) in
     rw e c.lend-2.ensures
 
 pub answer_few_spec : {M : Type 1} → statement M
-answer_few_spec = tie.close (tie.spec lend-requires returns lend-requires-2 returns_2)
+answer_few_spec = tie.close (tie.spec lend-requires returns-then-count-gt8 lend-requires-2 returns)

@@ -5,23 +5,23 @@ use borrow.Author.Rules.{rules}
 use Rattle.file_checks.proofs.check_any.Statement.{statement}
 use Rattle.file_checks.proofs.check_any.Tie as tie
 
-cast-k : tie.Need-overflow_cast-k
-cast-k c = search rules
+overflow_cast-k : tie.Need-overflow_cast-k
+overflow_cast-k c = search rules
 
-array-borrow-prefix-starts : tie.Need-slice_bounds-starts-end
-array-borrow-prefix-starts c = search rules
+slice_bounds-starts-end : tie.Need-slice_bounds-starts-end
+slice_bounds-starts-end c = search rules
 
-slice-aggregate-check-list : tie.Need-slice_bounds-check_list-end
-slice-aggregate-check-list c = sym (length-take-le _ _ c.requires.few)
+slice_bounds-check_list-end : tie.Need-slice_bounds-check_list-end
+slice_bounds-check_list-end c = sym (length-take-le _ _ c.requires.few)
 
-array-borrow-prefix-images : tie.Need-slice_bounds-images-end
-array-borrow-prefix-images c = search rules
+slice_bounds-images-end : tie.Need-slice_bounds-images-end
+slice_bounds-images-end c = search rules
 
-slice-aggregate-check-list-2 : tie.Need-slice_bounds-check_list-end-2
-slice-aggregate-check-list-2 c = sym (length-take-le _ _ c.requires.few)
+slice_bounds-check_list-end-2 : tie.Need-slice_bounds-check_list-end-2
+slice_bounds-check_list-end-2 c = sym (length-take-le _ _ c.requires.few)
 
-check-list-requires : tie.Need-check_list-requires
-check-list-requires c κs =
+check_list-requires : tie.Need-check_list-requires
+check_list-requires c κs =
     let l = c.requires in
     (l, record { long = l.long; starts_room = length-take-le _ _ l.few; images_room = length-take-le _ _ l.few })
 
@@ -32,10 +32,10 @@ pub check_any_spec : {M : Type 1} → statement M
 check_any_spec =
     tie.close
     (tie.spec
-    cast-k
-    array-borrow-prefix-starts
-    slice-aggregate-check-list
-    array-borrow-prefix-images
-    slice-aggregate-check-list-2
-    check-list-requires
+    overflow_cast-k
+    slice_bounds-starts-end
+    slice_bounds-check_list-end
+    slice_bounds-images-end
+    slice_bounds-check_list-end-2
+    check_list-requires
     returns)

@@ -7,28 +7,28 @@ use borrow.Author.Rules.{rules}
 use Rattle.file_checks.proofs.check_file.Statement.{statement}
 use Rattle.file_checks.proofs.check_file.Tie as tie
 
-read-header-requires : tie.Need-read_header-requires
-read-header-requires c κs = search rules
+read_header-requires : tie.Need-read_header-requires
+read_header-requires c κs = search rules
 
-enum-known-r : tie.Need-enum_known-r
-enum-known-r c = search rules
+enum_known-r : tie.Need-enum_known-r
+enum_known-r c = search rules
 
-enum-known-h : tie.Need-enum_known-h
-enum-known-h c = search rules
+enum_known-h : tie.Need-enum_known-h
+enum_known-h c = search rules
 
-check-body-requires : tie.Need-check_body-requires
-check-body-requires c κs =
+check_body-requires : tie.Need-check_body-requires
+check_body-requires c κs =
     heading_laid _ _ _ (sym (ap file_says c.in-Read.is) ∙ c.read_header.ensures)
 
-returns : tie.Need-returns-in-Refused
-returns c = file_refused _ _ _ _ (sym (ap file_says c.in-Refused.is) ∙ c.read_header.ensures)
+returns-in-Refused : tie.Need-returns-in-Refused
+returns-in-Refused c = file_refused _ _ _ _ (sym (ap file_says c.in-Refused.is) ∙ c.read_header.ensures)
 
-returns_2 : tie.Need-returns-in-Read
-returns_2 c =
+returns-in-Read : tie.Need-returns-in-Read
+returns-in-Read c =
     let h = c in
     c.check_body.ensures ∙ file_read _ _ _ (sym (ap file_says h.in-Read.is) ∙ h.read_header.ensures)
 
 pub check_file_spec : {M : Type 1} → statement M
 check_file_spec =
     tie.close
-    (tie.spec read-header-requires enum-known-r enum-known-h check-body-requires returns returns_2)
+    (tie.spec read_header-requires enum_known-r enum_known-h check_body-requires returns-in-Refused returns-in-Read)

@@ -5,31 +5,31 @@ use borrow.Author.Rules.{rules}
 use Rattle.file_checks.proofs.check_in.Statement.{statement}
 use Rattle.file_checks.proofs.check_in.Tie as tie
 
-cast-k : tie.Need-overflow_cast-k
-cast-k c = search rules
+overflow_cast-k : tie.Need-overflow_cast-k
+overflow_cast-k c = search rules
 
-slice-relend-prefix-check-list : tie.Need-slice_bounds-check_list-end
-slice-relend-prefix-check-list c = search rules
+slice_bounds-check_list-end : tie.Need-slice_bounds-check_list-end
+slice_bounds-check_list-end c = search rules
 
-slice-aggregate-check-list : tie.Need-slice_bounds-check_list-end-2
-slice-aggregate-check-list c = sym (length-take-le _ _ c.requires.1.0)
+slice_bounds-check_list-end-2 : tie.Need-slice_bounds-check_list-end-2
+slice_bounds-check_list-end-2 c = sym (length-take-le _ _ c.requires.1.0)
 
-slice-relend-prefix-check-list-2 : tie.Need-slice_bounds-check_list-end-3
-slice-relend-prefix-check-list-2 c = search rules
+slice_bounds-check_list-end-3 : tie.Need-slice_bounds-check_list-end-3
+slice_bounds-check_list-end-3 c = search rules
 
-slice-aggregate-check-list-2 : tie.Need-slice_bounds-check_list-end-4
-slice-aggregate-check-list-2 c = sym (length-take-le _ _ c.requires.1.1.0)
+slice_bounds-check_list-end-4 : tie.Need-slice_bounds-check_list-end-4
+slice_bounds-check_list-end-4 c = sym (length-take-le _ _ c.requires.1.1.0)
 
-check-list-requires : tie.Need-check_list-requires
-check-list-requires c κs =
+check_list-requires : tie.Need-check_list-requires
+check_list-requires c κs =
     let l = c.requires in
     (l.0, record { long = l.0.long; starts_room = length-take-le _ _ l.1.0; images_room = length-take-le _ _ l.1.1.0 })
 
-same_length : tie.Need-shape_of-starts
-same_length c = search rules
+shape_of-starts : tie.Need-shape_of-starts
+shape_of-starts c = search rules
 
-same_length_2 : tie.Need-shape_of-images
-same_length_2 c = search rules
+shape_of-images : tie.Need-shape_of-images
+shape_of-images c = search rules
 
 returns : tie.Need-returns
 returns c = search rules
@@ -38,12 +38,12 @@ pub check_in_spec : {M : Type 1} → statement M
 check_in_spec =
     tie.close
     (tie.spec
-    cast-k
-    slice-relend-prefix-check-list
-    slice-aggregate-check-list
-    slice-relend-prefix-check-list-2
-    slice-aggregate-check-list-2
-    check-list-requires
-    same_length
-    same_length_2
+    overflow_cast-k
+    slice_bounds-check_list-end
+    slice_bounds-check_list-end-2
+    slice_bounds-check_list-end-3
+    slice_bounds-check_list-end-4
+    check_list-requires
+    shape_of-starts
+    shape_of-images
     returns)

@@ -7,23 +7,23 @@ use borrow.Author.Rules.{rules}
 use Rattle.file_checks.proofs.check_list.Statement.{statement}
 use Rattle.file_checks.proofs.check_list.Tie as tie
 
-cast-read-list : tie.Need-overflow_cast-h
-cast-read-list c = search rules
+overflow_cast-h : tie.Need-overflow_cast-h
+overflow_cast-h c = search rules
 
-read-list-requires : tie.Need-read_list-requires
-read-list-requires c κs = search rules
+read_list-requires : tie.Need-read_list-requires
+read_list-requires c κs = search rules
 
 check-requires : tie.Need-check-requires
 check-requires c κs = search rules
 
-then-degree-requires : tie.Need-then_degree-requires
-then-degree-requires c κs = search rules
+then_degree-requires : tie.Need-then_degree-requires
+then_degree-requires c κs = search rules
 
-same_length : tie.Need-shape_of-starts
-same_length c = search rules
+shape_of-starts : tie.Need-shape_of-starts
+shape_of-starts c = search rules
 
-same_length_2 : tie.Need-shape_of-images
-same_length_2 c = search rules
+shape_of-images : tie.Need-shape_of-images
+shape_of-images c = search rules
 
 returns : tie.Need-returns
 returns c =
@@ -37,10 +37,10 @@ pub check_list_spec : {M : Type 1} → statement M
 check_list_spec =
     tie.close
     (tie.spec
-    cast-read-list
-    read-list-requires
+    overflow_cast-h
+    read_list-requires
     check-requires
-    then-degree-requires
-    same_length
-    same_length_2
+    then_degree-requires
+    shape_of-starts
+    shape_of-images
     returns)

@@ -7,29 +7,29 @@ use borrow.Author.Rules.{rules}
 use Rattle.file_checks.proofs.check_list_by.Statement.{statement}
 use Rattle.file_checks.proofs.check_list_by.Tie as tie
 
-cast-read-list : tie.Need-overflow_cast-h
-cast-read-list c = search rules
+overflow_cast-h : tie.Need-overflow_cast-h
+overflow_cast-h c = search rules
 
-read-list-requires : tie.Need-read_list-requires
-read-list-requires c κs = search rules
+read_list-requires : tie.Need-read_list-requires
+read_list-requires c κs = search rules
 
-check-order-requires : tie.Need-check_order-checked-requires
-check-order-requires c κs = search rules
+check_order-checked-requires : tie.Need-check_order-checked-requires
+check_order-checked-requires c κs = search rules
 
-then-degree-requires : tie.Need-then_degree-requires
-then-degree-requires c κs = search rules
+then_degree-requires : tie.Need-then_degree-requires
+then_degree-requires c κs = search rules
 
-same_length : tie.Need-shape_of-starts
-same_length c = search rules
+shape_of-starts : tie.Need-shape_of-starts
+shape_of-starts c = search rules
 
-same_length_2 : tie.Need-shape_of-images
-same_length_2 c = search rules
+shape_of-images : tie.Need-shape_of-images
+shape_of-images c = search rules
 
-same-length-3 : tie.Need-shape_of-order
-same-length-3 c = search rules
+shape_of-order : tie.Need-shape_of-order
+shape_of-order c = search rules
 
-same-length-4 : tie.Need-shape_of-spare
-same-length-4 c = search rules
+shape_of-spare : tie.Need-shape_of-spare
+shape_of-spare c = search rules
 
 returns : tie.Need-returns
 returns c =
@@ -43,12 +43,12 @@ pub check_list_by_spec : {M : Type 1} → statement M
 check_list_by_spec =
     tie.close
     (tie.spec
-    cast-read-list
-    read-list-requires
-    check-order-requires
-    then-degree-requires
-    same_length
-    same_length_2
-    same-length-3
-    same-length-4
+    overflow_cast-h
+    read_list-requires
+    check_order-checked-requires
+    then_degree-requires
+    shape_of-starts
+    shape_of-images
+    shape_of-order
+    shape_of-spare
     returns)

@@ -6,22 +6,22 @@ use borrow.Author.Rules.{rules}
 use Rattle.file_checks.proofs.then_degree.Statement.{statement}
 use Rattle.file_checks.proofs.then_degree.Tie as tie
 
-enum-known-checked : tie.Need-enum_known-checked
-enum-known-checked c = search rules
+enum_known-checked : tie.Need-enum_known-checked
+enum_known-checked c = search rules
 
-enum_told : tie.Need-enum_told-1
-enum_told c = search rules
+enum_told-1 : tie.Need-enum_told-1
+enum_told-1 c = search rules
 
-check-degree-requires : tie.Need-check_degree-requires
-check-degree-requires c κs = search rules
+check_degree-requires : tie.Need-check_degree-requires
+check_degree-requires c κs = search rules
 
-returns : tie.Need-returns-in-Refused
-returns c q e = listed_refused _ q _ _ (sym (ap checked_says c.in-Refused.is) ∙ e)
+returns-in-Refused : tie.Need-returns-in-Refused
+returns-in-Refused c q e = listed_refused _ q _ _ (sym (ap checked_says c.in-Refused.is) ∙ e)
 
-returns_2 : tie.Need-returns-in-Accepted
-returns_2 c q e =
+returns-in-Accepted : tie.Need-returns-in-Accepted
+returns-in-Accepted c q e =
     c.check_degree.ensures ∙ listed_checked _ q (sym (ap checked_says c.in-Accepted.is) ∙ e)
 
 pub then_degree_spec : {M : Type 1} → statement M
 then_degree_spec =
-    tie.close (tie.spec enum-known-checked enum_told check-degree-requires returns returns_2)
+    tie.close (tie.spec enum_known-checked enum_told-1 check_degree-requires returns-in-Refused returns-in-Accepted)

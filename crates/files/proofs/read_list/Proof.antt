@@ -3,20 +3,20 @@ use borrow.Author.Rules.{rules}
 use Rattle.files.proofs.read_list.Statement.{statement}
 use Rattle.files.proofs.read_list.Tie as tie
 
-read-words-requires : tie.Need-read_words-requires
-read-words-requires c κs = search rules
+read_words-requires : tie.Need-read_words-requires
+read_words-requires c κs = search rules
 
-add-read-words : tie.Need-overflow_add-k
-add-read-words c = search rules
+overflow_add-k : tie.Need-overflow_add-k
+overflow_add-k c = search rules
 
-read-words-requires-2 : tie.Need-read_words-requires-2
-read-words-requires-2 c κs = search rules
+read_words-requires-2 : tie.Need-read_words-requires-2
+read_words-requires-2 c κs = search rules
 
-same_length : tie.Need-shape_of-starts
-same_length c = search rules
+shape_of-starts : tie.Need-shape_of-starts
+shape_of-starts c = search rules
 
-same_length_2 : tie.Need-shape_of-images
-same_length_2 c = search rules
+shape_of-images : tie.Need-shape_of-images
+shape_of-images c = search rules
 
 returns : tie.Need-returns
 returns c =
@@ -29,9 +29,9 @@ pub read_list_spec : {M : Type 1} → statement M
 read_list_spec =
     tie.close
     (tie.spec
-    read-words-requires
-    add-read-words
-    read-words-requires-2
-    same_length
-    same_length_2
+    read_words-requires
+    overflow_add-k
+    read_words-requires-2
+    shape_of-starts
+    shape_of-images
     returns)

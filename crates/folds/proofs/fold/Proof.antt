@@ -9,35 +9,35 @@ use borrow.Author.Rules.{rules}
 use Rattle.folds.proofs.fold.Statement.{statement}
 use Rattle.folds.proofs.fold.Tie as tie
 
-check-requires : tie.Need-check-checked-requires
-check-requires c κs = search rules
+check-checked-requires : tie.Need-check-checked-requires
+check-checked-requires c κs = search rules
 
-enum-known-checked : tie.Need-enum_known-checked
-enum-known-checked c = search rules
+enum_known-checked : tie.Need-enum_known-checked
+enum_known-checked c = search rules
 
-enum_told : tie.Need-enum_told-1
-enum_told c = search rules
+enum_told-1 : tie.Need-enum_told-1
+enum_told-1 c = search rules
 
-fold-accepted-requires : tie.Need-fold_accepted-requires
-fold-accepted-requires c κs =
+fold_accepted-requires : tie.Need-fold_accepted-requires
+fold_accepted-requires c κs =
     let e = c in
     accepted_foldable _ _ (ap checked_says (sym e.in-Accepted.is) ∙ e.check-checked.ensures)
 
-returns : tie.Need-returns-in-Refused
+returns-in-Refused : tie.Need-returns-in-Refused
 unfolding fold_of
-returns c =
+returns-in-Refused c =
     let e = c in
     writes_check_refused _ _ _ _ _ written_says _ _ _ _ (ap checked_says (sym e.in-Refused.is) ∙ e.check-checked.ensures) refl
 
-same_length : tie.Need-shape_of-to_starts
-same_length c = search rules
+shape_of-to_starts : tie.Need-shape_of-to_starts
+shape_of-to_starts c = search rules
 
-same_length_2 : tie.Need-shape_of-to_images
-same_length_2 c = search rules
+shape_of-to_images : tie.Need-shape_of-to_images
+shape_of-to_images c = search rules
 
-returns_2 : tie.Need-returns-in-Accepted
+returns-in-Accepted : tie.Need-returns-in-Accepted
 unfolding fold_of
-returns_2 c =
+returns-in-Accepted c =
     let e = c in
     let o = e in
     writes_checked _ _ _ _ _ written_says _ _ _ _ (ap checked_says (sym o.in-Accepted.is) ∙ o.check-checked.ensures)
@@ -47,11 +47,11 @@ pub fold_spec : {M : Type 1} → statement M
 fold_spec =
     tie.close
     (tie.spec
-    check-requires
-    enum-known-checked
-    enum_told
-    fold-accepted-requires
-    returns
-    same_length
-    same_length_2
-    returns_2)
+    check-checked-requires
+    enum_known-checked
+    enum_told-1
+    fold_accepted-requires
+    returns-in-Refused
+    shape_of-to_starts
+    shape_of-to_images
+    returns-in-Accepted)

@@ -10,21 +10,21 @@ use borrow.Author.Rules.{rules}
 use Rattle.folds.proofs.fold_accepted.Statement.{statement}
 use Rattle.folds.proofs.fold_accepted.Tie as tie
 
-cast-needed : tie.Need-overflow_cast-needed
-cast-needed c = omega (arith, c.requires.1)
+overflow_cast-needed : tie.Need-overflow_cast-needed
+overflow_cast-needed c = omega (arith, c.requires.1)
 
-returns : tie.Need-returns-then-to_starts-k
-returns c = starts_short _ _ _ _ written_says _ _ refl (omega arith)
+returns-then-to_starts-k : tie.Need-returns-then-to_starts-k
+returns-then-to_starts-k c = starts_short _ _ _ _ written_says _ _ refl (omega arith)
 
-returns_2 : tie.Need-returns-then-to_images-k
-returns_2 c = images_short _ _ _ _ written_says _ _ refl (omega arith) (omega arith)
+returns-then-to_images-k : tie.Need-returns-then-to_images-k
+returns-then-to_images-k c = images_short _ _ _ _ written_says _ _ refl (omega arith) (omega arith)
 
-write-folded-requires : tie.Need-write_folded-count-requires
-write-folded-requires c κs =
+write_folded-count-requires : tie.Need-write_folded-count-requires
+write_folded-count-requires c κs =
     (c.requires.0, (omega arith, (omega arith, tt)))
 
-cast-size : tie.Need-overflow_cast-size
-cast-size c =
+overflow_cast-size : tie.Need-overflow_cast-size
+overflow_cast-size c =
     let e = c in
     let a = e in
     omega (
@@ -34,24 +34,24 @@ cast-size c =
       a.requires.1,
     )
 
-same_length : tie.Need-shape_of-to_starts
-same_length c = search rules
+shape_of-to_starts : tie.Need-shape_of-to_starts
+shape_of-to_starts c = search rules
 
-same_length_2 : tie.Need-shape_of-to_images
-same_length_2 c = search rules
+shape_of-to_images : tie.Need-shape_of-to_images
+shape_of-to_images c = search rules
 
-returns-3 : tie.Need-returns
-returns-3 c = fold_written _ _ _ (omega arith) (omega arith) _ _ _ c.write_folded-count.ensures
+returns : tie.Need-returns
+returns c = fold_written _ _ _ (omega arith) (omega arith) _ _ _ c.write_folded-count.ensures
 
 pub fold_accepted_spec : {M : Type 1} → statement M
 fold_accepted_spec =
     tie.close
     (tie.spec
-    cast-needed
-    returns
-    returns_2
-    write-folded-requires
-    cast-size
-    same_length
-    same_length_2
-    returns-3)
+    overflow_cast-needed
+    returns-then-to_starts-k
+    returns-then-to_images-k
+    write_folded-count-requires
+    overflow_cast-size
+    shape_of-to_starts
+    shape_of-to_images
+    returns)

@@ -17,8 +17,8 @@ invariant-loop-x starts images to-starts₀ to-images₀ m₀ x₀ to-starts to-
 abbrev decreases-loop-x : tie.decreases-loop-x
 decreases-loop-x starts images to-starts₀ to-images₀ m₀ x₀ to-starts to-images m x = length starts - x
 
-loop-holds : tie.Need-loop-x-init invariant-loop-x decreases-loop-x
-loop-holds c = heading_start _ _ _ c.requires.1
+loop-x-init : tie.Need-loop-x-init invariant-loop-x decreases-loop-x
+loop-x-init c = heading_start _ _ _ c.requires.1
 
 few : (c : tie.At-loop-x invariant-loop-x decreases-loop-x) → c.loop-x.m ≤ c.loop-x.x
 few c = heading_few _ _ _ _ _ _ _ c.loop-x.invariant
@@ -28,49 +28,49 @@ lengths : (c : tie.At-loop-x invariant-loop-x decreases-loop-x) → let a = c.ar
     × (length c.loop-x.to_images ≡ length a.to_images.now)
 lengths c = heading_lengths _ _ _ _ _ _ _ c.loop-x.invariant
 
-is-head-requires : tie.Need-is_head-requires invariant-loop-x decreases-loop-x
-is-head-requires c κs = (omega arith, c.requires.0)
+is_head-requires : tie.Need-is_head-requires invariant-loop-x decreases-loop-x
+is_head-requires c κs = (omega arith, c.requires.0)
 
-mul-to-starts : tie.Need-offset_bounds-starts-x invariant-loop-x decreases-loop-x
-mul-to-starts c = omega arith
+offset_bounds-starts-x : tie.Need-offset_bounds-starts-x invariant-loop-x decreases-loop-x
+offset_bounds-starts-x c = omega arith
 
-shared-slice-read-to-starts : tie.Need-bounds-starts-x invariant-loop-x decreases-loop-x
-shared-slice-read-to-starts c = omega arith
+bounds-starts-x : tie.Need-bounds-starts-x invariant-loop-x decreases-loop-x
+bounds-starts-x c = omega arith
 
-mul-to-starts-2 : tie.Need-offset_bounds-to_starts-m invariant-loop-x decreases-loop-x
-mul-to-starts-2 c = omega (arith, few c.before.before.before.before)
+offset_bounds-to_starts-m : tie.Need-offset_bounds-to_starts-m invariant-loop-x decreases-loop-x
+offset_bounds-to_starts-m c = omega (arith, few c.before.before.before.before)
 
-slice-write-to-starts : tie.Need-bounds-to_starts-m invariant-loop-x decreases-loop-x
-slice-write-to-starts c =
+bounds-to_starts-m : tie.Need-bounds-to_starts-m invariant-loop-x decreases-loop-x
+bounds-to_starts-m c =
     let a = c in
     omega (arith, few a.before.before.before.before, (lengths a.before.before.before.before).0, a.requires.1.0)
 
-mul-to-images : tie.Need-offset_bounds-images-x invariant-loop-x decreases-loop-x
-mul-to-images c = omega arith
+offset_bounds-images-x : tie.Need-offset_bounds-images-x invariant-loop-x decreases-loop-x
+offset_bounds-images-x c = omega arith
 
-shared-slice-read-to-images : tie.Need-bounds-images-x invariant-loop-x decreases-loop-x
-shared-slice-read-to-images c =
+bounds-images-x : tie.Need-bounds-images-x invariant-loop-x decreases-loop-x
+bounds-images-x c =
     omega (arith, c.requires.0.paired)
 
-mul-to-images-2 : tie.Need-offset_bounds-to_images-m invariant-loop-x decreases-loop-x
-mul-to-images-2 c = omega (arith, few c.before.before.before.before.before)
+offset_bounds-to_images-m : tie.Need-offset_bounds-to_images-m invariant-loop-x decreases-loop-x
+offset_bounds-to_images-m c = omega (arith, few c.before.before.before.before.before)
 
-slice-write-to-images : tie.Need-bounds-to_images-m invariant-loop-x decreases-loop-x
-slice-write-to-images c =
+bounds-to_images-m : tie.Need-bounds-to_images-m invariant-loop-x decreases-loop-x
+bounds-to_images-m c =
     let a = c in
     omega (arith, few a.before.before.before.before.before, (lengths a.before.before.before.before.before).1, a.requires.1.1.0)
 
-add-m : tie.Need-overflow_add-m invariant-loop-x decreases-loop-x
-add-m c = omega (arith, few c.before.before.before.before.before)
+overflow_add-m : tie.Need-overflow_add-m invariant-loop-x decreases-loop-x
+overflow_add-m c = omega (arith, few c.before.before.before.before.before)
 
-add-x : tie.Need-overflow_add-x invariant-loop-x decreases-loop-x
-add-x c = omega arith
+overflow_add-x : tie.Need-overflow_add-x invariant-loop-x decreases-loop-x
+overflow_add-x c = omega arith
 
-loop-less : tie.Need-loop-x-smaller invariant-loop-x decreases-loop-x
-loop-less c = omega arith
+loop-x-smaller : tie.Need-loop-x-smaller invariant-loop-x decreases-loop-x
+loop-x-smaller c = omega arith
 
-loop-again : tie.Need-loop-x-preserved invariant-loop-x decreases-loop-x
-loop-again c =
+loop-x-preserved : tie.Need-loop-x-preserved invariant-loop-x decreases-loop-x
+loop-x-preserved c =
     let a = c in
     let h = c.is_head.ensures in
     let l = c.loop-x-test.true in
@@ -80,11 +80,11 @@ loop-again c =
     | else-is_head w ↦ heading_past _ _ _ _ _ _ _ a.loop-x.invariant l _ h _ _ _
           w.if-is_head.false w.to_starts-is w.to_images-is w.m-is ]
 
-same_length : tie.Need-shape_of-to_starts invariant-loop-x decreases-loop-x
-same_length c = (lengths c.before).0
+shape_of-to_starts : tie.Need-shape_of-to_starts invariant-loop-x decreases-loop-x
+shape_of-to_starts c = (lengths c.before).0
 
-same_length_2 : tie.Need-shape_of-to_images invariant-loop-x decreases-loop-x
-same_length_2 c = (lengths c.before).1
+shape_of-to_images : tie.Need-shape_of-to_images invariant-loop-x decreases-loop-x
+shape_of-to_images c = (lengths c.before).1
 
 returns : tie.Need-returns invariant-loop-x decreases-loop-x
 returns c = heading_end _ _ _ _ _ _ _ c.loop-x.invariant (omega arith)
@@ -95,20 +95,20 @@ write_folded_spec =
     (tie.spec
     invariant-loop-x
     decreases-loop-x
-    loop-holds
-    is-head-requires
-    mul-to-starts
-    shared-slice-read-to-starts
-    mul-to-starts-2
-    slice-write-to-starts
-    mul-to-images
-    shared-slice-read-to-images
-    mul-to-images-2
-    slice-write-to-images
-    add-m
-    add-x
-    loop-less
-    loop-again
-    same_length
-    same_length_2
+    loop-x-init
+    is_head-requires
+    offset_bounds-starts-x
+    bounds-starts-x
+    offset_bounds-to_starts-m
+    bounds-to_starts-m
+    offset_bounds-images-x
+    bounds-images-x
+    offset_bounds-to_images-m
+    bounds-to_images-m
+    overflow_add-m
+    overflow_add-x
+    loop-x-smaller
+    loop-x-preserved
+    shape_of-to_starts
+    shape_of-to_images
     returns)

@@ -20,8 +20,8 @@ start c = c.before.before.before.before.before
 abbrev planned : tie.After-slice_known-2-1 → tie.After-plan-planned
 planned c = c.before.before
 
-abbrev plan-of : tie.In-Cuts → tie.After-plan-planned
-plan-of c = c.before.before.before
+abbrev plan_of : tie.In-Cuts → tie.After-plan-planned
+plan_of c = c.before.before.before
 
 abbrev list_of : tie.Start → Runs
 list_of a = runs a.args.starts.now a.args.images.now
@@ -34,71 +34,71 @@ promised c p e = let a = start c in
     c.plan-planned.new.working q) e c.plan-planned.ensures
 
 -- the cuts that were found
-found : (c : tie.In-Cuts) → let a = start (plan-of c) in
+found : (c : tie.In-Cuts) → let a = start (plan_of c) in
     CutsFound a.args.n (list_of a) no_limit a.args.d a.args.working.now c.plan-planned.new.working
     c.in-Cuts.plan
-found c = promised (plan-of c) _ c.in-Cuts.is
+found c = promised (plan_of c) _ c.in-Cuts.is
 
-plan-requires : tie.Need-plan-planned-requires
-plan-requires c κs = search rules
+plan-planned-requires : tie.Need-plan-planned-requires
+plan-planned-requires c κs = search rules
 
-enum-known-planned : tie.Need-enum_known-planned
-enum-known-planned c = search rules
+enum_known-planned : tie.Need-enum_known-planned
+enum_known-planned c = search rules
 
-enum-known-planned-2 : tie.Need-enum_known-planned-in-Cuts-1
-enum-known-planned-2 c = search rules
+enum_known-planned-in-Cuts-1 : tie.Need-enum_known-planned-in-Cuts-1
+enum_known-planned-in-Cuts-1 c = search rules
 
 clear-requires : tie.Need-clear-requires
 clear-requires c κs =
     let k = c in
-    let g = plan-of k.before in
+    let g = plan_of k.before in
     let a = start g in
     clearable _ (list_of a) _ _ (found_planned _ (list_of a) _ _ _ _ (found k.before)) _ g.plan-planned.auto.working
 
 -- K fits in 32 bits
-small : (k : tie.In-Cuts) → let a = start (plan-of k) in
+small : (k : tie.In-Cuts) → let a = start (plan_of k) in
     length a.args.starts.now + k.in-Cuts.plan.cuts < 4294967296
-small k = let a = start (plan-of k) in forecast_few _ (list_of a) _ _ _ _ (found k)
+small k = let a = start (plan_of k) in forecast_few _ (list_of a) _ _ _ _ (found k)
 
-add-t16 : tie.Need-overflow_add-result
-add-t16 c = omega (arith, small c.before.before.before.before.before)
+overflow_add-result : tie.Need-overflow_add-result
+overflow_add-result c = omega (arith, small c.before.before.before.before.before)
 
-cast-t17 : tie.Need-overflow_cast-result
-cast-t17 c = omega (arith, small c.before.before.before.before.before)
+overflow_cast-result : tie.Need-overflow_cast-result
+overflow_cast-result c = omega (arith, small c.before.before.before.before.before)
 
-cast-t18 : tie.Need-overflow_cast-result-in-Cuts
-cast-t18 c = omega (arith, small c.before.before.before.before.before.before)
+overflow_cast-result-in-Cuts : tie.Need-overflow_cast-result-in-Cuts
+overflow_cast-result-in-Cuts c = omega (arith, small c.before.before.before.before.before.before)
 
-same_length : tie.Need-shape_of-working-in-Refused
-same_length c = search rules
+shape_of-working-in-Refused : tie.Need-shape_of-working-in-Refused
+shape_of-working-in-Refused c = search rules
 
-returns : tie.Need-returns-in-Refused
-returns c =
+returns-in-Refused : tie.Need-returns-in-Refused
+returns-in-Refused c =
     let g = planned c.before in
     let p = promised g _ c.in-Refused.is in
     forecast_refused _ (list_of (start g)) _ _ _ _ p.0 p.1
 
-same_length_2 : tie.Need-shape_of-working-in-Cuts
-same_length_2 c = search rules
+shape_of-working-in-Cuts : tie.Need-shape_of-working-in-Cuts
+shape_of-working-in-Cuts c = search rules
 
-returns_2 : tie.Need-returns-in-Cuts
-returns_2 c =
+returns-in-Cuts : tie.Need-returns-in-Cuts
+returns-in-Cuts c =
     let w = c in
     let k = w in
-    forecast_sized _ (list_of (start (plan-of k.before.before.before.before.before.before))) _ _ _ _ (found k.before.before.before.before.before.before) _ w.clear.ensures
+    forecast_sized _ (list_of (start (plan_of k.before.before.before.before.before.before))) _ _ _ _ (found k.before.before.before.before.before.before) _ w.clear.ensures
 
 pub forecast_spec : {M : Type 1} → statement M
 forecast_spec =
     tie.close
     (tie.spec
-    plan-requires
-    enum-known-planned
-    enum-known-planned-2
+    plan-planned-requires
+    enum_known-planned
+    enum_known-planned-in-Cuts-1
     clear-requires
-    add-t16
-    cast-t17
-    cast-t18
-    same_length
-    returns
-    same_length_2
-    returns_2)
+    overflow_add-result
+    overflow_cast-result
+    overflow_cast-result-in-Cuts
+    shape_of-working-in-Refused
+    returns-in-Refused
+    shape_of-working-in-Cuts
+    returns-in-Cuts)

@@ -54,32 +54,32 @@ found c =
     let a = start e.before in
     omega (arith, c.holder_up_to.ensures, holder_counted a.args.n (list_of a) a.requires.0 e.loop-x.x (within e))
 
-loop-holds : tie.Need-loop-x-init invariant-loop-x decreases-loop-x
-loop-holds c = let a = c in
+loop-x-init : tie.Need-loop-x-init invariant-loop-x decreases-loop-x
+loop-x-init c = let a = c in
     filling_none _ _ (omega (arith, length-map a.args.images.now (holder_of a.before.before.before.before), a.requires.0.paired, a.requires.2))
 
-mul-p : tie.Need-offset_bounds-images-x invariant-loop-x decreases-loop-x
-mul-p c = omega arith
+offset_bounds-images-x : tie.Need-offset_bounds-images-x invariant-loop-x decreases-loop-x
+offset_bounds-images-x c = omega arith
 
-shared-slice-read-p : tie.Need-bounds-images-x invariant-loop-x decreases-loop-x
-shared-slice-read-p c = omega arith
+bounds-images-x : tie.Need-bounds-images-x invariant-loop-x decreases-loop-x
+bounds-images-x c = omega arith
 
-bucket-of-requires : tie.Need-bucket_of-requires invariant-loop-x decreases-loop-x
-bucket-of-requires c κs = let e = c in
+bucket_of-requires : tie.Need-bucket_of-requires invariant-loop-x decreases-loop-x
+bucket_of-requires c κs = let e = c in
     omega (arith, bucketed e.before, (start e.before.before).requires.1.scaled.few)
 
-mul-top : tie.Need-offset_bounds-tops-bucket_of invariant-loop-x decreases-loop-x
-mul-top c = let e = c in
+offset_bounds-tops-bucket_of : tie.Need-offset_bounds-tops-bucket_of invariant-loop-x decreases-loop-x
+offset_bounds-tops-bucket_of c = let e = c in
     omega (arith, c.bucket_of.ensures, bucketed e.before.before, (start e.before.before.before).requires.1.scaled.few)
 
-shared-slice-read-top : tie.Need-bounds-tops-bucket_of invariant-loop-x decreases-loop-x
-shared-slice-read-top c = omega (arith, c.bucket_of.ensures, bucketed c.before.before.before)
+bounds-tops-bucket_of : tie.Need-bounds-tops-bucket_of invariant-loop-x decreases-loop-x
+bounds-tops-bucket_of c = omega (arith, c.bucket_of.ensures, bucketed c.before.before.before)
 
-cast-holder-up-to : tie.Need-overflow_cast-top invariant-loop-x decreases-loop-x
-cast-holder-up-to c = omega (arith, c.shared_slice_known-in-loop-x-2-1.given c.bucket_of.result)
+overflow_cast-top : tie.Need-overflow_cast-top invariant-loop-x decreases-loop-x
+overflow_cast-top c = omega (arith, c.shared_slice_known-in-loop-x-2-1.given c.bucket_of.result)
 
-holder-up-to-requires : tie.Need-holder_up_to-requires invariant-loop-x decreases-loop-x
-holder-up-to-requires c κs =
+holder_up_to-requires : tie.Need-holder_up_to-requires invariant-loop-x decreases-loop-x
+holder_up_to-requires c κs =
     let b = c in
     let e = b in
     let a = start e.before.before.before.before in
@@ -90,8 +90,8 @@ holder-up-to-requires c κs =
       omega (arith, image_below a.args.n (list_of a) a.requires.0 x (within e.before.before.before)),
     )
 
-cast-to : tie.Need-overflow_cast-to invariant-loop-x decreases-loop-x
-cast-to c =
+overflow_cast-to : tie.Need-overflow_cast-to invariant-loop-x decreases-loop-x
+overflow_cast-to c =
     let e = turn c in
     let a = start e.before in
     omega (
@@ -101,32 +101,32 @@ cast-to c =
       runs_below a.args.n (list_of a) a.requires.0,
     )
 
-mul-to : tie.Need-offset_bounds-to-x invariant-loop-x decreases-loop-x
-mul-to c = let e = turn c in
+offset_bounds-to-x : tie.Need-offset_bounds-to-x invariant-loop-x decreases-loop-x
+offset_bounds-to-x c = let e = turn c in
     omega (arith, (start e.before).requires.2, within e)
 
-slice-write-to : tie.Need-bounds-to-x invariant-loop-x decreases-loop-x
-slice-write-to c =
+bounds-to-x : tie.Need-bounds-to-x invariant-loop-x decreases-loop-x
+bounds-to-x c =
     let e = turn c in
     let l = e.loop-x in
     omega (arith, (start e.before).requires.2, within e, filling_length _ _ l.to l.x l.invariant)
 
-add-x : tie.Need-overflow_add-x invariant-loop-x decreases-loop-x
-add-x c = omega arith
+overflow_add-x : tie.Need-overflow_add-x invariant-loop-x decreases-loop-x
+overflow_add-x c = omega arith
 
-loop-less : tie.Need-loop-x-smaller invariant-loop-x decreases-loop-x
-loop-less c = omega arith
+loop-x-smaller : tie.Need-loop-x-smaller invariant-loop-x decreases-loop-x
+loop-x-smaller c = omega arith
 
-loop-again : tie.Need-loop-x-preserved invariant-loop-x decreases-loop-x
-loop-again c =
+loop-x-preserved : tie.Need-loop-x-preserved invariant-loop-x decreases-loop-x
+loop-x-preserved c =
     let e = turn c in
     let a = start e.before in
     let l = e.loop-x in
     filling_next _ _ _ _ l.invariant (omega (arith, length-map a.args.images.now (holder_of a))) _
     (found c ∙ sym (get_d_map (holder_of a) a.args.images.now l.x 0 e.loop-x-test.true))
 
-same_length : tie.Need-shape_of-to invariant-loop-x decreases-loop-x
-same_length c = filling_length _ _ _ _ c.loop-x.invariant
+shape_of-to : tie.Need-shape_of-to invariant-loop-x decreases-loop-x
+shape_of-to c = filling_length _ _ _ _ c.loop-x.invariant
 
 returns : tie.Need-returns invariant-loop-x decreases-loop-x
 returns c = let a = start c.before in
@@ -138,19 +138,19 @@ write_by_tops_spec =
     (tie.spec
     invariant-loop-x
     decreases-loop-x
-    loop-holds
-    mul-p
-    shared-slice-read-p
-    bucket-of-requires
-    mul-top
-    shared-slice-read-top
-    cast-holder-up-to
-    holder-up-to-requires
-    cast-to
-    mul-to
-    slice-write-to
-    add-x
-    loop-less
-    loop-again
-    same_length
+    loop-x-init
+    offset_bounds-images-x
+    bounds-images-x
+    bucket_of-requires
+    offset_bounds-tops-bucket_of
+    bounds-tops-bucket_of
+    overflow_cast-top
+    holder_up_to-requires
+    overflow_cast-to
+    offset_bounds-to-x
+    bounds-to-x
+    overflow_add-x
+    loop-x-smaller
+    loop-x-preserved
+    shape_of-to
     returns)

@@ -5,8 +5,8 @@ use Rattle.holders.proofs.Holding.{runs_below}
 use Rattle.holders.proofs.write_holders.Statement.{statement}
 use Rattle.holders.proofs.write_holders.Tie as tie
 
-note-tops-requires : tie.Need-note_tops-scale-requires
-note-tops-requires c κs =
+note_tops-scale-requires : tie.Need-note_tops-scale-requires
+note_tops-scale-requires c κs =
     let a = c in
     let legal = a.requires.0 in
     record {
@@ -16,18 +16,18 @@ note-tops-requires c κs =
       fits = a.requires.2;
     }
 
-write-by-tops-requires : tie.Need-write_by_tops-requires
-write-by-tops-requires c κs = search rules
+write_by_tops-requires : tie.Need-write_by_tops-requires
+write_by_tops-requires c κs = search rules
 
-same_length : tie.Need-shape_of-to
-same_length c = search rules
+shape_of-to : tie.Need-shape_of-to
+shape_of-to c = search rules
 
-same_length_2 : tie.Need-shape_of-room
-same_length_2 c = search rules
+shape_of-room : tie.Need-shape_of-room
+shape_of-room c = search rules
 
 returns : tie.Need-returns
 returns c = search rules
 
 pub write_holders_spec : {M : Type 1} → statement M
 write_holders_spec =
-    tie.close (tie.spec note-tops-requires write-by-tops-requires same_length same_length_2 returns)
+    tie.close (tie.spec note_tops-scale-requires write_by_tops-requires shape_of-to shape_of-room returns)

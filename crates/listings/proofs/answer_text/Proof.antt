@@ -4,14 +4,14 @@ use borrow.Author.Rules.{rules}
 use Rattle.listings.proofs.answer_text.Statement.{statement}
 use Rattle.listings.proofs.answer_text.Tie as tie
 
-enum-known-answer : tie.Need-enum_known-answer
-enum-known-answer c = search rules
+enum_known-answer : tie.Need-enum_known-answer
+enum_known-answer c = search rules
 
-refusal-line-requires : tie.Need-refusal_line-requires
-refusal-line-requires c κs = search rules
+refusal_line-requires : tie.Need-refusal_line-requires
+refusal_line-requires c κs = search rules
 
-enum-known-answer-2 : tie.Need-enum_known-answer-in-Intervals-1
-enum-known-answer-2 c = search rules
+enum_known-answer-in-Intervals-1 : tie.Need-enum_known-answer-in-Intervals-1
+enum_known-answer-in-Intervals-1 c = search rules
 
 table-requires : tie.Need-table-requires
 table-requires c κs =
@@ -19,21 +19,21 @@ table-requires c κs =
     let a = m in
     (a.requires.0 _ m.in-Intervals.is, a.requires.1)
 
-same_length : tie.Need-shape_of-page-in-Refused
-same_length c = search rules
+shape_of-page-in-Refused : tie.Need-shape_of-page-in-Refused
+shape_of-page-in-Refused c = search rules
 
-returns : tie.Need-returns-in-Refused
+returns-in-Refused : tie.Need-returns-in-Refused
 unfolding answer_text
-returns c =
+returns-in-Refused c =
     let f = c in
     rw f.in-Refused.is f.refusal_line.ensures
 
-same_length_2 : tie.Need-shape_of-page-in-Intervals
-same_length_2 c = search rules
+shape_of-page-in-Intervals : tie.Need-shape_of-page-in-Intervals
+shape_of-page-in-Intervals c = search rules
 
-returns_2 : tie.Need-returns-in-Intervals
+returns-in-Intervals : tie.Need-returns-in-Intervals
 unfolding answer_text
-returns_2 c =
+returns-in-Intervals c =
     let f = c in
     rw f.in-Intervals.is f.table.ensures
 
@@ -41,11 +41,11 @@ pub answer_text_spec : {M : Type 1} → statement M
 answer_text_spec =
     tie.close
     (tie.spec
-    enum-known-answer
-    refusal-line-requires
-    enum-known-answer-2
+    enum_known-answer
+    refusal_line-requires
+    enum_known-answer-in-Intervals-1
     table-requires
-    same_length
-    returns
-    same_length_2
-    returns_2)
+    shape_of-page-in-Refused
+    returns-in-Refused
+    shape_of-page-in-Intervals
+    returns-in-Intervals)

@@ -4,23 +4,23 @@ use borrow.Author.Rules.{rules}
 use Rattle.listings.proofs.list_read.Statement.{statement}
 use Rattle.listings.proofs.list_read.Tie as tie
 
-cast-read-list : tie.Need-overflow_cast-h
-cast-read-list c = search rules
+overflow_cast-h : tie.Need-overflow_cast-h
+overflow_cast-h c = search rules
 
-read-list-requires : tie.Need-read_list-requires
-read-list-requires c κs = search rules
+read_list-requires : tie.Need-read_list-requires
+read_list-requires c κs = search rules
 
-list-runs-requires : tie.Need-list_runs-requires
-list-runs-requires c κs = search rules
+list_runs-requires : tie.Need-list_runs-requires
+list_runs-requires c κs = search rules
 
-same_length : tie.Need-shape_of-page
-same_length c = search rules
+shape_of-page : tie.Need-shape_of-page
+shape_of-page c = search rules
 
-same_length_2 : tie.Need-shape_of-starts
-same_length_2 c = search rules
+shape_of-starts : tie.Need-shape_of-starts
+shape_of-starts c = search rules
 
-same-length-3 : tie.Need-shape_of-images
-same-length-3 c = search rules
+shape_of-images : tie.Need-shape_of-images
+shape_of-images c = search rules
 
 returns : tie.Need-returns
 returns c =
@@ -33,10 +33,10 @@ pub list_read_spec : {M : Type 1} → statement M
 list_read_spec =
     tie.close
     (tie.spec
-    cast-read-list
-    read-list-requires
-    list-runs-requires
-    same_length
-    same_length_2
-    same-length-3
+    overflow_cast-h
+    read_list-requires
+    list_runs-requires
+    shape_of-page
+    shape_of-starts
+    shape_of-images
     returns)

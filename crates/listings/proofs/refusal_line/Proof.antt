@@ -16,8 +16,8 @@ refusal-requires c κs =
     let l = refusal_length c.number.result c.place.result (omega arith) (omega arith) in
     record { room = omega arith }
 
-same_length : tie.Need-shape_of-page
-same_length c = search rules
+shape_of-page : tie.Need-shape_of-page
+shape_of-page c = search rules
 
 returns : tie.Need-returns
 returns c =
@@ -25,4 +25,4 @@ returns c =
     rw (f.number.ensures, f.place.ensures) at f.refusal.ensures
 
 pub refusal_line_spec : {M : Type 1} → statement M
-refusal_line_spec = tie.close (tie.spec number-requires place-requires refusal-requires same_length returns)
+refusal_line_spec = tie.close (tie.spec number-requires place-requires refusal-requires shape_of-page returns)

@@ -27,26 +27,26 @@ passed : (c : tie.In-Accepted)
     → done tt ≡ check_of c.args.n (runs c.args.starts.now c.args.images.now)
 passed c = ap checked_says (sym c.in-Accepted.is) ∙ c.check_order-checked.ensures.says
 
-check-order-requires : tie.Need-check_order-checked-requires
-check-order-requires c κs = search rules
+check_order-checked-requires : tie.Need-check_order-checked-requires
+check_order-checked-requires c κs = search rules
 
-same_length : tie.Need-shape_of-order-then-not-inverts
-same_length c = search rules
+shape_of-order-then-not-inverts : tie.Need-shape_of-order-then-not-inverts
+shape_of-order-then-not-inverts c = search rules
 
-same_length_2 : tie.Need-shape_of-spare-then-not-inverts
-same_length_2 c = search rules
+shape_of-spare-then-not-inverts : tie.Need-shape_of-spare-then-not-inverts
+shape_of-spare-then-not-inverts c = search rules
 
-returns : tie.Need-returns-then-not-inverts
-returns c = record {
+returns-then-not-inverts : tie.Need-returns-then-not-inverts
+returns-then-not-inverts c = record {
   checked = λ e. c.check_order-checked.ensures.says;
   inverted = λ e. absurd (false≢true (sym (c.if-not-inverts.true) ∙ e));
 }
 
-enum-known-checked : tie.Need-enum_known-checked
-enum-known-checked c = search rules
+enum_known-checked : tie.Need-enum_known-checked
+enum_known-checked c = search rules
 
-enum_told : tie.Need-enum_told-1
-enum_told c = search rules
+enum_told-1 : tie.Need-enum_told-1
+enum_told-1 c = search rules
 
 write-requires : tie.Need-write-requires
 write-requires c κs =
@@ -54,34 +54,34 @@ write-requires c κs =
     let e = sym (passed t.before.before) in
     (c.check_order-checked.ensures.ordered e, (accepted_legal _ _ e).1)
 
-same-length-3 : tie.Need-shape_of-order-in-Refused
-same-length-3 c = search rules
+shape_of-order-in-Refused : tie.Need-shape_of-order-in-Refused
+shape_of-order-in-Refused c = search rules
 
-same-length-4 : tie.Need-shape_of-spare-in-Refused
-same-length-4 c = search rules
+shape_of-spare-in-Refused : tie.Need-shape_of-spare-in-Refused
+shape_of-spare-in-Refused c = search rules
 
-returns_2 : tie.Need-returns-in-Refused
-returns_2 c =
+returns-in-Refused : tie.Need-returns-in-Refused
+returns-in-Refused c =
     record {
       checked = λ e. absurd (false≢true (sym e ∙ c.if-not-inverts.false));
       inverted = λ e. listed_refused _ _ _ _ _
           (ap checked_says (sym c.in-Refused.is) ∙ c.check_order-checked.ensures.says);
     }
 
-same-length-5 : tie.Need-shape_of-order-in-Accepted
-same-length-5 c = search rules
+shape_of-order-in-Accepted : tie.Need-shape_of-order-in-Accepted
+shape_of-order-in-Accepted c = search rules
 
-same-length-6 : tie.Need-shape_of-spare-in-Accepted
-same-length-6 c = search rules
+shape_of-spare-in-Accepted : tie.Need-shape_of-spare-in-Accepted
+shape_of-spare-in-Accepted c = search rules
 
-same-length-7 : tie.Need-shape_of-to_starts
-same-length-7 c = search rules
+shape_of-to_starts : tie.Need-shape_of-to_starts
+shape_of-to_starts c = search rules
 
-same-length-8 : tie.Need-shape_of-to_images
-same-length-8 c = search rules
+shape_of-to_images : tie.Need-shape_of-to_images
+shape_of-to_images c = search rules
 
-returns-3 : tie.Need-returns-in-Accepted
-returns-3 c =
+returns-in-Accepted : tie.Need-returns-in-Accepted
+returns-in-Accepted c =
     let w = c in
     let t = w in
     record {
@@ -93,18 +93,18 @@ pub check_or_invert_spec : {M : Type 1} → statement M
 check_or_invert_spec =
     tie.close
     (tie.spec
-    check-order-requires
-    same_length
-    same_length_2
-    returns
-    enum-known-checked
-    enum_told
+    check_order-checked-requires
+    shape_of-order-then-not-inverts
+    shape_of-spare-then-not-inverts
+    returns-then-not-inverts
+    enum_known-checked
+    enum_told-1
     write-requires
-    same-length-3
-    same-length-4
-    returns_2
-    same-length-5
-    same-length-6
-    same-length-7
-    same-length-8
-    returns-3)
+    shape_of-order-in-Refused
+    shape_of-spare-in-Refused
+    returns-in-Refused
+    shape_of-order-in-Accepted
+    shape_of-spare-in-Accepted
+    shape_of-to_starts
+    shape_of-to_images
+    returns-in-Accepted)

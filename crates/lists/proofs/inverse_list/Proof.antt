@@ -4,17 +4,17 @@ use borrow.Author.Rules.{rules}
 use Rattle.lists.proofs.inverse_list.Statement.{statement}
 use Rattle.lists.proofs.inverse_list.Tie as tie
 
-with-room-requires : tie.Need-with_room-requires
-with-room-requires c κs = search rules
+with_room-requires : tie.Need-with_room-requires
+with_room-requires c κs = search rules
 
-same_length : tie.Need-shape_of-to_starts
-same_length c = search rules
+shape_of-to_starts : tie.Need-shape_of-to_starts
+shape_of-to_starts c = search rules
 
-same_length_2 : tie.Need-shape_of-to_images
-same_length_2 c = search rules
+shape_of-to_images : tie.Need-shape_of-to_images
+shape_of-to_images c = search rules
 
 returns : tie.Need-returns
 returns c = c.with_room.ensures.inverted refl
 
 pub inverse_list_spec : {M : Type 1} → statement M
-inverse_list_spec = tie.close (tie.spec with-room-requires same_length same_length_2 returns)
+inverse_list_spec = tie.close (tie.spec with_room-requires shape_of-to_starts shape_of-to_images returns)

@@ -5,17 +5,17 @@ use Rattle.lists.proofs.Shifting.{minus_fits, minus_exact}
 use Rattle.lists.proofs.shift.Statement.{statement}
 use Rattle.lists.proofs.shift.Tie as tie
 
-cast-result : tie.Need-overflow_cast-result
-cast-result c = search rules
+overflow_cast-result : tie.Need-overflow_cast-result
+overflow_cast-result c = search rules
 
-cast-result-2 : tie.Need-overflow_cast-result-2
-cast-result-2 c = search rules
+overflow_cast-result-2 : tie.Need-overflow_cast-result-2
+overflow_cast-result-2 c = search rules
 
-sub-result : tie.Need-overflow_sub-result
-sub-result c = minus_fits c.args.image c.args.start (omega arith) (omega arith)
+overflow_sub-result : tie.Need-overflow_sub-result
+overflow_sub-result c = minus_fits c.args.image c.args.start (omega arith) (omega arith)
 
 returns : tie.Need-returns
 returns c = minus_exact c.args.image c.args.start (omega arith) (omega arith)
 
 pub shift_spec : {M : Type 1} → statement M
-shift_spec = tie.close (tie.spec cast-result cast-result-2 sub-result returns)
+shift_spec = tie.close (tie.spec overflow_cast-result overflow_cast-result-2 overflow_sub-result returns)

@@ -10,18 +10,18 @@ use Rattle.merging.proofs.step.Tie as tie
 abbrev start : tie.After-entry_or-u → tie.Start
 start c = c.before.before.before.before
 
-entry-or-requires : tie.Need-entry_or-s-requires
-entry-or-requires c κs = search rules
+entry_or-s-requires : tie.Need-entry_or-s-requires
+entry_or-s-requires c κs = search rules
 
-entry-or-requires-2 : tie.Need-entry_or-u-requires
-entry-or-requires-2 c κs = search rules
+entry_or-u-requires : tie.Need-entry_or-u-requires
+entry_or-u-requires c κs = search rules
 
-add-t10 : tie.Need-overflow_add-behind
-add-t10 c = let a = start c.before.before in
+overflow_add-behind : tie.Need-overflow_add-behind
+overflow_add-behind c = let a = start c.before.before in
     omega (arith, a.requires.1.within, a.well_formed, merged_length a.args.starts.now a.args.cuts.now)
 
-returns : tie.Need-returns-then-u-s
-returns c =
+returns-then-u-s : tie.Need-returns-then-u-s
+returns-then-u-s c =
     let r = c.before.before in
     let a = start r in
     record {
@@ -29,12 +29,12 @@ returns c =
       behind = λ h. next_cut _ _ _ a.requires.0 _ _ a.requires.1 h (omega (arith, r.before.entry_or-s.ensures, r.entry_or-u.ensures, c.before.if-u-s.true));
     }
 
-add-t11 : tie.Need-overflow_add-behind-2
-add-t11 c = let a = start c.before.before in
+overflow_add-behind-2 : tie.Need-overflow_add-behind-2
+overflow_add-behind-2 c = let a = start c.before.before in
     omega (arith, a.requires.1.within, a.well_formed, merged_length a.args.starts.now a.args.cuts.now)
 
-returns_2 : tie.Need-returns
-returns_2 c =
+returns : tie.Need-returns
+returns c =
     let r = c.before.before in
     let a = start r in
     record {
@@ -44,4 +44,4 @@ returns_2 c =
 
 pub step_spec : {M : Type 1} → statement M
 step_spec =
-    tie.close (tie.spec entry-or-requires entry-or-requires-2 add-t10 returns add-t11 returns_2)
+    tie.close (tie.spec entry_or-s-requires entry_or-u-requires overflow_add-behind returns-then-u-s overflow_add-behind-2 returns)

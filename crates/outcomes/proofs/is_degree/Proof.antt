@@ -9,15 +9,15 @@ use Rattle.order.proofs.Laws.{lt_or_le}
 use Rattle.outcomes.proofs.is_degree.Statement.{statement}
 use Rattle.outcomes.proofs.is_degree.Tie as tie
 
-returns : tie.Need-returns-then-d-lt2
-returns c = rw (lt-ltb c.before.args.d 2 c.if-d-lt2.true)
+returns-then-d-lt2 : tie.Need-returns-then-d-lt2
+returns-then-d-lt2 c = rw (lt-ltb c.before.args.d 2 c.if-d-lt2.true)
 
-returns_2 : tie.Need-returns
-returns_2 c = rw (le-ltb c.before.args.d 2 c.if-d-lt2.false) (go (lt_or_le 64 c.before.args.d))
+returns : tie.Need-returns
+returns c = rw (le-ltb c.before.args.d 2 c.if-d-lt2.false) (go (lt_or_le 64 c.before.args.d))
   where
     go : (64 < c.before.args.d) ⊎ (c.before.args.d ≤ 64) → leb c.before.args.d 64 ≡ not (ltb 64 c.before.args.d)
     go (inl h) = rw (lt-leb c.before.args.d 64 h, lt-ltb 64 c.before.args.d h)
     go (inr h) = rw (le-leb c.before.args.d 64 h, le-ltb 64 c.before.args.d h)
 
 pub is_degree_spec : {M : Type 1} → statement M
-is_degree_spec = tie.close (tie.spec returns returns_2)
+is_degree_spec = tie.close (tie.spec returns-then-d-lt2 returns)

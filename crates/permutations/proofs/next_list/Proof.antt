@@ -22,50 +22,50 @@ check-requires c κs = search rules
 refuse-requires : tie.Need-refuse-requires
 refuse-requires c κs = search rules
 
-returns : tie.Need-returns-then-n-gt-MOST_PLACES
-returns c = listed_large _ _ _ _ _ _ c.refuse.ensures c.check.ensures (omega arith)
+returns-then-n-gt-MOST_PLACES : tie.Need-returns-then-n-gt-MOST_PLACES
+returns-then-n-gt-MOST_PLACES c = listed_large _ _ _ _ _ _ c.refuse.ensures c.check.ensures (omega arith)
 
-slice-aggregate-inverse-list : tie.Need-slice_bounds-inverse_list-end
-slice-aggregate-inverse-list c = search rules
+slice_bounds-inverse_list-end : tie.Need-slice_bounds-inverse_list-end
+slice_bounds-inverse_list-end c = search rules
 
-slice-aggregate-inverse-list-2 : tie.Need-slice_bounds-inverse_list-end-then-starts-gt-MAX_PLACES
-slice-aggregate-inverse-list-2 c = search rules
+slice_bounds-inverse_list-end-then-starts-gt-MAX_PLACES : tie.Need-slice_bounds-inverse_list-end-then-starts-gt-MAX_PLACES
+slice_bounds-inverse_list-end-then-starts-gt-MAX_PLACES c = search rules
 
-inverse-list-requires : tie.Need-inverse_list-requires
-inverse-list-requires c κs = search rules
+inverse_list-requires : tie.Need-inverse_list-requires
+inverse_list-requires c κs = search rules
 
-refuse-requires-2 : tie.Need-refuse-requires-then-starts-gt-MAX_PLACES
-refuse-requires-2 c κs = search rules
+refuse-requires-then-starts-gt-MAX_PLACES : tie.Need-refuse-requires-then-starts-gt-MAX_PLACES
+refuse-requires-then-starts-gt-MAX_PLACES c κs = search rules
 
-returns_2 : tie.Need-returns-then-starts-gt-MAX_PLACES
-returns_2 c =
+returns-then-starts-gt-MAX_PLACES : tie.Need-returns-then-starts-gt-MAX_PLACES
+returns-then-starts-gt-MAX_PLACES c =
     listed_more_runs _ _ _ _ _ _ c.refuse-then-starts-gt-MAX_PLACES.ensures _ _ c.inverse_list.ensures.says (omega arith) (omega arith)
 
-check-few-requires : tie.Need-check_few-checked-requires
-check-few-requires c κs = omega arith
+check_few-checked-requires : tie.Need-check_few-checked-requires
+check_few-checked-requires c κs = omega arith
 
-enum-known-checked : tie.Need-enum_known-checked
-enum-known-checked c = search rules
+enum_known-checked : tie.Need-enum_known-checked
+enum_known-checked c = search rules
 
-enum_told : tie.Need-enum_told-1
-enum_told c = search rules
+enum_told-1 : tie.Need-enum_told-1
+enum_told-1 c = search rules
 
-next-accepted-requires : tie.Need-next_accepted-requires
-next-accepted-requires c κs = (passed c.before.before, omega arith)
+next_accepted-requires : tie.Need-next_accepted-requires
+next_accepted-requires c κs = (passed c.before.before, omega arith)
 
-returns-3 : tie.Need-returns-in-Refused
-returns-3 c =
+returns-in-Refused : tie.Need-returns-in-Refused
+returns-in-Refused c =
     let e = c in
     listed_refused _ _ _ _ _ (ap checked_says (sym e.in-Refused.is) ∙ e.check_few-checked.ensures)
 
-same_length : tie.Need-shape_of-to_starts
-same_length c = search rules
+shape_of-to_starts : tie.Need-shape_of-to_starts
+shape_of-to_starts c = search rules
 
-same_length_2 : tie.Need-shape_of-to_images
-same_length_2 c = search rules
+shape_of-to_images : tie.Need-shape_of-to_images
+shape_of-to_images c = search rules
 
-returns-4 : tie.Need-returns-in-Accepted
-returns-4 c =
+returns-in-Accepted : tie.Need-returns-in-Accepted
+returns-in-Accepted c =
     let e = c in
     listed_later _ _ _ _ _ _ _ (passed e.before.before.before.before.before.before.before) e.next_accepted.ensures
 
@@ -75,17 +75,17 @@ next_list_spec =
     (tie.spec
     check-requires
     refuse-requires
-    returns
-    slice-aggregate-inverse-list
-    slice-aggregate-inverse-list-2
-    inverse-list-requires
-    refuse-requires-2
-    returns_2
-    check-few-requires
-    enum-known-checked
-    enum_told
-    next-accepted-requires
-    returns-3
-    same_length
-    same_length_2
-    returns-4)
+    returns-then-n-gt-MOST_PLACES
+    slice_bounds-inverse_list-end
+    slice_bounds-inverse_list-end-then-starts-gt-MAX_PLACES
+    inverse_list-requires
+    refuse-requires-then-starts-gt-MAX_PLACES
+    returns-then-starts-gt-MAX_PLACES
+    check_few-checked-requires
+    enum_known-checked
+    enum_told-1
+    next_accepted-requires
+    returns-in-Refused
+    shape_of-to_starts
+    shape_of-to_images
+    returns-in-Accepted)

@@ -9,14 +9,14 @@ use Rattle.outcomes.specs.Outcome.{over}
 use Rattle.plans.proofs.clear.Statement.{statement}
 use Rattle.plans.proofs.clear.Tie as tie
 
-bound-of-requires : tie.Need-bound_of-requires
-bound-of-requires c κs = search rules
+bound_of-requires : tie.Need-bound_of-requires
+bound_of-requires c κs = search rules
 
 clear-requires : tie.Need-clear-requires
 clear-requires c κs = omega (arith, c.bound_of.ensures.0, c.requires.3)
 
-same_length : tie.Need-shape_of-working
-same_length c = search rules
+shape_of-working : tie.Need-shape_of-working
+shape_of-working c = search rules
 
 returns : tie.Need-returns
 returns c =
@@ -28,4 +28,4 @@ returns c =
     ∙ ap (λ (k : ℕ). over (replicate k 0) a.args.working.now) b.ensures.0
 
 pub clear_spec : {M : Type 1} → statement M
-clear_spec = tie.close (tie.spec bound-of-requires clear-requires same_length returns)
+clear_spec = tie.close (tie.spec bound_of-requires clear-requires shape_of-working returns)

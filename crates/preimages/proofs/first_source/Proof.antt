@@ -14,30 +14,30 @@ invariant-loop-x images lengths j x₀ x = Searched (image_has images lengths j)
 abbrev decreases-loop-x : tie.decreases-loop-x
 decreases-loop-x images lengths j x₀ x = length images - x
 
-loop-holds : tie.Need-loop-x-init invariant-loop-x decreases-loop-x
-loop-holds c = searched_none _ _
+loop-x-init : tie.Need-loop-x-init invariant-loop-x decreases-loop-x
+loop-x-init c = searched_none _ _
 
-is-source-requires : tie.Need-is_source-requires invariant-loop-x decreases-loop-x
-is-source-requires c κs = omega arith
+is_source-requires : tie.Need-is_source-requires invariant-loop-x decreases-loop-x
+is_source-requires c κs = omega arith
 
-returns : tie.Need-returns-then-is_source invariant-loop-x decreases-loop-x
-returns c =
+returns-then-is_source : tie.Need-returns-then-is_source invariant-loop-x decreases-loop-x
+returns-then-is_source c =
     let l = c in
     searched_hit _ _ _ l.loop-x.invariant (omega arith) (sym c.is_source.ensures ∙ c.if-is_source.true)
 
-add-x : tie.Need-overflow_add-x invariant-loop-x decreases-loop-x
-add-x c = omega arith
+overflow_add-x : tie.Need-overflow_add-x invariant-loop-x decreases-loop-x
+overflow_add-x c = omega arith
 
-loop-less : tie.Need-loop-x-smaller invariant-loop-x decreases-loop-x
-loop-less c = omega arith
+loop-x-smaller : tie.Need-loop-x-smaller invariant-loop-x decreases-loop-x
+loop-x-smaller c = omega arith
 
-loop-again : tie.Need-loop-x-preserved invariant-loop-x decreases-loop-x
-loop-again c =
+loop-x-preserved : tie.Need-loop-x-preserved invariant-loop-x decreases-loop-x
+loop-x-preserved c =
     let l = c in
     searched_next _ _ _ l.loop-x.invariant (omega arith) (sym c.is_source.ensures ∙ c.if-is_source.false)
 
-returns_2 : tie.Need-returns invariant-loop-x decreases-loop-x
-returns_2 c = searched_end _ _ _ c.loop-x.invariant (omega arith)
+returns : tie.Need-returns invariant-loop-x decreases-loop-x
+returns c = searched_end _ _ _ c.loop-x.invariant (omega arith)
 
 pub first_source_spec : {M : Type 1} → statement M
 first_source_spec =
@@ -45,10 +45,10 @@ first_source_spec =
     (tie.spec
     invariant-loop-x
     decreases-loop-x
-    loop-holds
-    is-source-requires
-    returns
-    add-x
-    loop-less
-    loop-again
-    returns_2)
+    loop-x-init
+    is_source-requires
+    returns-then-is_source
+    overflow_add-x
+    loop-x-smaller
+    loop-x-preserved
+    returns)

@@ -42,58 +42,58 @@ source c =
     let e = measured (sought c) in
     c.first_source-x.ensures ∙ source_is (handed e) _ _ (shape e).linked.full.imaged
 
-is-misshapen-requires : tie.Need-is_misshapen-requires
-is-misshapen-requires c κs = search rules
+is_misshapen-requires : tie.Need-is_misshapen-requires
+is_misshapen-requires c κs = search rules
 
-returns : tie.Need-returns-then-is_misshapen
-returns c = inverse_shape _ _ _ _ c.is_misshapen.ensures c.if-is_misshapen.true
+returns-then-is_misshapen : tie.Need-returns-then-is_misshapen
+returns-then-is_misshapen c = inverse_shape _ _ _ _ c.is_misshapen.ensures c.if-is_misshapen.true
 
-first-wrong-length-requires : tie.Need-first_wrong_length-wrong-requires
-first-wrong-length-requires c κs = let s = shape c in (s.linked.some, s.measured)
+first_wrong_length-wrong-requires : tie.Need-first_wrong_length-wrong-requires
+first_wrong_length-wrong-requires c κs = let s = shape c in (s.linked.some, s.measured)
 
-cast-t13 : tie.Need-overflow_cast-result
-cast-t13 c = omega (arith, (shape c.before.before).linked.few)
+overflow_cast-result : tie.Need-overflow_cast-result
+overflow_cast-result c = omega (arith, (shape c.before.before).linked.few)
 
-returns_2 : tie.Need-returns-then-wrong-starts
-returns_2 c = inverse_length _ _ _ (shape c.before.before) _ c.first_wrong_length-wrong.ensures (omega arith)
+returns-then-wrong-starts : tie.Need-returns-then-wrong-starts
+returns-then-wrong-starts c = inverse_length _ _ _ (shape c.before.before) _ c.first_wrong_length-wrong.ensures (omega arith)
 
-returns-3 : tie.Need-returns-then-n-j
-returns-3 c = let e = c in inverse_far _ _ _ (shape (measured e.before)) (right e.before) (omega arith)
+returns-then-n-j : tie.Need-returns-then-n-j
+returns-then-n-j c = let e = c in inverse_far _ _ _ (shape (measured e.before)) (right e.before) (omega arith)
 
-first-source-requires : tie.Need-first_source-x-requires
-first-source-requires c κs = let s = shape (measured c.before) in omega arith
+first_source-x-requires : tie.Need-first_source-x-requires
+first_source-x-requires c κs = let s = shape (measured c.before) in omega arith
 
-returns-4 : tie.Need-returns-then-starts-x
-returns-4 c =
+returns-then-starts-x : tie.Need-returns-then-starts-x
+returns-then-starts-x c =
     let e = sought c.before in
     inverse_none _ _ _ (shape (measured e)) (right e) (omega arith) _ (source c.before) (omega arith)
 
-mul-t11 : tie.Need-offset_bounds-starts-x
-mul-t11 c = search rules
+offset_bounds-starts-x : tie.Need-offset_bounds-starts-x
+offset_bounds-starts-x c = search rules
 
-shared-slice-read-t18 : tie.Need-bounds-starts-x
-shared-slice-read-t18 c = search rules
+bounds-starts-x : tie.Need-bounds-starts-x
+bounds-starts-x c = search rules
 
-mul-t19 : tie.Need-offset_bounds-images-x
-mul-t19 c = search rules
+offset_bounds-images-x : tie.Need-offset_bounds-images-x
+offset_bounds-images-x c = search rules
 
-shared-slice-read-t21 : tie.Need-bounds-images-x
-shared-slice-read-t21 c = let s = shape (measured (sought c.before.before.before)) in omega arith
+bounds-images-x : tie.Need-bounds-images-x
+bounds-images-x c = let s = shape (measured (sought c.before.before.before)) in omega arith
 
-sub-t22 : tie.Need-overflow_sub-result
-sub-t22 c = let h = source_sends _ _ _ (source c.before.before.before) (omega arith) in omega arith
+overflow_sub-result : tie.Need-overflow_sub-result
+overflow_sub-result c = let h = source_sends _ _ _ (source c.before.before.before) (omega arith) in omega arith
 
-add-t23 : tie.Need-overflow_add-result
-add-t23 c =
+overflow_add-result : tie.Need-overflow_add-result
+overflow_add-result c =
     let f = c in
     let h = source_below _ _ _ _ (right (sought f.before.before.before)) (source f.before.before.before) (omega arith) in
     omega arith
 
-cast-t24 : tie.Need-overflow_cast-result-2
-cast-t24 c = omega (arith, (shape (measured (sought c.before.before.before))).linked.few)
+overflow_cast-result-2 : tie.Need-overflow_cast-result-2
+overflow_cast-result-2 c = omega (arith, (shape (measured (sought c.before.before.before))).linked.few)
 
-returns-5 : tie.Need-returns
-returns-5 c =
+returns : tie.Need-returns
+returns c =
     let f = c in
     let e = sought f.before.before.before in
     inverse_from _ _ _ (shape (measured e)) (right e) (omega arith) _ (source f.before.before.before) (omega arith)
@@ -102,19 +102,19 @@ pub inverse_spec : {M : Type 1} → statement M
 inverse_spec =
     tie.close
     (tie.spec
-    is-misshapen-requires
-    returns
-    first-wrong-length-requires
-    cast-t13
-    returns_2
-    returns-3
-    first-source-requires
-    returns-4
-    mul-t11
-    shared-slice-read-t18
-    mul-t19
-    shared-slice-read-t21
-    sub-t22
-    add-t23
-    cast-t24
-    returns-5)
+    is_misshapen-requires
+    returns-then-is_misshapen
+    first_wrong_length-wrong-requires
+    overflow_cast-result
+    returns-then-wrong-starts
+    returns-then-n-j
+    first_source-x-requires
+    returns-then-starts-x
+    offset_bounds-starts-x
+    bounds-starts-x
+    offset_bounds-images-x
+    bounds-images-x
+    overflow_sub-result
+    overflow_add-result
+    overflow_cast-result-2
+    returns)

@@ -5,33 +5,33 @@ use borrow.Author.Rules.{rules}
 use Rattle.preimages.proofs.is_source.Statement.{statement}
 use Rattle.preimages.proofs.is_source.Tie as tie
 
-mul-image : tie.Need-offset_bounds-images-x
-mul-image c = search rules
+offset_bounds-images-x : tie.Need-offset_bounds-images-x
+offset_bounds-images-x c = search rules
 
-shared-slice-read-image : tie.Need-bounds-images-x
-shared-slice-read-image c = search rules
+bounds-images-x : tie.Need-bounds-images-x
+bounds-images-x c = search rules
 
-returns : tie.Need-returns-then-j-image
+returns-then-j-image : tie.Need-returns-then-j-image
 unfolding image_has
-returns c = simp (lt-leb _ _ c.if-j-image.true)
+returns-then-j-image c = simp (lt-leb _ _ c.if-j-image.true)
 
-mul-result : tie.Need-offset_bounds-lengths-x
-mul-result c = search rules
+offset_bounds-lengths-x : tie.Need-offset_bounds-lengths-x
+offset_bounds-lengths-x c = search rules
 
-shared-slice-read-result : tie.Need-bounds-lengths-x
-shared-slice-read-result c = search rules
+bounds-lengths-x : tie.Need-bounds-lengths-x
+bounds-lengths-x c = search rules
 
-returns_2 : tie.Need-returns
+returns : tie.Need-returns
 unfolding image_has
-returns_2 c = simp (le-leb _ _ c.if-j-image.false)
+returns c = simp (le-leb _ _ c.if-j-image.false)
 
 pub is_source_spec : {M : Type 1} → statement M
 is_source_spec =
     tie.close
     (tie.spec
-    mul-image
-    shared-slice-read-image
-    returns
-    mul-result
-    shared-slice-read-result
-    returns_2)
+    offset_bounds-images-x
+    bounds-images-x
+    returns-then-j-image
+    offset_bounds-lengths-x
+    bounds-lengths-x
+    returns)

@@ -44,73 +44,73 @@ within c = record {
   within = rw c.first_out_of_range-out_of_range.ensures at c.if-out_of_range-k.false;
 }
 
-is-unmatched-requires : tie.Need-is_unmatched-requires
-is-unmatched-requires c κs = search rules
+is_unmatched-requires : tie.Need-is_unmatched-requires
+is_unmatched-requires c κs = search rules
 
-returns : tie.Need-returns-then-is_unmatched
-returns c = refused_into _ _ _ _ _ (check_unmatched _ _ _ (sym c.is_unmatched.ensures ∙ c.if-is_unmatched.true))
+returns-then-is_unmatched : tie.Need-returns-then-is_unmatched
+returns-then-is_unmatched c = refused_into _ _ _ _ _ (check_unmatched _ _ _ (sym c.is_unmatched.ensures ∙ c.if-is_unmatched.true))
 
-returns_2 : tie.Need-returns-then-most-k
-returns_2 c = refused_into _ _ _ _ _ (check_too_many _ _ _ (matched_here c.before) c.if-most-k.true)
+returns-then-most-k : tie.Need-returns-then-most-k
+returns-then-most-k c = refused_into _ _ _ _ _ (check_too_many _ _ _ (matched_here c.before) c.if-most-k.true)
 
-shared-slice-read-if3 : tie.Need-bounds-starts-0
-shared-slice-read-if3 c = (matched _ _ (matched_here c.before.before)).some
+bounds-starts-0 : tie.Need-bounds-starts-0
+bounds-starts-0 c = (matched _ _ (matched_here c.before.before)).some
 
-returns-3 : tie.Need-returns-then-starts-ne0
-returns-3 c =
+returns-then-starts-ne0 : tie.Need-returns-then-starts-ne0
+returns-then-starts-ne0 c =
     refused_into _ _ _ _ _
     (check_first_start _ _ _ (matched_here c.before.before.before) (omega arith) c.if-starts-ne0.true)
 
-first-unordered-requires : tie.Need-first_unordered-unordered-requires
-first-unordered-requires c κs = search rules
+first_unordered-unordered-requires : tie.Need-first_unordered-unordered-requires
+first_unordered-unordered-requires c κs = search rules
 
-cast-t19 : tie.Need-overflow_cast-result
-cast-t19 c = search rules
+overflow_cast-result : tie.Need-overflow_cast-result
+overflow_cast-result c = search rules
 
-returns-4 : tie.Need-returns-then-unordered-k
-returns-4 c =
+returns-then-unordered-k : tie.Need-returns-then-unordered-k
+returns-then-unordered-k c =
     refused_into _ _ _ _ _
     (check_unordered _ _ _ _ (omega arith) (begun c.before.before) c.first_unordered-unordered.ensures)
 
-first-out-of-range-requires : tie.Need-first_out_of_range-out_of_range-requires
-first-out-of-range-requires c κs = lasting _ _ _ (rising c)
+first_out_of_range-out_of_range-requires : tie.Need-first_out_of_range-out_of_range-requires
+first_out_of_range-out_of_range-requires c κs = lasting _ _ _ (rising c)
 
-cast-t21 : tie.Need-overflow_cast-result-then-out_of_range-k
-cast-t21 c = search rules
+overflow_cast-result-then-out_of_range-k : tie.Need-overflow_cast-result-then-out_of_range-k
+overflow_cast-result-then-out_of_range-k c = search rules
 
-returns-5 : tie.Need-returns-then-out_of_range-k
-returns-5 c =
+returns-then-out_of_range-k : tie.Need-returns-then-out_of_range-k
+returns-then-out_of_range-k c =
     refused_into _ _ _ _ _
     (check_out_of_range _ _ _ _ (omega arith) (rising c.before.before) c.first_out_of_range-out_of_range.ensures)
 
-first-overlap-requires : tie.Need-first_overlap-overlap-requires
-first-overlap-requires c κs =
+first_overlap-overlap-requires : tie.Need-first_overlap-overlap-requires
+first_overlap-overlap-requires c κs =
     let e = c in
     (lasting _ _ _ (rising e.before.before.before.before), omega arith, (start₅ e.before.before).requires.0 (omega arith), (start₅ e.before.before).requires.1 (omega arith))
 
-cast-t27 : tie.Need-overflow_cast-result-then-overlap-k
-cast-t27 c = search rules
+overflow_cast-result-then-overlap-k : tie.Need-overflow_cast-result-then-overlap-k
+overflow_cast-result-then-overlap-k c = search rules
 
-same_length : tie.Need-shape_of-order-then-overlap-k
-same_length c = search rules
+shape_of-order-then-overlap-k : tie.Need-shape_of-order-then-overlap-k
+shape_of-order-then-overlap-k c = search rules
 
-same_length_2 : tie.Need-shape_of-spare-then-overlap-k
-same_length_2 c = search rules
+shape_of-spare-then-overlap-k : tie.Need-shape_of-spare-then-overlap-k
+shape_of-spare-then-overlap-k c = search rules
 
-returns-6 : tie.Need-returns-then-overlap-k
-returns-6 c =
+returns-then-overlap-k : tie.Need-returns-then-overlap-k
+returns-then-overlap-k c =
     let o = c in
     refused_into _ _ _ _ _
     (check_overlap _ _ _ _ (omega arith) (within o.before.before.before.before.before.before.before.before) o.first_overlap-overlap.ensures.lowest)
 
-same-length-3 : tie.Need-shape_of-order
-same-length-3 c = search rules
+shape_of-order : tie.Need-shape_of-order
+shape_of-order c = search rules
 
-same-length-4 : tie.Need-shape_of-spare
-same-length-4 c = search rules
+shape_of-spare : tie.Need-shape_of-spare
+shape_of-spare c = search rules
 
-returns-7 : tie.Need-returns
-returns-7 c =
+returns : tie.Need-returns
+returns c =
     let o = c in
     record {
       says = check_accepts _ _ _ (within o.before.before.before.before.before.before.before.before) (rw o.first_overlap-overlap.ensures.lowest at c.if-overlap-k.false);
@@ -121,22 +121,22 @@ pub check_order_spec : {M : Type 1} → statement M
 check_order_spec =
     tie.close
     (tie.spec
-    is-unmatched-requires
-    returns
-    returns_2
-    shared-slice-read-if3
-    returns-3
-    first-unordered-requires
-    cast-t19
-    returns-4
-    first-out-of-range-requires
-    cast-t21
-    returns-5
-    first-overlap-requires
-    cast-t27
-    same_length
-    same_length_2
-    returns-6
-    same-length-3
-    same-length-4
-    returns-7)
+    is_unmatched-requires
+    returns-then-is_unmatched
+    returns-then-most-k
+    bounds-starts-0
+    returns-then-starts-ne0
+    first_unordered-unordered-requires
+    overflow_cast-result
+    returns-then-unordered-k
+    first_out_of_range-out_of_range-requires
+    overflow_cast-result-then-out_of_range-k
+    returns-then-out_of_range-k
+    first_overlap-overlap-requires
+    overflow_cast-result-then-overlap-k
+    shape_of-order-then-overlap-k
+    shape_of-spare-then-overlap-k
+    returns-then-overlap-k
+    shape_of-order
+    shape_of-spare
+    returns)

@@ -14,41 +14,41 @@ invariant-loop-x n starts lengths x₀ x = Searched (wrong_length n starts lengt
 abbrev decreases-loop-x : tie.decreases-loop-x
 decreases-loop-x n starts lengths x₀ x = length starts - x
 
-is-any-wrong-requires : tie.Need-is_any_wrong-requires invariant-loop-x decreases-loop-x
-is-any-wrong-requires c κs = search rules
+is_any_wrong-requires : tie.Need-is_any_wrong-requires invariant-loop-x decreases-loop-x
+is_any_wrong-requires c κs = search rules
 
-returns : tie.Need-returns-then-not-is_any_wrong invariant-loop-x decreases-loop-x
-returns c =
+returns-then-not-is_any_wrong : tie.Need-returns-then-not-is_any_wrong invariant-loop-x decreases-loop-x
+returns-then-not-is_any_wrong c =
     let a = c.args in
     let w = wrong_length a.n a.starts.now a.lengths.now in
     let k = length a.starts.now in
     let none = ltb-false (first_below w k) k (sym c.is_any_wrong.ensures ∙ c.if-not-is_any_wrong.true) in
     omega (arith, first_le w k)
 
-loop-holds : tie.Need-loop-x-init invariant-loop-x decreases-loop-x
-loop-holds c = searched_none _ _
+loop-x-init : tie.Need-loop-x-init invariant-loop-x decreases-loop-x
+loop-x-init c = searched_none _ _
 
-is-wrong-length-requires : tie.Need-is_wrong_length-requires invariant-loop-x decreases-loop-x
-is-wrong-length-requires c κs = omega arith
+is_wrong_length-requires : tie.Need-is_wrong_length-requires invariant-loop-x decreases-loop-x
+is_wrong_length-requires c κs = omega arith
 
-returns_2 : tie.Need-returns-then-is_wrong_length invariant-loop-x decreases-loop-x
-returns_2 c =
+returns-then-is_wrong_length : tie.Need-returns-then-is_wrong_length invariant-loop-x decreases-loop-x
+returns-then-is_wrong_length c =
     let l = c in
     searched_hit _ _ _ l.loop-x.invariant (omega arith) (sym c.is_wrong_length.ensures ∙ c.if-is_wrong_length.true)
 
-add-x : tie.Need-overflow_add-x invariant-loop-x decreases-loop-x
-add-x c = omega arith
+overflow_add-x : tie.Need-overflow_add-x invariant-loop-x decreases-loop-x
+overflow_add-x c = omega arith
 
-loop-less : tie.Need-loop-x-smaller invariant-loop-x decreases-loop-x
-loop-less c = omega arith
+loop-x-smaller : tie.Need-loop-x-smaller invariant-loop-x decreases-loop-x
+loop-x-smaller c = omega arith
 
-loop-again : tie.Need-loop-x-preserved invariant-loop-x decreases-loop-x
-loop-again c =
+loop-x-preserved : tie.Need-loop-x-preserved invariant-loop-x decreases-loop-x
+loop-x-preserved c =
     let l = c in
     searched_next _ _ _ l.loop-x.invariant (omega arith) (sym c.is_wrong_length.ensures ∙ c.if-is_wrong_length.false)
 
-returns-3 : tie.Need-returns invariant-loop-x decreases-loop-x
-returns-3 c = searched_end _ _ _ c.loop-x.invariant (omega arith)
+returns : tie.Need-returns invariant-loop-x decreases-loop-x
+returns c = searched_end _ _ _ c.loop-x.invariant (omega arith)
 
 pub first_wrong_length_spec : {M : Type 1} → statement M
 first_wrong_length_spec =
@@ -56,12 +56,12 @@ first_wrong_length_spec =
     (tie.spec
     invariant-loop-x
     decreases-loop-x
-    is-any-wrong-requires
-    returns
-    loop-holds
-    is-wrong-length-requires
-    returns_2
-    add-x
-    loop-less
-    loop-again
-    returns-3)
+    is_any_wrong-requires
+    returns-then-not-is_any_wrong
+    loop-x-init
+    is_wrong_length-requires
+    returns-then-is_wrong_length
+    overflow_add-x
+    loop-x-smaller
+    loop-x-preserved
+    returns)

@@ -4,41 +4,41 @@ use Rattle.std.proofs.Common.{sym, ◌∙◌, arith, rules}
 use Rattle.tables.proofs.is_broken.Statement.{statement}
 use Rattle.tables.proofs.is_broken.Tie as tie
 
-is-unheld-requires : tie.Need-is_unheld-requires
-is-unheld-requires c κs = search rules
+is_unheld-requires : tie.Need-is_unheld-requires
+is_unheld-requires c κs = search rules
 
-returns : tie.Need-returns-then-is_unheld
-returns c = sym (broken_unheld _ _ _ _ (sym c.is_unheld.ensures ∙ c.if-is_unheld.true))
+returns-then-is_unheld : tie.Need-returns-then-is_unheld
+returns-then-is_unheld c = sym (broken_unheld _ _ _ _ (sym c.is_unheld.ensures ∙ c.if-is_unheld.true))
 
 wide-requires : tie.Need-wide-requires
 wide-requires c κs = search rules
 
-mul_wide : tie.Need-offset_bounds-images-at
-mul_wide c = search rules
+offset_bounds-images-at : tie.Need-offset_bounds-images-at
+offset_bounds-images-at c = search rules
 
-shared-slice-read-wide : tie.Need-bounds-images-at
-shared-slice-read-wide c = search rules
+bounds-images-at : tie.Need-bounds-images-at
+bounds-images-at c = search rules
 
 wide-requires-2 : tie.Need-wide-requires-2
 wide-requires-2 c κs = search rules
 
-mul-wide-2 : tie.Need-offset_bounds-starts-at
-mul-wide-2 c = search rules
+offset_bounds-starts-at : tie.Need-offset_bounds-starts-at
+offset_bounds-starts-at c = search rules
 
-shared-slice-read-wide-2 : tie.Need-bounds-starts-at
-shared-slice-read-wide-2 c = search rules
+bounds-starts-at : tie.Need-bounds-starts-at
+bounds-starts-at c = search rules
 
-sub_wide : tie.Need-overflow_sub-i
-sub_wide c = search rules
+overflow_sub-i : tie.Need-overflow_sub-i
+overflow_sub-i c = search rules
 
 wide-requires-3 : tie.Need-wide-requires-3
 wide-requires-3 c κs = search rules
 
-add-result : tie.Need-overflow_add-result
-add-result c = search rules
+overflow_add-result : tie.Need-overflow_add-result
+overflow_add-result c = search rules
 
-returns_2 : tie.Need-returns
-returns_2 c =
+returns : tie.Need-returns
+returns c =
     let e = c in
     let f = e in
     broken_held _ _ _ _ (sym f.is_unheld.ensures ∙ f.if-is_unheld.false) _ _ e.wide.ensures.0 (omega arith)
@@ -47,15 +47,15 @@ pub is_broken_spec : {M : Type 1} → statement M
 is_broken_spec =
     tie.close
     (tie.spec
-    is-unheld-requires
-    returns
+    is_unheld-requires
+    returns-then-is_unheld
     wide-requires
-    mul_wide
-    shared-slice-read-wide
+    offset_bounds-images-at
+    bounds-images-at
     wide-requires-2
-    mul-wide-2
-    shared-slice-read-wide-2
-    sub_wide
+    offset_bounds-starts-at
+    bounds-starts-at
+    overflow_sub-i
     wide-requires-3
-    add-result
-    returns_2)
+    overflow_add-result
+    returns)

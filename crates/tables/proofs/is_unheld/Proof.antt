@@ -4,43 +4,43 @@ use Rattle.std.proofs.Common.{sym, arith, rules}
 use Rattle.tables.proofs.is_unheld.Statement.{statement}
 use Rattle.tables.proofs.is_unheld.Tie as tie
 
-mul-h : tie.Need-offset_bounds-holders-at
-mul-h c = search rules
+offset_bounds-holders-at : tie.Need-offset_bounds-holders-at
+offset_bounds-holders-at c = search rules
 
-shared-slice-read-h : tie.Need-bounds-holders-at
-shared-slice-read-h c = search rules
+bounds-holders-at : tie.Need-bounds-holders-at
+bounds-holders-at c = search rules
 
-cast-h : tie.Need-overflow_cast-h
-cast-h c = omega (arith, c.shared_slice_known-1.given c.args.x)
+overflow_cast-h : tie.Need-overflow_cast-h
+overflow_cast-h c = omega (arith, c.shared_slice_known-1.given c.args.x)
 
-returns : tie.Need-returns-then-starts-h
-returns c = sym (unheld_index _ _ (omega arith))
+returns-then-starts-h : tie.Need-returns-then-starts-h
+returns-then-starts-h c = sym (unheld_index _ _ (omega arith))
 
-mul-result : tie.Need-offset_bounds-images-at
-mul-result c = search rules
+offset_bounds-images-at : tie.Need-offset_bounds-images-at
+offset_bounds-images-at c = search rules
 
-shared-slice-read-result : tie.Need-bounds-images-at
-shared-slice-read-result c = search rules
+bounds-images-at : tie.Need-bounds-images-at
+bounds-images-at c = search rules
 
-mul-result-2 : tie.Need-offset_bounds-starts-h
-mul-result-2 c = search rules
+offset_bounds-starts-h : tie.Need-offset_bounds-starts-h
+offset_bounds-starts-h c = search rules
 
-shared-slice-read-result-2 : tie.Need-bounds-starts-h
-shared-slice-read-result-2 c = search rules
+bounds-starts-h : tie.Need-bounds-starts-h
+bounds-starts-h c = search rules
 
-returns_2 : tie.Need-returns
-returns_2 c = sym (unheld_start _ _ (omega arith))
+returns : tie.Need-returns
+returns c = sym (unheld_start _ _ (omega arith))
 
 pub is_unheld_spec : {M : Type 1} → statement M
 is_unheld_spec =
     tie.close
     (tie.spec
-    mul-h
-    shared-slice-read-h
-    cast-h
-    returns
-    mul-result
-    shared-slice-read-result
-    mul-result-2
-    shared-slice-read-result-2
-    returns_2)
+    offset_bounds-holders-at
+    bounds-holders-at
+    overflow_cast-h
+    returns-then-starts-h
+    offset_bounds-images-at
+    bounds-images-at
+    offset_bounds-starts-h
+    bounds-starts-h
+    returns)

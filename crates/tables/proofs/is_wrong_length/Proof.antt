@@ -5,23 +5,23 @@ use Rattle.std.proofs.Common.{get_or, ◌∙◌, rules}
 use Rattle.tables.proofs.is_wrong_length.Statement.{statement}
 use Rattle.tables.proofs.is_wrong_length.Tie as tie
 
-mul-differs : tie.Need-offset_bounds-starts-x
-mul-differs c = search rules
+offset_bounds-starts-x : tie.Need-offset_bounds-starts-x
+offset_bounds-starts-x c = search rules
 
-shared-slice-read-differs : tie.Need-bounds-starts-x
-shared-slice-read-differs c = search rules
+bounds-starts-x : tie.Need-bounds-starts-x
+bounds-starts-x c = search rules
 
-add-entry-or : tie.Need-overflow_add-x
-add-entry-or c = search rules
+overflow_add-x : tie.Need-overflow_add-x
+overflow_add-x c = search rules
 
-entry-or-requires : tie.Need-entry_or-requires
-entry-or-requires c κs = search rules
+entry_or-requires : tie.Need-entry_or-requires
+entry_or-requires c κs = search rules
 
-mul-differs-2 : tie.Need-offset_bounds-lengths-x
-mul-differs-2 c = search rules
+offset_bounds-lengths-x : tie.Need-offset_bounds-lengths-x
+offset_bounds-lengths-x c = search rules
 
-shared-slice-read-differs-2 : tie.Need-bounds-lengths-x
-shared-slice-read-differs-2 c = search rules
+bounds-lengths-x : tie.Need-bounds-lengths-x
+bounds-lengths-x c = search rules
 
 differs-requires : tie.Need-differs-requires
 differs-requires c κs = search rules
@@ -37,11 +37,11 @@ pub is_wrong_length_spec : {M : Type 1} → statement M
 is_wrong_length_spec =
     tie.close
     (tie.spec
-    mul-differs
-    shared-slice-read-differs
-    add-entry-or
-    entry-or-requires
-    mul-differs-2
-    shared-slice-read-differs-2
+    offset_bounds-starts-x
+    bounds-starts-x
+    overflow_add-x
+    entry_or-requires
+    offset_bounds-lengths-x
+    bounds-lengths-x
     differs-requires
     returns)

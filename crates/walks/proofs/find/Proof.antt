@@ -15,31 +15,31 @@ use borrow.Author.Rules.{rules}
 use Rattle.walks.proofs.find.Statement.{statement}
 use Rattle.walks.proofs.find.Tie as tie
 
-is-misshapen-requires : tie.Need-is_misshapen-requires
-is-misshapen-requires c κs = search rules
+is_misshapen-requires : tie.Need-is_misshapen-requires
+is_misshapen-requires c κs = search rules
 
-returns : tie.Need-returns-then-is_misshapen
-returns c = find_shape _ _ _ _ c.is_misshapen.ensures c.if-is_misshapen.true
+returns-then-is_misshapen : tie.Need-returns-then-is_misshapen
+returns-then-is_misshapen c = find_shape _ _ _ _ c.is_misshapen.ensures c.if-is_misshapen.true
 
-first-wrong-length-requires : tie.Need-first_wrong_length-wrong-requires
-first-wrong-length-requires c κs =
+first_wrong_length-wrong-requires : tie.Need-first_wrong_length-wrong-requires
+first_wrong_length-wrong-requires c κs =
     let s = shaped _ _ _ c.is_misshapen.ensures c.if-is_misshapen.false in
     omega arith
 
-cast-t12 : tie.Need-overflow_cast-result
-cast-t12 c =
+overflow_cast-result : tie.Need-overflow_cast-result
+overflow_cast-result c =
     let e = c in
     let s = shaped _ _ _ e.is_misshapen.ensures e.if-is_misshapen.false in
     omega arith
 
-returns_2 : tie.Need-returns-then-wrong-starts
-returns_2 c =
+returns-then-wrong-starts : tie.Need-returns-then-wrong-starts
+returns-then-wrong-starts c =
     let e = c in
     let s = shaped _ _ _ e.is_misshapen.ensures e.if-is_misshapen.false in
     find_length _ _ _ s _ c.first_wrong_length-wrong.ensures (omega arith)
 
-is-unfindable-requires : tie.Need-is_unfindable-requires
-is-unfindable-requires c κs =
+is_unfindable-requires : tie.Need-is_unfindable-requires
+is_unfindable-requires c κs =
     let e = c in
     let s = shaped _ _ _ e.is_misshapen.ensures e.if-is_misshapen.false in
     omega arith
@@ -57,13 +57,13 @@ shape w = shaped _ (given w) _ w.is_misshapen.ensures w.if-is_misshapen.false
 right : (w : tie.Else-wrong-starts) → Measured w.args.n (given w)
 right w = none_wrong _ (given w) _ w.first_wrong_length-wrong.ensures w.if-wrong-starts.false
 
-returns-3 : tie.Need-returns-then-is_unfindable
-returns-3 c =
+returns-then-is_unfindable : tie.Need-returns-then-is_unfindable
+returns-then-is_unfindable c =
     let w = c in
     find_out _ (given w.before.before) _ (shape w.before.before) (right w.before.before) (sym c.is_unfindable.ensures ∙ c.if-is_unfindable.true)
 
-add-count-below : tie.Need-overflow_add-i
-add-count-below c =
+overflow_add-i : tie.Need-overflow_add-i
+overflow_add-i c =
     let p = findable_is _ _ _ (sym c.is_unfindable.ensures ∙ c.if-is_unfindable.false) in
     omega arith
 
@@ -78,22 +78,22 @@ found c =
     found_counted k w.args.i _ (right_rise w.args.n k.list.starts (given w.before.before.before).lengths (right w.before.before.before)) (shape w.before.before.before).linked.some
     (findable_is w.args.n k.list.starts w.args.i f).1 c.count_below.ensures
 
-count-below-requires : tie.Need-count_below-requires
-count-below-requires c κs =
+count_below-requires : tie.Need-count_below-requires
+count_below-requires c κs =
     let w = c in
     let a = w.args in
     strict_sorted a.starts.now (right_rise a.n a.starts.now a.lengths.now (right w.before.before))
 
-sub-t17 : tie.Need-overflow_sub-result
-sub-t17 c = (found c).0
+overflow_sub-result : tie.Need-overflow_sub-result
+overflow_sub-result c = (found c).0
 
-cast-t18 : tie.Need-overflow_cast-result-2
-cast-t18 c =
+overflow_cast-result-2 : tie.Need-overflow_cast-result-2
+overflow_cast-result-2 c =
     let w = c in
     omega (arith, (shape w.before.before.before).linked.few, count_le_length (w.args.i + 1) w.args.starts.now, c.count_below.ensures)
 
-returns-4 : tie.Need-returns
-returns-4 c =
+returns : tie.Need-returns
+returns c =
     let w = c in
     let f = sym c.is_unfindable.ensures ∙ c.if-is_unfindable.false in
     find_at _ (given w.before.before.before) _ (shape w.before.before.before) (right w.before.before.before) f _ (found c).1
@@ -102,15 +102,15 @@ pub find_spec : {M : Type 1} → statement M
 find_spec =
     tie.close
     (tie.spec
-    is-misshapen-requires
-    returns
-    first-wrong-length-requires
-    cast-t12
-    returns_2
-    is-unfindable-requires
-    returns-3
-    add-count-below
-    count-below-requires
-    sub-t17
-    cast-t18
-    returns-4)
+    is_misshapen-requires
+    returns-then-is_misshapen
+    first_wrong_length-wrong-requires
+    overflow_cast-result
+    returns-then-wrong-starts
+    is_unfindable-requires
+    returns-then-is_unfindable
+    overflow_add-i
+    count_below-requires
+    overflow_sub-result
+    overflow_cast-result-2
+    returns)

@@ -5,14 +5,14 @@ use borrow.Author.Rules.{rules}
 use Rattle.walks.proofs.is_unfindable.Statement.{statement}
 use Rattle.walks.proofs.is_unfindable.Tie as tie
 
-returns : tie.Need-returns-then-n-i
-returns c = sym (far _ _ _ c.if-n-i.true)
+returns-then-n-i : tie.Need-returns-then-n-i
+returns-then-n-i c = sym (far _ _ _ c.if-n-i.true)
 
-shared-slice-read-result : tie.Need-bounds-starts-0
-shared-slice-read-result c = search rules
+bounds-starts-0 : tie.Need-bounds-starts-0
+bounds-starts-0 c = search rules
 
-returns_2 : tie.Need-returns
-returns_2 c = sym (near _ _ _ c.if-n-i.false)
+returns : tie.Need-returns
+returns c = sym (near _ _ _ c.if-n-i.false)
 
 pub is_unfindable_spec : {M : Type 1} → statement M
-is_unfindable_spec = tie.close (tie.spec returns shared-slice-read-result returns_2)
+is_unfindable_spec = tie.close (tie.spec returns-then-n-i bounds-starts-0 returns)

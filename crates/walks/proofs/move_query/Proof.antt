@@ -9,25 +9,25 @@ use Rattle.walks.proofs.move_query.Tie as tie
 locate-requires : tie.Need-locate-requires
 locate-requires c κs = search rules
 
-enum-known-r : tie.Need-enum_known-r
-enum-known-r c = search rules
+enum_known-r : tie.Need-enum_known-r
+enum_known-r c = search rules
 
-enum_told : tie.Need-enum_told-1
-enum_told c = search rules
+enum_told-1 : tie.Need-enum_told-1
+enum_told-1 c = search rules
 
 advance-requires : tie.Need-advance-requires
 advance-requires c κs =
     (located _ _ _ _ _ (ap moved_says (sym c.in-To.is) ∙ c.locate.ensures)).stands.at
 
-returns : tie.Need-returns-in-Refused
-returns c =
+returns-in-Refused : tie.Need-returns-in-Refused
+returns-in-Refused c =
     move_refused _ _ _ _ _ _ (ap moved_says (sym c.in-Refused.is) ∙ c.locate.ensures)
 
-returns_2 : tie.Need-returns-in-To
-returns_2 c =
+returns-in-To : tie.Need-returns-in-To
+returns-in-To c =
     let e = ap moved_says (sym c.in-To.is) ∙ c.locate.ensures in
     c.advance.ensures ∙ sym (move_located _ _ _ _ (located _ _ _ _ _ e))
 
 pub move_query_spec : {M : Type 1} → statement M
 move_query_spec =
-    tie.close (tie.spec locate-requires enum-known-r enum_told advance-requires returns returns_2)
+    tie.close (tie.spec locate-requires enum_known-r enum_told-1 advance-requires returns-in-Refused returns-in-To)

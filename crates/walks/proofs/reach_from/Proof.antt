@@ -5,11 +5,11 @@ use borrow.Author.Rules.{rules}
 use Rattle.walks.proofs.reach_from.Statement.{statement}
 use Rattle.walks.proofs.reach_from.Tie as tie
 
-walk-from-requires : tie.Need-walk_from-walked-requires
-walk-from-requires c κs = search rules
+walk_from-walked-requires : tie.Need-walk_from-walked-requires
+walk_from-walked-requires c κs = search rules
 
 returns : tie.Need-returns
 returns c = ap (λ (w : Walked). w.interval) c.walk_from-walked.ensures
 
 pub reach_from_spec : {M : Type 1} → statement M
-reach_from_spec = tie.close (tie.spec walk-from-requires returns)
+reach_from_spec = tie.close (tie.spec walk_from-walked-requires returns)

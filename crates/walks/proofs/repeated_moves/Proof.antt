@@ -11,25 +11,25 @@ use Rattle.walks.proofs.repeated_moves.Tie as tie
 locate-requires : tie.Need-locate-requires
 locate-requires c κs = search rules
 
-enum-known-r : tie.Need-enum_known-r
-enum-known-r c = search rules
+enum_known-r : tie.Need-enum_known-r
+enum_known-r c = search rules
 
-enum_told : tie.Need-enum_told-1
-enum_told c = search rules
+enum_told-1 : tie.Need-enum_told-1
+enum_told-1 c = search rules
 
-moves-from-requires : tie.Need-moves_from-requires
-moves-from-requires c κs =
+moves_from-requires : tie.Need-moves_from-requires
+moves_from-requires c κs =
     located _ _ _ _ _ (ap moved_says (sym c.in-To.is) ∙ c.locate.ensures)
 
-returns : tie.Need-returns-in-Refused
-returns c =
+returns-in-Refused : tie.Need-returns-in-Refused
+returns-in-Refused c =
     let e = ap moved_says (sym c.in-Refused.is) ∙ c.locate.ensures in
     moves_refused _ _ 0 _ _ _ _ _ (omega arith) e
 
-returns_2 : tie.Need-returns-in-To
-returns_2 c = search rules
+returns-in-To : tie.Need-returns-in-To
+returns-in-To c = search rules
 
 pub repeated_moves_spec : {M : Type 1} → statement M
 repeated_moves_spec =
     tie.close
-    (tie.spec locate-requires enum-known-r enum_told moves-from-requires returns returns_2)
+    (tie.spec locate-requires enum_known-r enum_told-1 moves_from-requires returns-in-Refused returns-in-To)

@@ -7,32 +7,32 @@ use borrow.Author.Rules.{rules}
 use Rattle.walks.proofs.step_from.Statement.{statement}
 use Rattle.walks.proofs.step_from.Tie as tie
 
-mul-j : tie.Need-offset_bounds-images-at
-mul-j c = search rules
+offset_bounds-images-at : tie.Need-offset_bounds-images-at
+offset_bounds-images-at c = search rules
 
-shared-slice-read-j : tie.Need-bounds-images-at
-shared-slice-read-j c = search rules
+bounds-images-at : tie.Need-bounds-images-at
+bounds-images-at c = search rules
 
-mul-j-2 : tie.Need-offset_bounds-starts-at
-mul-j-2 c = search rules
+offset_bounds-starts-at : tie.Need-offset_bounds-starts-at
+offset_bounds-starts-at c = search rules
 
-shared-slice-read-j-2 : tie.Need-bounds-starts-at
-shared-slice-read-j-2 c = search rules
+bounds-starts-at : tie.Need-bounds-starts-at
+bounds-starts-at c = search rules
 
-sub-j : tie.Need-overflow_sub-j
-sub-j c = search rules
+overflow_sub-j : tie.Need-overflow_sub-j
+overflow_sub-j c = search rules
 
-add-j : tie.Need-overflow_add-j
-add-j c = search rules
+overflow_add-j : tie.Need-overflow_add-j
+overflow_add-j c = search rules
 
-mul-walk-from : tie.Need-offset_bounds-holders-at
-mul-walk-from c = search rules
+offset_bounds-holders-at : tie.Need-offset_bounds-holders-at
+offset_bounds-holders-at c = search rules
 
-shared-slice-read-walk-from : tie.Need-bounds-holders-at
-shared-slice-read-walk-from c = search rules
+bounds-holders-at : tie.Need-bounds-holders-at
+bounds-holders-at c = search rules
 
-walk-from-requires : tie.Need-walk_from-walked-requires
-walk-from-requires c κs =
+walk_from-walked-requires : tie.Need-walk_from-walked-requires
+walk_from-walked-requires c κs =
     let s = c in
     ((held_is _ _ s.requires.held).0, s.requires.few)
 
@@ -49,14 +49,14 @@ pub step_from_spec : {M : Type 1} → statement M
 step_from_spec =
     tie.close
     (tie.spec
-    mul-j
-    shared-slice-read-j
-    mul-j-2
-    shared-slice-read-j-2
-    sub-j
-    add-j
-    mul-walk-from
-    shared-slice-read-walk-from
-    walk-from-requires
+    offset_bounds-images-at
+    bounds-images-at
+    offset_bounds-starts-at
+    bounds-starts-at
+    overflow_sub-j
+    overflow_add-j
+    offset_bounds-holders-at
+    bounds-holders-at
+    walk_from-walked-requires
     stand-requires
     returns)

@@ -10,32 +10,32 @@ use Rattle.weights.proofs.first.Tie as tie
 abbrev call : tie.After-shared_slice_known-4-1 → tie.Start
 call c = c.before.before.before.before
 
-mul-h : tie.Need-offset_bounds-holders-at
-mul-h c = search rules
+offset_bounds-holders-at : tie.Need-offset_bounds-holders-at
+offset_bounds-holders-at c = search rules
 
-shared-slice-read-h : tie.Need-bounds-holders-at
-shared-slice-read-h c = search rules
+bounds-holders-at : tie.Need-bounds-holders-at
+bounds-holders-at c = search rules
 
-cast-h : tie.Need-overflow_cast-h
-cast-h c = let h = held_is _ _ c.requires.1 in search rules
+overflow_cast-h : tie.Need-overflow_cast-h
+overflow_cast-h c = let h = held_is _ _ c.requires.1 in search rules
 
-mul-one-unless-equal : tie.Need-offset_bounds-starts-h
-mul-one-unless-equal c = let h = held_is _ _ c.requires.1 in search rules
+offset_bounds-starts-h : tie.Need-offset_bounds-starts-h
+offset_bounds-starts-h c = let h = held_is _ _ c.requires.1 in search rules
 
-shared-slice-read-one-unless-equal : tie.Need-bounds-starts-h
-shared-slice-read-one-unless-equal c = let h = held_is _ _ c.requires.1 in search rules
+bounds-starts-h : tie.Need-bounds-starts-h
+bounds-starts-h c = let h = held_is _ _ c.requires.1 in search rules
 
-mul-one-unless-equal-2 : tie.Need-offset_bounds-images-at
-mul-one-unless-equal-2 c = search rules
+offset_bounds-images-at : tie.Need-offset_bounds-images-at
+offset_bounds-images-at c = search rules
 
-shared-slice-read-one-unless-equal-2 : tie.Need-bounds-images-at
-shared-slice-read-one-unless-equal-2 c = search rules
+bounds-images-at : tie.Need-bounds-images-at
+bounds-images-at c = search rules
 
-one-unless-equal-requires : tie.Need-one_unless_equal-requires
-one-unless-equal-requires c κs = let h = held_is _ _ c.requires.1 in search rules
+one_unless_equal-requires : tie.Need-one_unless_equal-requires
+one_unless_equal-requires c κs = let h = held_is _ _ c.requires.1 in search rules
 
-add-result : tie.Need-overflow_add-result
-add-result c = let h = held_is _ _ c.requires.1 in search rules
+overflow_add-result : tie.Need-overflow_add-result
+overflow_add-result c = let h = held_is _ _ c.requires.1 in search rules
 
 returns : tie.Need-returns
 returns c = first_is _ _ _ c.one_unless_equal.ensures.0
@@ -44,13 +44,13 @@ pub first_spec : {M : Type 1} → statement M
 first_spec =
     tie.close
     (tie.spec
-    mul-h
-    shared-slice-read-h
-    cast-h
-    mul-one-unless-equal
-    shared-slice-read-one-unless-equal
-    mul-one-unless-equal-2
-    shared-slice-read-one-unless-equal-2
-    one-unless-equal-requires
-    add-result
+    offset_bounds-holders-at
+    bounds-holders-at
+    overflow_cast-h
+    offset_bounds-starts-h
+    bounds-starts-h
+    offset_bounds-images-at
+    bounds-images-at
+    one_unless_equal-requires
+    overflow_add-result
     returns)

@@ -20,14 +20,14 @@ one_unless a b r h equal below = go (lt_or_le a b)
     go (inl l) = simp (ne_eqb a b (λ e. absurd (omega arith))) (below l)
     go (inr l) = let e : a ≡ b = omega arith in simp (eq-eqb a b e) (equal e)
 
-sub_wide : tie.Need-overflow_sub-image
-sub_wide c = search rules
+overflow_sub-image : tie.Need-overflow_sub-image
+overflow_sub-image c = search rules
 
 wide-requires : tie.Need-wide-requires
 wide-requires c κs = search rules
 
-add-result : tie.Need-overflow_add-result
-add-result c = search rules
+overflow_add-result : tie.Need-overflow_add-result
+overflow_add-result c = search rules
 
 returns : tie.Need-returns
 returns c =
@@ -35,4 +35,4 @@ returns c =
     (one_unless a.start a.image _ (omega arith) (λ e. omega arith) (λ l. omega arith), omega arith)
 
 pub one_unless_equal_spec : {M : Type 1} → statement M
-one_unless_equal_spec = tie.close (tie.spec sub_wide wide-requires add-result returns)
+one_unless_equal_spec = tie.close (tie.spec overflow_sub-image wide-requires overflow_add-result returns)

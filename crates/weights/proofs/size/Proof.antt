@@ -13,77 +13,77 @@ use Rattle.weights.proofs.size.Tie as tie
 abbrev tested : tie.After-wide-3 → tie.Else-is_unheld
 tested c = c.before.before.before.before.before
 
-is-wrong-length-requires : tie.Need-is_wrong_length-requires
-is-wrong-length-requires c κs = search rules
+is_wrong_length-requires : tie.Need-is_wrong_length-requires
+is_wrong_length-requires c κs = search rules
 
-returns : tie.Need-returns-then-is_wrong_length
-returns c = size_mismatch _ _ _ (sym c.is_wrong_length.ensures ∙ c.if-is_wrong_length.true)
+returns-then-is_wrong_length : tie.Need-returns-then-is_wrong_length
+returns-then-is_wrong_length c = size_mismatch _ _ _ (sym c.is_wrong_length.ensures ∙ c.if-is_wrong_length.true)
 
-is-unheld-requires : tie.Need-is_unheld-requires
-is-unheld-requires c κs = search rules
+is_unheld-requires : tie.Need-is_unheld-requires
+is_unheld-requires c κs = search rules
 
-returns_2 : tie.Need-returns-then-is_unheld
-returns_2 c =
+returns-then-is_unheld : tie.Need-returns-then-is_unheld
+returns-then-is_unheld c =
     let l = c in
     size_broken _ _ _ (sym l.is_wrong_length.ensures ∙ l.if-is_wrong_length.false)
     (unplaced_unheld _ _ _ (sym c.is_unheld.ensures ∙ c.if-is_unheld.true))
 
-mul_wide : tie.Need-offset_bounds-images-at
-mul_wide c = search rules
+offset_bounds-images-at : tie.Need-offset_bounds-images-at
+offset_bounds-images-at c = search rules
 
-shared-slice-read-wide : tie.Need-bounds-images-at
-shared-slice-read-wide c = search rules
+bounds-images-at : tie.Need-bounds-images-at
+bounds-images-at c = search rules
 
 wide-requires : tie.Need-wide-requires
 wide-requires c κs = search rules
 
-mul-wide-2 : tie.Need-offset_bounds-lengths-at
-mul-wide-2 c = search rules
+offset_bounds-lengths-at : tie.Need-offset_bounds-lengths-at
+offset_bounds-lengths-at c = search rules
 
-shared-slice-read-wide-2 : tie.Need-bounds-lengths-at
-shared-slice-read-wide-2 c = search rules
+bounds-lengths-at : tie.Need-bounds-lengths-at
+bounds-lengths-at c = search rules
 
 wide-requires-2 : tie.Need-wide-requires-2
 wide-requires-2 c κs = search rules
 
-add-image-end : tie.Need-overflow_add-image_end
-add-image-end c = search rules
+overflow_add-image_end : tie.Need-overflow_add-image_end
+overflow_add-image_end c = search rules
 
 wide-requires-3 : tie.Need-wide-requires-3
 wide-requires-3 c κs = search rules
 
-returns-3 : tie.Need-returns-then-wide-image_end
-returns-3 c =
+returns-then-wide-image_end : tie.Need-returns-then-wide-image_end
+returns-then-wide-image_end c =
     let h = tested c.before in
     let l = h in
     size_broken _ _ _ (sym l.is_wrong_length.ensures ∙ l.if-is_wrong_length.false)
     (unplaced_far _ _ _ (sym h.is_unheld.ensures ∙ h.if-is_unheld.false) (omega arith))
 
-first-requires : tie.Need-first-from-requires
-first-requires c κs =
+first-from-requires : tie.Need-first-from-requires
+first-from-requires c κs =
     let h = tested c.before in
     let held = sym h.is_unheld.ensures ∙ h.if-is_unheld.false in
     search rules
 
-sub-stretch-length : tie.Need-overflow_sub-image_end
-sub-stretch-length c =
+overflow_sub-image_end : tie.Need-overflow_sub-image_end
+overflow_sub-image_end c =
     let l = (tested c.before.before).before.before in
     let right = matching_is _ _ _ (sym l.is_wrong_length.ensures ∙ c.if-is_wrong_length.false) in
     omega (arith, right)
 
-cast-stretch-length : tie.Need-overflow_cast-image_end
-cast-stretch-length c = search rules
+overflow_cast-image_end : tie.Need-overflow_cast-image_end
+overflow_cast-image_end c = search rules
 
-stretch-length-requires : tie.Need-stretch_length-requires
-stretch-length-requires c κs =
+stretch_length-requires : tie.Need-stretch_length-requires
+stretch_length-requires c κs =
     let h = tested c.before.before in
     first_within _ _ _ c.first-from.ensures (sym h.is_unheld.ensures ∙ h.if-is_unheld.false)
 
-cast-t17 : tie.Need-overflow_cast-result
-cast-t17 c = search rules
+overflow_cast-result : tie.Need-overflow_cast-result
+overflow_cast-result c = search rules
 
-returns-4 : tie.Need-returns
-returns-4 c =
+returns : tie.Need-returns
+returns c =
     let h = tested c.before.before.before in
     let l = h in
     let right = sym l.is_wrong_length.ensures ∙ l.if-is_wrong_length.false in
@@ -96,22 +96,22 @@ pub size_spec : {M : Type 1} → statement M
 size_spec =
     tie.close
     (tie.spec
-    is-wrong-length-requires
-    returns
-    is-unheld-requires
-    returns_2
-    mul_wide
-    shared-slice-read-wide
+    is_wrong_length-requires
+    returns-then-is_wrong_length
+    is_unheld-requires
+    returns-then-is_unheld
+    offset_bounds-images-at
+    bounds-images-at
     wide-requires
-    mul-wide-2
-    shared-slice-read-wide-2
+    offset_bounds-lengths-at
+    bounds-lengths-at
     wide-requires-2
-    add-image-end
+    overflow_add-image_end
     wide-requires-3
-    returns-3
-    first-requires
-    sub-stretch-length
-    cast-stretch-length
-    stretch-length-requires
-    cast-t17
-    returns-4)
+    returns-then-wide-image_end
+    first-from-requires
+    overflow_sub-image_end
+    overflow_cast-image_end
+    stretch_length-requires
+    overflow_cast-result
+    returns)

@@ -10,58 +10,58 @@ use Rattle.weights.proofs.starts_under.Tie as tie
 under-requires : tie.Need-under-requires
 under-requires c κs = search rules
 
-enum_told : tie.Need-enum_told-1
-enum_told c = search rules
+enum_told-1 : tie.Need-enum_told-1
+enum_told-1 c = search rules
 
-sub-result : tie.Need-slice_bounds-result-count
-sub-result c = search rules
+slice_bounds-result-count : tie.Need-slice_bounds-result-count
+slice_bounds-result-count c = search rules
 
-part-result-start : tie.Need-slice_bounds-result-start
-part-result-start c = search rules
+slice_bounds-result-start : tie.Need-slice_bounds-result-start
+slice_bounds-result-start c = search rules
 
-part-result-end : tie.Need-slice_bounds-result-end
-part-result-end c = search rules
+slice_bounds-result-end : tie.Need-slice_bounds-result-end
+slice_bounds-result-end c = search rules
 
-enum-known-s : tie.Need-enum_known-s
-enum-known-s c = search rules
+enum_known-s : tie.Need-enum_known-s
+enum_known-s c = search rules
 
-cast-from : tie.Need-overflow_cast-from
-cast-from c = search rules
+overflow_cast-from : tie.Need-overflow_cast-from
+overflow_cast-from c = search rules
 
-cast-result : tie.Need-overflow_cast-result
-cast-result c = search rules
+overflow_cast-result : tie.Need-overflow_cast-result
+overflow_cast-result c = search rules
 
-add-result : tie.Need-overflow_add-result
-add-result c =
+overflow_add-result : tie.Need-overflow_add-result
+overflow_add-result c =
     let f = c in
     let e = ap stretched_says (sym f.in-At.is) ∙ f.under.ensures in
     omega (arith, under_within _ _ _ _ e)
 
-mul-result : tie.Need-offset_bounds-starts-from
-mul-result c =
+offset_bounds-starts-from : tie.Need-offset_bounds-starts-from
+offset_bounds-starts-from c =
     let f = c in
     let e = ap stretched_says (sym f.in-At.is) ∙ f.under.ensures in
     omega (arith, under_within _ _ _ _ e)
 
-sub-result-2 : tie.Need-slice_bounds-result-count-in-At
-sub-result-2 c = search rules
+slice_bounds-result-count-in-At : tie.Need-slice_bounds-result-count-in-At
+slice_bounds-result-count-in-At c = search rules
 
-part-result-start-2 : tie.Need-slice_bounds-result-start-in-At
-part-result-start-2 c = search rules
+slice_bounds-result-start-in-At : tie.Need-slice_bounds-result-start-in-At
+slice_bounds-result-start-in-At c = search rules
 
-part-result-end-2 : tie.Need-slice_bounds-result-end-in-At
-part-result-end-2 c =
+slice_bounds-result-end-in-At : tie.Need-slice_bounds-result-end-in-At
+slice_bounds-result-end-in-At c =
     let f = c in
     let e = ap stretched_says (sym f.in-At.is) ∙ f.under.ensures in
     under_within _ _ _ _ e
 
-returns : tie.Need-returns-in-Refused
-returns c =
+returns-in-Refused : tie.Need-returns-in-Refused
+returns-in-Refused c =
     let u = c in
     under_empty _ _ _ _ _ (ap stretched_says (sym c.in-Refused.is) ∙ u.under.ensures)
 
-returns_2 : tie.Need-returns-in-At
-returns_2 c =
+returns-in-At : tie.Need-returns-in-At
+returns-in-At c =
     let f = c in
     let e = ap stretched_says (sym f.in-At.is) ∙ f.under.ensures in
     under_part _ _ _ _ e
@@ -71,17 +71,17 @@ starts_under_spec =
     tie.close
     (tie.spec
     under-requires
-    enum_told
-    sub-result
-    part-result-start
-    part-result-end
-    enum-known-s
-    cast-from
-    cast-result
-    add-result
-    mul-result
-    sub-result-2
-    part-result-start-2
-    part-result-end-2
-    returns
-    returns_2)
+    enum_told-1
+    slice_bounds-result-count
+    slice_bounds-result-start
+    slice_bounds-result-end
+    enum_known-s
+    overflow_cast-from
+    overflow_cast-result
+    overflow_add-result
+    offset_bounds-starts-from
+    slice_bounds-result-count-in-At
+    slice_bounds-result-start-in-At
+    slice_bounds-result-end-in-At
+    returns-in-Refused
+    returns-in-At)

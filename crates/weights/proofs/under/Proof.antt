@@ -10,30 +10,30 @@ use Rattle.weights.proofs.under.Tie as tie
 weight-requires : tie.Need-weight-requires
 weight-requires c κs = search rules
 
-enum-known-r : tie.Need-enum_known-r
-enum-known-r c = search rules
+enum_known-r : tie.Need-enum_known-r
+enum_known-r c = search rules
 
-enum-known-w : tie.Need-enum_known-w
-enum-known-w c = search rules
+enum_known-w : tie.Need-enum_known-w
+enum_known-w c = search rules
 
 first-requires : tie.Need-first-requires
 first-requires c κs =
     let e = ap weighed_says (sym c.in-Weight.is) ∙ c.weight.ensures in
     (weight_entered _ _ _ _ e, weight_held _ _ _ _ e)
 
-cast-t12 : tie.Need-overflow_cast-result
-cast-t12 c =
+overflow_cast-result : tie.Need-overflow_cast-result
+overflow_cast-result c =
     let f = c in
     let e = ap weighed_says (sym f.in-Weight.is) ∙ f.weight.ensures in
     omega (arith, first_fits _ _ _ _ e _ c.first.ensures)
 
-returns : tie.Need-returns-in-Refused
-returns c =
+returns-in-Refused : tie.Need-returns-in-Refused
+returns-in-Refused c =
     let w = c in
     under_unweighed _ _ _ _ _ (ap weighed_says (sym c.in-Refused.is) ∙ w.weight.ensures)
 
-returns_2 : tie.Need-returns-in-Weight
-returns_2 c =
+returns-in-Weight : tie.Need-returns-in-Weight
+returns-in-Weight c =
     let f = c in
     let e = ap weighed_says (sym f.in-Weight.is) ∙ f.weight.ensures in
     under_done _ _ _ _ e _ c.first.ensures
@@ -41,4 +41,4 @@ returns_2 c =
 pub under_spec : {M : Type 1} → statement M
 under_spec =
     tie.close
-    (tie.spec weight-requires enum-known-r enum-known-w first-requires cast-t12 returns returns_2)
+    (tie.spec weight-requires enum_known-r enum_known-w first-requires overflow_cast-result returns-in-Refused returns-in-Weight)

@@ -7,14 +7,14 @@ use borrow.Author.Rules.{rules}
 use Rattle.weights.proofs.weight.Statement.{statement}
 use Rattle.weights.proofs.weight.Tie as tie
 
-is-misshapen-requires : tie.Need-is_misshapen-requires
-is-misshapen-requires c κs = search rules
+is_misshapen-requires : tie.Need-is_misshapen-requires
+is_misshapen-requires c κs = search rules
 
-returns : tie.Need-returns-then-is_misshapen
-returns c = weight_shape _ _ _ _ c.is_misshapen.ensures c.if-is_misshapen.true
+returns-then-is_misshapen : tie.Need-returns-then-is_misshapen
+returns-then-is_misshapen c = weight_shape _ _ _ _ c.is_misshapen.ensures c.if-is_misshapen.true
 
-returns_2 : tie.Need-returns-then-starts-x
-returns_2 c =
+returns-then-starts-x : tie.Need-returns-then-starts-x
+returns-then-starts-x c =
     let e = c in
     weight_index _ _ _ (shaped _ _ _ e.is_misshapen.ensures e.if-is_misshapen.false) (omega arith)
 
@@ -24,11 +24,11 @@ size-requires c κs =
     let s = shaped _ _ _ e.is_misshapen.ensures e.if-is_misshapen.false in
     record { shape = s; index = omega arith }
 
-returns-3 : tie.Need-returns
-returns-3 c =
+returns : tie.Need-returns
+returns c =
     let e = c in
     let s = shaped _ _ _ e.is_misshapen.ensures e.if-is_misshapen.false in
     c.size.ensures ∙ sym (weight_indexed _ _ _ (record { shape = s; index = omega arith }))
 
 pub weight_spec : {M : Type 1} → statement M
-weight_spec = tie.close (tie.spec is-misshapen-requires returns returns_2 size-requires returns-3)
+weight_spec = tie.close (tie.spec is_misshapen-requires returns-then-is_misshapen returns-then-starts-x size-requires returns)

@@ -15,43 +15,43 @@ invariant-loop-i from x to₀ at count i₀ to i = Copying from to₀ x at to i
 abbrev decreases-loop-i : tie.decreases-loop-i
 decreases-loop-i from x to₀ at count i₀ to i = count - i
 
-sub-count : tie.Need-overflow_sub-count invariant-loop-i decreases-loop-i
-sub-count c = search rules
+overflow_sub-count : tie.Need-overflow_sub-count invariant-loop-i decreases-loop-i
+overflow_sub-count c = search rules
 
-loop-holds : tie.Need-loop-i-init invariant-loop-i decreases-loop-i
-loop-holds c = copying_none _ _ _ _ c.requires.0 c.requires.1
+loop-i-init : tie.Need-loop-i-init invariant-loop-i decreases-loop-i
+loop-i-init c = copying_none _ _ _ _ c.requires.0 c.requires.1
 
-add-to : tie.Need-overflow_add-to invariant-loop-i decreases-loop-i
-add-to c = search rules
+overflow_add-to : tie.Need-overflow_add-to invariant-loop-i decreases-loop-i
+overflow_add-to c = search rules
 
-mul-to : tie.Need-offset_bounds-from-x invariant-loop-i decreases-loop-i
-mul-to c = search rules
+offset_bounds-from-x : tie.Need-offset_bounds-from-x invariant-loop-i decreases-loop-i
+offset_bounds-from-x c = search rules
 
-shared-slice-read-to : tie.Need-bounds-from-x invariant-loop-i decreases-loop-i
-shared-slice-read-to c = search rules
+bounds-from-x : tie.Need-bounds-from-x invariant-loop-i decreases-loop-i
+bounds-from-x c = search rules
 
-add-to-2 : tie.Need-overflow_add-to-in-loop-i invariant-loop-i decreases-loop-i
-add-to-2 c = search rules
+overflow_add-to-in-loop-i : tie.Need-overflow_add-to-in-loop-i invariant-loop-i decreases-loop-i
+overflow_add-to-in-loop-i c = search rules
 
-mul-to-2 : tie.Need-offset_bounds-to-at invariant-loop-i decreases-loop-i
-mul-to-2 c = search rules
+offset_bounds-to-at : tie.Need-offset_bounds-to-at invariant-loop-i decreases-loop-i
+offset_bounds-to-at c = search rules
 
-slice-write-to : tie.Need-bounds-to-at invariant-loop-i decreases-loop-i
-slice-write-to c =
+bounds-to-at : tie.Need-bounds-to-at invariant-loop-i decreases-loop-i
+bounds-to-at c =
     let l = c.loop-i in
     omega (arith, copying_length _ _ _ _ l.to l.i l.invariant, l.invariant)
 
-add-i : tie.Need-overflow_add-i invariant-loop-i decreases-loop-i
-add-i c = search rules
+overflow_add-i : tie.Need-overflow_add-i invariant-loop-i decreases-loop-i
+overflow_add-i c = search rules
 
-loop-less : tie.Need-loop-i-smaller invariant-loop-i decreases-loop-i
-loop-less c = omega arith
+loop-i-smaller : tie.Need-loop-i-smaller invariant-loop-i decreases-loop-i
+loop-i-smaller c = omega arith
 
-loop-again : tie.Need-loop-i-preserved invariant-loop-i decreases-loop-i
-loop-again c = copying_next _ _ _ _ _ _ c.loop-i.invariant (omega arith)
+loop-i-preserved : tie.Need-loop-i-preserved invariant-loop-i decreases-loop-i
+loop-i-preserved c = copying_next _ _ _ _ _ _ c.loop-i.invariant (omega arith)
 
-same_length : tie.Need-shape_of-to invariant-loop-i decreases-loop-i
-same_length c = copying_length _ _ _ _ _ _ c.loop-i.invariant
+shape_of-to : tie.Need-shape_of-to invariant-loop-i decreases-loop-i
+shape_of-to c = copying_length _ _ _ _ _ _ c.loop-i.invariant
 
 returns : tie.Need-returns invariant-loop-i decreases-loop-i
 returns c =
@@ -66,16 +66,16 @@ copy_rest_spec =
     (tie.spec
     invariant-loop-i
     decreases-loop-i
-    sub-count
-    loop-holds
-    add-to
-    mul-to
-    shared-slice-read-to
-    add-to-2
-    mul-to-2
-    slice-write-to
-    add-i
-    loop-less
-    loop-again
-    same_length
+    overflow_sub-count
+    loop-i-init
+    overflow_add-to
+    offset_bounds-from-x
+    bounds-from-x
+    overflow_add-to-in-loop-i
+    offset_bounds-to-at
+    bounds-to-at
+    overflow_add-i
+    loop-i-smaller
+    loop-i-preserved
+    shape_of-to
     returns)

@@ -21,8 +21,8 @@ invariant-loop-i starts images x most to-starts₀ to-images₀ at i₀ to-start
 abbrev decreases-loop-i : tie.decreases-loop-i
 decreases-loop-i starts images x most to-starts₀ to-images₀ at i₀ to-starts to-images i = length starts - (x + i)
 
-loop-holds : tie.Need-loop-i-init invariant-loop-i decreases-loop-i
-loop-holds c =
+loop-i-init : tie.Need-loop-i-init invariant-loop-i decreases-loop-i
+loop-i-init c =
     let a = c.args in
     let p = c.requires in
     let z : a.x + 0 ≡ a.x = omega arith in (
@@ -31,66 +31,66 @@ loop-holds c =
       rw z (omega arith),
     )
 
-add-loop : tie.Need-overflow_add-x invariant-loop-i decreases-loop-i
-add-loop c = search rules
+overflow_add-x : tie.Need-overflow_add-x invariant-loop-i decreases-loop-i
+overflow_add-x c = search rules
 
-add-if1 : tie.Need-overflow_add-x-in-loop-i invariant-loop-i decreases-loop-i
-add-if1 c = search rules
+overflow_add-x-in-loop-i : tie.Need-overflow_add-x-in-loop-i invariant-loop-i decreases-loop-i
+overflow_add-x-in-loop-i c = search rules
 
-mul-if1 : tie.Need-offset_bounds-starts-x invariant-loop-i decreases-loop-i
-mul-if1 c = search rules
+offset_bounds-starts-x : tie.Need-offset_bounds-starts-x invariant-loop-i decreases-loop-i
+offset_bounds-starts-x c = search rules
 
-shared-slice-read-if1 : tie.Need-bounds-starts-x invariant-loop-i decreases-loop-i
-shared-slice-read-if1 c = search rules
+bounds-starts-x : tie.Need-bounds-starts-x invariant-loop-i decreases-loop-i
+bounds-starts-x c = search rules
 
-add-to-starts : tie.Need-overflow_add-to_starts invariant-loop-i decreases-loop-i
-add-to-starts c = search rules
+overflow_add-to_starts : tie.Need-overflow_add-to_starts invariant-loop-i decreases-loop-i
+overflow_add-to_starts c = search rules
 
-mul-to-starts : tie.Need-offset_bounds-starts-x-in-loop-i invariant-loop-i decreases-loop-i
-mul-to-starts c = search rules
+offset_bounds-starts-x-in-loop-i : tie.Need-offset_bounds-starts-x-in-loop-i invariant-loop-i decreases-loop-i
+offset_bounds-starts-x-in-loop-i c = search rules
 
-shared-slice-read-to-starts : tie.Need-bounds-starts-x-in-loop-i invariant-loop-i decreases-loop-i
-shared-slice-read-to-starts c = search rules
+bounds-starts-x-in-loop-i : tie.Need-bounds-starts-x-in-loop-i invariant-loop-i decreases-loop-i
+bounds-starts-x-in-loop-i c = search rules
 
-add-to-starts-2 : tie.Need-overflow_add-to_starts-in-loop-i invariant-loop-i decreases-loop-i
-add-to-starts-2 c = search rules
+overflow_add-to_starts-in-loop-i : tie.Need-overflow_add-to_starts-in-loop-i invariant-loop-i decreases-loop-i
+overflow_add-to_starts-in-loop-i c = search rules
 
-mul-to-starts-2 : tie.Need-offset_bounds-to_starts-at invariant-loop-i decreases-loop-i
-mul-to-starts-2 c = search rules
+offset_bounds-to_starts-at : tie.Need-offset_bounds-to_starts-at invariant-loop-i decreases-loop-i
+offset_bounds-to_starts-at c = search rules
 
-slice-write-to-starts : tie.Need-bounds-to_starts-at invariant-loop-i decreases-loop-i
-slice-write-to-starts c =
+bounds-to_starts-at : tie.Need-bounds-to_starts-at invariant-loop-i decreases-loop-i
+bounds-to_starts-at c =
     let l = c.loop-i in
     omega (arith, copying_length _ _ _ _ l.to_starts l.i l.invariant.0, l.invariant.0)
 
-add-to-images : tie.Need-overflow_add-to_images invariant-loop-i decreases-loop-i
-add-to-images c = search rules
+overflow_add-to_images : tie.Need-overflow_add-to_images invariant-loop-i decreases-loop-i
+overflow_add-to_images c = search rules
 
-mul-to-images : tie.Need-offset_bounds-images-x invariant-loop-i decreases-loop-i
-mul-to-images c = search rules
+offset_bounds-images-x : tie.Need-offset_bounds-images-x invariant-loop-i decreases-loop-i
+offset_bounds-images-x c = search rules
 
-shared-slice-read-to-images : tie.Need-bounds-images-x invariant-loop-i decreases-loop-i
-shared-slice-read-to-images c = search rules
+bounds-images-x : tie.Need-bounds-images-x invariant-loop-i decreases-loop-i
+bounds-images-x c = search rules
 
-add-to-images-2 : tie.Need-overflow_add-to_images-in-loop-i invariant-loop-i decreases-loop-i
-add-to-images-2 c = search rules
+overflow_add-to_images-in-loop-i : tie.Need-overflow_add-to_images-in-loop-i invariant-loop-i decreases-loop-i
+overflow_add-to_images-in-loop-i c = search rules
 
-mul-to-images-2 : tie.Need-offset_bounds-to_images-at invariant-loop-i decreases-loop-i
-mul-to-images-2 c = search rules
+offset_bounds-to_images-at : tie.Need-offset_bounds-to_images-at invariant-loop-i decreases-loop-i
+offset_bounds-to_images-at c = search rules
 
-slice-write-to-images : tie.Need-bounds-to_images-at invariant-loop-i decreases-loop-i
-slice-write-to-images c =
+bounds-to_images-at : tie.Need-bounds-to_images-at invariant-loop-i decreases-loop-i
+bounds-to_images-at c =
     let l = c.loop-i in
     omega (arith, copying_length _ _ _ _ l.to_images l.i l.invariant.1, l.invariant.1)
 
-add-i : tie.Need-overflow_add-i invariant-loop-i decreases-loop-i
-add-i c = search rules
+overflow_add-i : tie.Need-overflow_add-i invariant-loop-i decreases-loop-i
+overflow_add-i c = search rules
 
-loop-less : tie.Need-loop-i-smaller invariant-loop-i decreases-loop-i
-loop-less c = omega arith
+loop-i-smaller : tie.Need-loop-i-smaller invariant-loop-i decreases-loop-i
+loop-i-smaller c = omega arith
 
-loop-again : tie.Need-loop-i-preserved invariant-loop-i decreases-loop-i
-loop-again c =
+loop-i-preserved : tie.Need-loop-i-preserved invariant-loop-i decreases-loop-i
+loop-i-preserved c =
     let l = c in
     let a = l.args in
     let z : a.x + (l.loop-i.i + 1) ≡ suc (a.x + l.loop-i.i) = omega arith in (
@@ -103,14 +103,14 @@ loop-again c =
       )),
     )
 
-same_length : tie.Need-shape_of-to_starts-else-starts-x invariant-loop-i decreases-loop-i
-same_length c = copying_length _ _ _ _ _ _ c.loop-i.invariant.0
+shape_of-to_starts-else-starts-x : tie.Need-shape_of-to_starts-else-starts-x invariant-loop-i decreases-loop-i
+shape_of-to_starts-else-starts-x c = copying_length _ _ _ _ _ _ c.loop-i.invariant.0
 
-same_length_2 : tie.Need-shape_of-to_images-else-starts-x invariant-loop-i decreases-loop-i
-same_length_2 c = copying_length _ _ _ _ _ _ c.loop-i.invariant.1
+shape_of-to_images-else-starts-x : tie.Need-shape_of-to_images-else-starts-x invariant-loop-i decreases-loop-i
+shape_of-to_images-else-starts-x c = copying_length _ _ _ _ _ _ c.loop-i.invariant.1
 
-returns : tie.Need-returns-else-starts-x invariant-loop-i decreases-loop-i
-returns c =
+returns-else-starts-x : tie.Need-returns-else-starts-x invariant-loop-i decreases-loop-i
+returns-else-starts-x c =
     let l = c in
     let a = l.args in (
       omega (
@@ -122,14 +122,14 @@ returns c =
       l.loop-i.invariant.1.is,
     )
 
-same-length-3 : tie.Need-shape_of-to_starts-after-loop-i invariant-loop-i decreases-loop-i
-same-length-3 c = copying_length _ _ _ _ _ _ c.loop-i.invariant.0
+shape_of-to_starts-after-loop-i : tie.Need-shape_of-to_starts-after-loop-i invariant-loop-i decreases-loop-i
+shape_of-to_starts-after-loop-i c = copying_length _ _ _ _ _ _ c.loop-i.invariant.0
 
-same-length-4 : tie.Need-shape_of-to_images-after-loop-i invariant-loop-i decreases-loop-i
-same-length-4 c = copying_length _ _ _ _ _ _ c.loop-i.invariant.1
+shape_of-to_images-after-loop-i : tie.Need-shape_of-to_images-after-loop-i invariant-loop-i decreases-loop-i
+shape_of-to_images-after-loop-i c = copying_length _ _ _ _ _ _ c.loop-i.invariant.1
 
-returns_2 : tie.Need-returns-after-loop-i invariant-loop-i decreases-loop-i
-returns_2 c =
+returns-after-loop-i : tie.Need-returns-after-loop-i invariant-loop-i decreases-loop-i
+returns-after-loop-i c =
     let l = c in
     let a = l.args in (
       omega (
@@ -147,29 +147,29 @@ copy_up_to_spec =
     (tie.spec
     invariant-loop-i
     decreases-loop-i
-    loop-holds
-    add-loop
-    add-if1
-    mul-if1
-    shared-slice-read-if1
-    add-to-starts
-    mul-to-starts
-    shared-slice-read-to-starts
-    add-to-starts-2
-    mul-to-starts-2
-    slice-write-to-starts
-    add-to-images
-    mul-to-images
-    shared-slice-read-to-images
-    add-to-images-2
-    mul-to-images-2
-    slice-write-to-images
-    add-i
-    loop-less
-    loop-again
-    same_length
-    same_length_2
-    returns
-    same-length-3
-    same-length-4
-    returns_2)
+    loop-i-init
+    overflow_add-x
+    overflow_add-x-in-loop-i
+    offset_bounds-starts-x
+    bounds-starts-x
+    overflow_add-to_starts
+    offset_bounds-starts-x-in-loop-i
+    bounds-starts-x-in-loop-i
+    overflow_add-to_starts-in-loop-i
+    offset_bounds-to_starts-at
+    bounds-to_starts-at
+    overflow_add-to_images
+    offset_bounds-images-x
+    bounds-images-x
+    overflow_add-to_images-in-loop-i
+    offset_bounds-to_images-at
+    bounds-to_images-at
+    overflow_add-i
+    loop-i-smaller
+    loop-i-preserved
+    shape_of-to_starts-else-starts-x
+    shape_of-to_images-else-starts-x
+    returns-else-starts-x
+    shape_of-to_starts-after-loop-i
+    shape_of-to_images-after-loop-i
+    returns-after-loop-i)

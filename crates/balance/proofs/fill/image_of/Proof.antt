@@ -7,23 +7,23 @@ use Rattle.runs.proofs.Legality.{homes, map_at}
 use Rattle.balance.proofs.fill.image_of.Statement.{statement}
 use Rattle.balance.proofs.fill.image_of.Tie as tie
 
-mul-result : tie.Need-offset_bounds-images-x
-mul-result c = search rules
+offset_bounds-images-x : tie.Need-offset_bounds-images-x
+offset_bounds-images-x c = search rules
 
-shared-slice-read-result : tie.Need-bounds-images-x
-shared-slice-read-result c = search rules
+bounds-images-x : tie.Need-bounds-images-x
+bounds-images-x c = search rules
 
-mul-result-2 : tie.Need-offset_bounds-starts-x
-mul-result-2 c = search rules
+offset_bounds-starts-x : tie.Need-offset_bounds-starts-x
+offset_bounds-starts-x c = search rules
 
-shared-slice-read-result-2 : tie.Need-bounds-starts-x
-shared-slice-read-result-2 c = search rules
+bounds-starts-x : tie.Need-bounds-starts-x
+bounds-starts-x c = search rules
 
-sub-result : tie.Need-overflow_sub-result
-sub-result c = search rules
+overflow_sub-result : tie.Need-overflow_sub-result
+overflow_sub-result c = search rules
 
-add-result : tie.Need-overflow_add-result
-add-result c = let a = c in
+overflow_add-result : tie.Need-overflow_add-result
+overflow_add-result c = let a = c in
     omega (arith, a.requires.0.within a.args.x a.requires.1.known, a.requires.1)
 
 returns : tie.Need-returns
@@ -37,10 +37,10 @@ pub image_of_spec : {M : Type 1} → statement M
 image_of_spec =
     tie.close
     (tie.spec
-    mul-result
-    shared-slice-read-result
-    mul-result-2
-    shared-slice-read-result-2
-    sub-result
-    add-result
+    offset_bounds-images-x
+    bounds-images-x
+    offset_bounds-starts-x
+    bounds-starts-x
+    overflow_sub-result
+    overflow_add-result
     returns)

@@ -41,29 +41,29 @@ taken : (c : tie.After-room-1) → let a = c.args in
     length (take (length a.starts.now) a.to_lengths.now) ≡ length a.starts.now
 taken c = let a = start c in length-take-le (length a.args.starts.now) a.args.to_lengths.now a.requires.2
 
-slice-relend-prefix-room : tie.Need-slice_bounds-room-end
-slice-relend-prefix-room c = search rules
+slice_bounds-room-end : tie.Need-slice_bounds-room-end
+slice_bounds-room-end c = search rules
 
-slice-aggregate-room : tie.Need-slice_bounds-room-end-2
-slice-aggregate-room c = sym (taken c)
+slice_bounds-room-end-2 : tie.Need-slice_bounds-room-end-2
+slice_bounds-room-end-2 c = sym (taken c)
 
-write-holders-requires : tie.Need-write_holders-requires
-write-holders-requires c κs = let a = start c.before in
+write_holders-requires : tie.Need-write_holders-requires
+write_holders-requires c κs = let a = start c.before in
     (a.requires.0, a.requires.1, taken c.before)
 
-write-lengths-requires : tie.Need-write_lengths-requires
-write-lengths-requires c κs =
+write_lengths-requires : tie.Need-write_lengths-requires
+write_lengths-requires c κs =
     let h = held c in
     let a = start (lent h) in
     let s = a.args.starts.now in
     let e = length_front a.args.to_lengths.now (left h) (length s) h.write_holders.auto.room in
     (a.requires.0.some, (homes a.args.n (runs s a.args.images.now) a.requires.0).lasting, omega (arith, e, a.requires.2))
 
-same_length : tie.Need-shape_of-to_holders
-same_length c = search rules
+shape_of-to_holders : tie.Need-shape_of-to_holders
+shape_of-to_holders c = search rules
 
-same_length_2 : tie.Need-shape_of-to_lengths
-same_length_2 c = search rules
+shape_of-to_lengths : tie.Need-shape_of-to_lengths
+shape_of-to_lengths c = search rules
 
 returns : tie.Need-returns
 returns c =
@@ -80,10 +80,10 @@ pub write_holders_and_lengths_spec : {M : Type 1} → statement M
 write_holders_and_lengths_spec =
     tie.close
     (tie.spec
-    slice-relend-prefix-room
-    slice-aggregate-room
-    write-holders-requires
-    write-lengths-requires
-    same_length
-    same_length_2
+    slice_bounds-room-end
+    slice_bounds-room-end-2
+    write_holders-requires
+    write_lengths-requires
+    shape_of-to_holders
+    shape_of-to_lengths
     returns)

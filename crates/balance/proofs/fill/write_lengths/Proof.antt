@@ -28,50 +28,50 @@ last_end n l = get_or-eq_default l n (omega arith)
 long : (a : tie.Start invariant-loop-x decreases-loop-x) → length (lengths_of a.args.n a.args.starts.now) ≡ length a.args.starts.now
 long a = lengths_long a.args.n a.args.starts.now
 
-sub-last : tie.Need-overflow_sub-last invariant-loop-x decreases-loop-x
-sub-last c = omega (arith, c.requires.0)
+overflow_sub-last : tie.Need-overflow_sub-last invariant-loop-x decreases-loop-x
+overflow_sub-last c = omega (arith, c.requires.0)
 
-loop-holds : tie.Need-loop-x-init invariant-loop-x decreases-loop-x
-loop-holds c = (omega arith, filling_none _ _ (omega (arith, long c, c.requires.2)))
+loop-x-init : tie.Need-loop-x-init invariant-loop-x decreases-loop-x
+loop-x-init c = (omega arith, filling_none _ _ (omega (arith, long c, c.requires.2)))
 
-add-to : tie.Need-overflow_add-to invariant-loop-x decreases-loop-x
-add-to c = omega arith
+overflow_add-to : tie.Need-overflow_add-to invariant-loop-x decreases-loop-x
+overflow_add-to c = omega arith
 
-mul-to : tie.Need-offset_bounds-starts-x invariant-loop-x decreases-loop-x
-mul-to c = omega arith
+offset_bounds-starts-x : tie.Need-offset_bounds-starts-x invariant-loop-x decreases-loop-x
+offset_bounds-starts-x c = omega arith
 
-shared-slice-read-to : tie.Need-bounds-starts-x invariant-loop-x decreases-loop-x
-shared-slice-read-to c = omega arith
+bounds-starts-x : tie.Need-bounds-starts-x invariant-loop-x decreases-loop-x
+bounds-starts-x c = omega arith
 
-mul-to-2 : tie.Need-offset_bounds-starts-x-in-loop-x invariant-loop-x decreases-loop-x
-mul-to-2 c = omega arith
+offset_bounds-starts-x-in-loop-x : tie.Need-offset_bounds-starts-x-in-loop-x invariant-loop-x decreases-loop-x
+offset_bounds-starts-x-in-loop-x c = omega arith
 
-shared-slice-read-to-2 : tie.Need-bounds-starts-x-in-loop-x invariant-loop-x decreases-loop-x
-shared-slice-read-to-2 c = omega arith
+bounds-starts-x-in-loop-x : tie.Need-bounds-starts-x-in-loop-x invariant-loop-x decreases-loop-x
+bounds-starts-x-in-loop-x c = omega arith
 
-sub-to : tie.Need-overflow_sub-to invariant-loop-x decreases-loop-x
-sub-to c =
+overflow_sub-to : tie.Need-overflow_sub-to invariant-loop-x decreases-loop-x
+overflow_sub-to c =
     let e = c in
     let a = e in
     let x = e.loop-x.x in
     omega (arith, next_end a.args.n a.args.starts.now x (omega arith), a.requires.1 x (omega arith))
 
-mul-to-3 : tie.Need-offset_bounds-to-x invariant-loop-x decreases-loop-x
-mul-to-3 c = omega arith
+offset_bounds-to-x : tie.Need-offset_bounds-to-x invariant-loop-x decreases-loop-x
+offset_bounds-to-x c = omega arith
 
-slice-write-to : tie.Need-bounds-to-x invariant-loop-x decreases-loop-x
-slice-write-to c =
+bounds-to-x : tie.Need-bounds-to-x invariant-loop-x decreases-loop-x
+bounds-to-x c =
     let e = c in
     omega (arith, e.requires.2, filling_length _ _ _ _ e.loop-x.invariant.1)
 
-add-x : tie.Need-overflow_add-x invariant-loop-x decreases-loop-x
-add-x c = omega arith
+overflow_add-x : tie.Need-overflow_add-x invariant-loop-x decreases-loop-x
+overflow_add-x c = omega arith
 
-loop-less : tie.Need-loop-x-smaller invariant-loop-x decreases-loop-x
-loop-less c = omega arith
+loop-x-smaller : tie.Need-loop-x-smaller invariant-loop-x decreases-loop-x
+loop-x-smaller c = omega arith
 
-loop-again : tie.Need-loop-x-preserved invariant-loop-x decreases-loop-x
-loop-again c =
+loop-x-preserved : tie.Need-loop-x-preserved invariant-loop-x decreases-loop-x
+loop-x-preserved c =
     let e = c in
     let a = e in
     let s = a.args.starts.now in
@@ -80,23 +80,23 @@ loop-again c =
     let z = lengths_at a.args.n s x (omega arith) in
     (omega arith, filling_next _ _ _ _ e.loop-x.invariant.1 (omega (arith, long a.before.before.before.before)) _ (omega arith))
 
-mul-to-4 : tie.Need-offset_bounds-starts-last invariant-loop-x decreases-loop-x
-mul-to-4 c = omega arith
+offset_bounds-starts-last : tie.Need-offset_bounds-starts-last invariant-loop-x decreases-loop-x
+offset_bounds-starts-last c = omega arith
 
-shared-slice-read-to-3 : tie.Need-bounds-starts-last invariant-loop-x decreases-loop-x
-shared-slice-read-to-3 c = omega (arith, c.requires.0)
+bounds-starts-last : tie.Need-bounds-starts-last invariant-loop-x decreases-loop-x
+bounds-starts-last c = omega (arith, c.requires.0)
 
-sub-to-2 : tie.Need-overflow_sub-to-2 invariant-loop-x decreases-loop-x
-sub-to-2 c =
+overflow_sub-to-2 : tie.Need-overflow_sub-to-2 invariant-loop-x decreases-loop-x
+overflow_sub-to-2 c =
     let a = c in
     let s = a.args.starts.now in
     omega (arith, last_end a.args.n s, a.requires.1 (length s - 1) (omega (arith, a.requires.0)))
 
-mul-to-5 : tie.Need-offset_bounds-to-last invariant-loop-x decreases-loop-x
-mul-to-5 c = omega arith
+offset_bounds-to-last : tie.Need-offset_bounds-to-last invariant-loop-x decreases-loop-x
+offset_bounds-to-last c = omega arith
 
-slice-write-to-2 : tie.Need-bounds-to-last invariant-loop-x decreases-loop-x
-slice-write-to-2 c =
+bounds-to-last : tie.Need-bounds-to-last invariant-loop-x decreases-loop-x
+bounds-to-last c =
     let e = c in
     let a = e in
     omega (arith, a.requires.0, a.requires.2, filling_length _ _ _ _ e.loop-x.invariant.1)
@@ -117,8 +117,8 @@ all c =
     filling_next _ _ _ _ (subst (Filling (lengths_of a.args.n s) a.args.to.now e.loop-x.to) q e.loop-x.invariant.1)
     (omega (arith, long a.before.before.before, a.requires.0)) _ (omega arith)
 
-same_length : tie.Need-shape_of-to invariant-loop-x decreases-loop-x
-same_length c = filling_length _ _ _ _ (all c)
+shape_of-to : tie.Need-shape_of-to invariant-loop-x decreases-loop-x
+shape_of-to c = filling_length _ _ _ _ (all c)
 
 returns : tie.Need-returns invariant-loop-x decreases-loop-x
 returns c = filling_all _ _ _ _ (all c) (omega (arith, long c.before.before.before))
@@ -129,23 +129,23 @@ write_lengths_spec =
     (tie.spec
     invariant-loop-x
     decreases-loop-x
-    sub-last
-    loop-holds
-    add-to
-    mul-to
-    shared-slice-read-to
-    mul-to-2
-    shared-slice-read-to-2
-    sub-to
-    mul-to-3
-    slice-write-to
-    add-x
-    loop-less
-    loop-again
-    mul-to-4
-    shared-slice-read-to-3
-    sub-to-2
-    mul-to-5
-    slice-write-to-2
-    same_length
+    overflow_sub-last
+    loop-x-init
+    overflow_add-to
+    offset_bounds-starts-x
+    bounds-starts-x
+    offset_bounds-starts-x-in-loop-x
+    bounds-starts-x-in-loop-x
+    overflow_sub-to
+    offset_bounds-to-x
+    bounds-to-x
+    overflow_add-x
+    loop-x-smaller
+    loop-x-preserved
+    offset_bounds-starts-last
+    bounds-starts-last
+    overflow_sub-to-2
+    offset_bounds-to-last
+    bounds-to-last
+    shape_of-to
     returns)

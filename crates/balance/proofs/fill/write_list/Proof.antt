@@ -76,25 +76,25 @@ had c =
     has_cut _ (list_of a) _ _ _ a.requires.0 a.requires.1 _ _ _ _ (copied c).1
     c.loop-c-test.true (copied c).0
 
-loop-holds : tie.Need-loop-c-init invariant-loop-c decreases-loop-c
-loop-holds c =
+loop-c-init : tie.Need-loop-c-init invariant-loop-c decreases-loop-c
+loop-c-init c =
     let a = c in
     let e = merged_length a.args.starts.now a.args.cuts.now in
     writing_start _ (list_of a.before.before.before.before.before) _ _ _ a.requires.0 a.requires.1 (omega (arith, a.requires.2)) (omega (arith, a.requires.3))
 
-mul-cut : tie.Need-offset_bounds-cuts-c invariant-loop-c decreases-loop-c
-mul-cut c = search rules
+offset_bounds-cuts-c : tie.Need-offset_bounds-cuts-c invariant-loop-c decreases-loop-c
+offset_bounds-cuts-c c = search rules
 
-shared-slice-read-cut : tie.Need-bounds-cuts-c invariant-loop-c decreases-loop-c
-shared-slice-read-cut c = search rules
+bounds-cuts-c : tie.Need-bounds-cuts-c invariant-loop-c decreases-loop-c
+bounds-cuts-c c = search rules
 
-add-copy-up-to : tie.Need-overflow_add-x invariant-loop-c decreases-loop-c
-add-copy-up-to c =
+overflow_add-x : tie.Need-overflow_add-x invariant-loop-c decreases-loop-c
+overflow_add-x c =
     let l = c in
     omega (arith, within l.before.before.before.before, l.requires.2, l.well_formed)
 
-copy-up-to-requires : tie.Need-copy_up_to-x-requires invariant-loop-c decreases-loop-c
-copy-up-to-requires c κs =
+copy_up_to-x-requires : tie.Need-copy_up_to-x-requires invariant-loop-c decreases-loop-c
+copy_up_to-x-requires c κs =
     let l = c in
     let a = start l.before.before.before.before in (
       a.requires.0.paired,
@@ -103,87 +103,87 @@ copy-up-to-requires c κs =
       omega (arith, within l.before.before.before.before, kept l.before.before.before.before, a.requires.3),
     )
 
-add-x : tie.Need-overflow_add-x-in-loop-c invariant-loop-c decreases-loop-c
-add-x c =
+overflow_add-x-in-loop-c : tie.Need-overflow_add-x-in-loop-c invariant-loop-c decreases-loop-c
+overflow_add-x-in-loop-c c =
     let w = c in
     omega (arith, room w.before.before.before.before, w.requires.2, w.well_formed)
 
-add-to-starts : tie.Need-overflow_add-to_starts invariant-loop-c decreases-loop-c
-add-to-starts c =
+overflow_add-to_starts : tie.Need-overflow_add-to_starts invariant-loop-c decreases-loop-c
+overflow_add-to_starts c =
     let w = c in
     omega (arith, room w.before.before.before.before, w.requires.2, w.well_formed)
 
-mul-to-starts : tie.Need-offset_bounds-to_starts-x invariant-loop-c decreases-loop-c
-mul-to-starts c =
+offset_bounds-to_starts-x : tie.Need-offset_bounds-to_starts-x invariant-loop-c decreases-loop-c
+offset_bounds-to_starts-x c =
     let w = c in
     omega (arith, room w.before.before.before.before, w.requires.2, w.well_formed)
 
-slice-write-to-starts : tie.Need-bounds-to_starts-x invariant-loop-c decreases-loop-c
-slice-write-to-starts c =
+bounds-to_starts-x : tie.Need-bounds-to_starts-x invariant-loop-c decreases-loop-c
+bounds-to_starts-x c =
     let w = c in
     omega (arith, room w.before.before.before.before, w.requires.2)
 
-sub-image-of : tie.Need-overflow_sub-x invariant-loop-c decreases-loop-c
-sub-image-of c = omega (arith, (had c.before.before.before.before).0)
+overflow_sub-x : tie.Need-overflow_sub-x invariant-loop-c decreases-loop-c
+overflow_sub-x c = omega (arith, (had c.before.before.before.before).0)
 
-image-of-requires : tie.Need-image_of-requires invariant-loop-c decreases-loop-c
-image-of-requires c κs = let w = c in (w.requires.0, (had w.before.before.before.before).1)
+image_of-requires : tie.Need-image_of-requires invariant-loop-c decreases-loop-c
+image_of-requires c κs = let w = c in (w.requires.0, (had w.before.before.before.before).1)
 
-add-to-images : tie.Need-overflow_add-to_images invariant-loop-c decreases-loop-c
-add-to-images c =
+overflow_add-to_images : tie.Need-overflow_add-to_images invariant-loop-c decreases-loop-c
+overflow_add-to_images c =
     let w = c in
     omega (arith, room w.before.before.before.before.before, w.requires.2, w.well_formed)
 
-mul-to-images : tie.Need-offset_bounds-to_images-x invariant-loop-c decreases-loop-c
-mul-to-images c =
+offset_bounds-to_images-x : tie.Need-offset_bounds-to_images-x invariant-loop-c decreases-loop-c
+offset_bounds-to_images-x c =
     let w = c in
     omega (arith, room w.before.before.before.before.before, w.requires.3, w.well_formed)
 
-slice-write-to-images : tie.Need-bounds-to_images-x invariant-loop-c decreases-loop-c
-slice-write-to-images c =
+bounds-to_images-x : tie.Need-bounds-to_images-x invariant-loop-c decreases-loop-c
+bounds-to_images-x c =
     let w = c in
     omega (arith, room w.before.before.before.before.before, w.requires.3)
 
-add-c : tie.Need-overflow_add-c invariant-loop-c decreases-loop-c
-add-c c = search rules
+overflow_add-c : tie.Need-overflow_add-c invariant-loop-c decreases-loop-c
+overflow_add-c c = search rules
 
-loop-less : tie.Need-loop-c-smaller invariant-loop-c decreases-loop-c
-loop-less c = omega arith
+loop-c-smaller : tie.Need-loop-c-smaller invariant-loop-c decreases-loop-c
+loop-c-smaller c = omega arith
 
-loop-again : tie.Need-loop-c-preserved invariant-loop-c decreases-loop-c
-loop-again c =
+loop-c-preserved : tie.Need-loop-c-preserved invariant-loop-c decreases-loop-c
+loop-c-preserved c =
     let w = c in
     let a = begun w.before.before.before.before.before in
     writing_cut _ (list_of a) _ _ _ a.requires.0 a.requires.1 _ _ _ _ (copied w.before.before.before.before.before).1
     w.loop-c-test.true (copied w.before.before.before.before.before).0 _ c.image_of.ensures
 
-add-copy-rest : tie.Need-overflow_add-x-2 invariant-loop-c decreases-loop-c
-add-copy-rest c =
+overflow_add-x-2 : tie.Need-overflow_add-x-2 invariant-loop-c decreases-loop-c
+overflow_add-x-2 c =
     let l = c in
     omega (arith, within l.before.before, l.requires.2, l.well_formed)
 
-copy-rest-requires : tie.Need-copy_rest-requires invariant-loop-c decreases-loop-c
-copy-rest-requires c κs =
+copy_rest-requires : tie.Need-copy_rest-requires invariant-loop-c decreases-loop-c
+copy_rest-requires c κs =
     let l = c in
     ((within l.before.before).0, omega (arith, within l.before.before, kept l.before.before, l.requires.2))
 
-add-copy-rest-2 : tie.Need-overflow_add-x-3 invariant-loop-c decreases-loop-c
-add-copy-rest-2 c =
+overflow_add-x-3 : tie.Need-overflow_add-x-3 invariant-loop-c decreases-loop-c
+overflow_add-x-3 c =
     let l = c in
     omega (arith, within l.before.before.before.before.before.before, l.requires.2, l.well_formed)
 
-copy-rest-requires-2 : tie.Need-copy_rest-requires-2 invariant-loop-c decreases-loop-c
-copy-rest-requires-2 c κs =
+copy_rest-requires-2 : tie.Need-copy_rest-requires-2 invariant-loop-c decreases-loop-c
+copy_rest-requires-2 c κs =
     let l = c in
     let a = start l.before.before.before.before.before.before in
     (omega (arith, within l.before.before.before.before.before.before, a.requires.0.paired), omega (arith, within l.before.before.before.before.before.before, kept l.before.before.before.before.before.before, a.requires.0.paired, a.requires.3))
 
-same_length : tie.Need-shape_of-to_starts invariant-loop-c decreases-loop-c
-same_length c = c.copy_rest.auto.to
+shape_of-to_starts : tie.Need-shape_of-to_starts invariant-loop-c decreases-loop-c
+shape_of-to_starts c = c.copy_rest.auto.to
     ∙ (kept c.before.before.before.before.before.before.before.before.before).0
 
-same_length_2 : tie.Need-shape_of-to_images invariant-loop-c decreases-loop-c
-same_length_2 c = c.copy_rest-2.auto.to
+shape_of-to_images : tie.Need-shape_of-to_images invariant-loop-c decreases-loop-c
+shape_of-to_images c = c.copy_rest-2.auto.to
     ∙ (kept c.before.before.before.before.before.before.before.before.before).1
 
 returns : tie.Need-returns invariant-loop-c decreases-loop-c
@@ -200,27 +200,27 @@ write_list_spec =
     (tie.spec
     invariant-loop-c
     decreases-loop-c
-    loop-holds
-    mul-cut
-    shared-slice-read-cut
-    add-copy-up-to
-    copy-up-to-requires
-    add-x
-    add-to-starts
-    mul-to-starts
-    slice-write-to-starts
-    sub-image-of
-    image-of-requires
-    add-to-images
-    mul-to-images
-    slice-write-to-images
-    add-c
-    loop-less
-    loop-again
-    add-copy-rest
-    copy-rest-requires
-    add-copy-rest-2
-    copy-rest-requires-2
-    same_length
-    same_length_2
+    loop-c-init
+    offset_bounds-cuts-c
+    bounds-cuts-c
+    overflow_add-x
+    copy_up_to-x-requires
+    overflow_add-x-in-loop-c
+    overflow_add-to_starts
+    offset_bounds-to_starts-x
+    bounds-to_starts-x
+    overflow_sub-x
+    image_of-requires
+    overflow_add-to_images
+    offset_bounds-to_images-x
+    bounds-to_images-x
+    overflow_add-c
+    loop-c-smaller
+    loop-c-preserved
+    overflow_add-x-2
+    copy_rest-requires
+    overflow_add-x-3
+    copy_rest-requires-2
+    shape_of-to_starts
+    shape_of-to_images
     returns)

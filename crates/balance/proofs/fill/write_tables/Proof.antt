@@ -33,60 +33,60 @@ abbrev listed_of : tie.After-write_holders_and_lengths → tie.After-write_list
 listed_of c = c.before.before.before.before.before.before.before
 
 -- the two tables as they are then, as far as they hold the list, for which they have room
-abbrev starts-of : tie.After-write_list → List ℕ
-starts-of c = take (size_of (start c)) c.write_list.new.to_starts
+abbrev starts_of : tie.After-write_list → List ℕ
+starts_of c = take (size_of (start c)) c.write_list.new.to_starts
 
-abbrev images-of : tie.After-write_list → List ℕ
-images-of c = take (size_of (start c)) c.write_list.new.to_images
+abbrev images_of : tie.After-write_list → List ℕ
+images_of c = take (size_of (start c)) c.write_list.new.to_images
 
-starts_taken : (c : tie.After-write_list) → length (starts-of c) ≡ size_of (start c)
+starts_taken : (c : tie.After-write_list) → length (starts_of c) ≡ size_of (start c)
 starts_taken c = length-take-le (size_of (start c)) c.write_list.new.to_starts
     (omega (arith, c.requires.2.0, c.write_list.auto.to_starts))
 
-images_taken : (c : tie.After-write_list) → length (images-of c) ≡ size_of (start c)
+images_taken : (c : tie.After-write_list) → length (images_of c) ≡ size_of (start c)
 images_taken c = length-take-le (size_of (start c)) c.write_list.new.to_images
     (omega (arith, c.requires.2.1.0, c.write_list.auto.to_images))
 
 -- it is legal
-legal : (c : tie.After-write_list) → Legal c.args.n (runs (starts-of c) (images-of c))
+legal : (c : tie.After-write_list) → Legal c.args.n (runs (starts_of c) (images_of c))
 legal c = let a = start c in
     subst (Legal a.args.n) (sym (list_taken _ (list_of a) _ _ _ _ _ c.write_list.ensures (size_of a) refl))
     (with_legal _ (list_of a) _ a.requires.0 a.requires.1)
 
-write-list-requires : tie.Need-write_list-requires
-write-list-requires c κs = search rules
+write_list-requires : tie.Need-write_list-requires
+write_list-requires c κs = search rules
 
-add-k : tie.Need-overflow_add-k
-add-k c = search rules
+overflow_add-k : tie.Need-overflow_add-k
+overflow_add-k c = search rules
 
-slice-reshare-prefix-write-holders-and-lengths : tie.Need-slice_bounds-write_holders_and_lengths-end
-slice-reshare-prefix-write-holders-and-lengths c = search rules
+slice_bounds-write_holders_and_lengths-end : tie.Need-slice_bounds-write_holders_and_lengths-end
+slice_bounds-write_holders_and_lengths-end c = search rules
 
-slice-aggregate-write-holders-and-lengths : tie.Need-slice_bounds-write_holders_and_lengths-end-2
-slice-aggregate-write-holders-and-lengths c = sym (starts_taken (listed c))
+slice_bounds-write_holders_and_lengths-end-2 : tie.Need-slice_bounds-write_holders_and_lengths-end-2
+slice_bounds-write_holders_and_lengths-end-2 c = sym (starts_taken (listed c))
 
-slice-reshare-prefix-write-holders-and-lengths-2 : tie.Need-slice_bounds-write_holders_and_lengths-end-3
-slice-reshare-prefix-write-holders-and-lengths-2 c = search rules
+slice_bounds-write_holders_and_lengths-end-3 : tie.Need-slice_bounds-write_holders_and_lengths-end-3
+slice_bounds-write_holders_and_lengths-end-3 c = search rules
 
-slice-aggregate-write-holders-and-lengths-2 : tie.Need-slice_bounds-write_holders_and_lengths-end-4
-slice-aggregate-write-holders-and-lengths-2 c = sym (images_taken (listed c))
+slice_bounds-write_holders_and_lengths-end-4 : tie.Need-slice_bounds-write_holders_and_lengths-end-4
+slice_bounds-write_holders_and_lengths-end-4 c = sym (images_taken (listed c))
 
-write-holders-and-lengths-requires : tie.Need-write_holders_and_lengths-requires
-write-holders-and-lengths-requires c κs =
+write_holders_and_lengths-requires : tie.Need-write_holders_and_lengths-requires
+write_holders_and_lengths-requires c κs =
     let w = listed c.before.before in
     (legal w, omega (arith, starts_taken w, w.requires.2.1.1.0), omega (arith, starts_taken w, w.requires.2.1.1.1.0))
 
-same_length : tie.Need-shape_of-to_starts
-same_length c = search rules
+shape_of-to_starts : tie.Need-shape_of-to_starts
+shape_of-to_starts c = search rules
 
-same_length_2 : tie.Need-shape_of-to_images
-same_length_2 c = search rules
+shape_of-to_images : tie.Need-shape_of-to_images
+shape_of-to_images c = search rules
 
-same-length-3 : tie.Need-shape_of-to_holders
-same-length-3 c = search rules
+shape_of-to_holders : tie.Need-shape_of-to_holders
+shape_of-to_holders c = search rules
 
-same-length-4 : tie.Need-shape_of-to_lengths
-same-length-4 c = search rules
+shape_of-to_lengths : tie.Need-shape_of-to_lengths
+shape_of-to_lengths c = search rules
 
 returns : tie.Need-returns
 returns c =
@@ -99,15 +99,15 @@ pub write_tables_spec : {M : Type 1} → statement M
 write_tables_spec =
     tie.close
     (tie.spec
-    write-list-requires
-    add-k
-    slice-reshare-prefix-write-holders-and-lengths
-    slice-aggregate-write-holders-and-lengths
-    slice-reshare-prefix-write-holders-and-lengths-2
-    slice-aggregate-write-holders-and-lengths-2
-    write-holders-and-lengths-requires
-    same_length
-    same_length_2
-    same-length-3
-    same-length-4
+    write_list-requires
+    overflow_add-k
+    slice_bounds-write_holders_and_lengths-end
+    slice_bounds-write_holders_and_lengths-end-2
+    slice_bounds-write_holders_and_lengths-end-3
+    slice_bounds-write_holders_and_lengths-end-4
+    write_holders_and_lengths-requires
+    shape_of-to_starts
+    shape_of-to_images
+    shape_of-to_holders
+    shape_of-to_lengths
     returns)

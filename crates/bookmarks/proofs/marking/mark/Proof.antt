@@ -5,30 +5,30 @@ use borrow.Author.Rules.{rules}
 use Rattle.bookmarks.proofs.marking.mark.Statement.{statement}
 use Rattle.bookmarks.proofs.marking.mark.Tie as tie
 
-would-overflow-requires : tie.Need-would_overflow-requires
-would-overflow-requires c κs = search rules
+would_overflow-requires : tie.Need-would_overflow-requires
+would_overflow-requires c κs = search rules
 
-returns : tie.Need-returns-then-would_overflow
-returns c =
+returns-then-would_overflow : tie.Need-returns-then-would_overflow
+returns-then-would_overflow c =
     let e = mark_overflow _ _ _ c.would_overflow.ensures c.if-would_overflow.true in
     record { says = e; mark = after_refused _ _ _ _ e }
 
-add-t6 : tie.Need-overflow_add-result
-add-t6 c =
+overflow_add-result : tie.Need-overflow_add-result
+overflow_add-result c =
     let h = room _ _ _ c.would_overflow.ensures c.if-would_overflow.false in
     omega arith
 
-add-t7 : tie.Need-overflow_add-result-2
-add-t7 c =
+overflow_add-result-2 : tie.Need-overflow_add-result-2
+overflow_add-result-2 c =
     let e = c in
     let h = room _ _ _ e.would_overflow.ensures e.if-would_overflow.false in
     omega arith
 
-returns_2 : tie.Need-returns
-returns_2 c =
+returns : tie.Need-returns
+returns c =
     let e = c in
     let f = mark_on _ _ _ e.would_overflow.ensures e.if-would_overflow.false in
     record { says = f; mark = after_done _ _ _ f }
 
 pub mark_spec : {M : Type 1} → statement M
-mark_spec = tie.close (tie.spec would-overflow-requires returns add-t6 add-t7 returns_2)
+mark_spec = tie.close (tie.spec would_overflow-requires returns-then-would_overflow overflow_add-result overflow_add-result-2 returns)

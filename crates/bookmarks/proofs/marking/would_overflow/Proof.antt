@@ -5,14 +5,14 @@ use borrow.Author.Rules.{rules}
 use Rattle.bookmarks.proofs.marking.would_overflow.Statement.{statement}
 use Rattle.bookmarks.proofs.marking.would_overflow.Tie as tie
 
-returns : tie.Need-returns-then-b-eq4294967295
-returns c = overflows_moves _ _ c.if-b-eq4294967295.true
+returns-then-b-eq4294967295 : tie.Need-returns-then-b-eq4294967295
+returns-then-b-eq4294967295 c = overflows_moves _ _ c.if-b-eq4294967295.true
 
-sub-result : tie.Need-overflow_sub-result
-sub-result c = search rules
+overflow_sub-result : tie.Need-overflow_sub-result
+overflow_sub-result c = search rules
 
-returns_2 : tie.Need-returns
-returns_2 c = overflows_count _ _ (omega arith) (omega arith)
+returns : tie.Need-returns
+returns c = overflows_count _ _ (omega arith) (omega arith)
 
 pub would_overflow_spec : {M : Type 1} → statement M
-would_overflow_spec = tie.close (tie.spec returns sub-result returns_2)
+would_overflow_spec = tie.close (tie.spec returns-then-b-eq4294967295 overflow_sub-result returns)

@@ -6,8 +6,8 @@ use Rattle.order.proofs.Laws.{bit_lt, bit_ge}
 use Rattle.cuts.proofs.fronts.count_cut.Statement.{statement}
 use Rattle.cuts.proofs.fronts.count_cut.Tie as tie
 
-returns : tie.Need-returns-then-front-u
-returns c =
+returns-then-front-u : tie.Need-returns-then-front-u
+returns-then-front-u c =
     let a = c.args in
     record {
       q_kept = refl;
@@ -16,11 +16,11 @@ returns c =
       counted = omega (arith, bit_ge a.u a.front.q c.if-front-u.true);
     }
 
-add-t6 : tie.Need-overflow_add-mark
-add-t6 c = search rules
+overflow_add-mark : tie.Need-overflow_add-mark
+overflow_add-mark c = search rules
 
-returns_2 : tie.Need-returns
-returns_2 c =
+returns : tie.Need-returns
+returns c =
     let a = c.args in
     record {
       q_kept = refl;
@@ -30,4 +30,4 @@ returns_2 c =
     }
 
 pub count_cut_spec : {M : Type 1} → statement M
-count_cut_spec = tie.close (tie.spec returns add-t6 returns_2)
+count_cut_spec = tie.close (tie.spec returns-then-front-u overflow_add-mark returns)

@@ -25,8 +25,8 @@ turn c = c.before.before.before.before
 abbrev list_of : tie.Start invariant-loop-at decreases-loop-at → Runs
 list_of a = runs a.args.starts.now a.args.images.now
 
-loop-holds : tie.Need-loop-at-init invariant-loop-at decreases-loop-at
-loop-holds c = let a = c in
+loop-at-init : tie.Need-loop-at-init invariant-loop-at decreases-loop-at
+loop-at-init c = let a = c in
     light_none _ _ (list_of a.before.before.before.before.before) _ _ _ a.requires.0 a.requires.1 _ a.requires.2 a.requires.3 a.requires.4
 
 -- the front's rank has a run
@@ -35,31 +35,31 @@ ranked : (c : tie.In-loop-at invariant-loop-at decreases-loop-at) → let l = c 
 ranked c = let l = c in let a = start l.before.before in
     light_rank _ _ (list_of a) _ _ _ a.requires.0 a.requires.1 _ _ l.loop-at.invariant c.loop-at-test.true
 
-add-entry-or : tie.Need-overflow_add-at invariant-loop-at decreases-loop-at
-add-entry-or c = let t = c in let r = ranked t.before in
+overflow_add-at : tie.Need-overflow_add-at invariant-loop-at decreases-loop-at
+overflow_add-at c = let t = c in let r = ranked t.before in
     omega (arith, r.below, r.in_order, (start t.before.before.before).well_formed)
 
-entry-or-requires : tie.Need-entry_or-to-requires invariant-loop-at decreases-loop-at
-entry-or-requires c κs = search rules
+entry_or-to-requires : tie.Need-entry_or-to-requires invariant-loop-at decreases-loop-at
+entry_or-to-requires c κs = search rules
 
-look-requires : tie.Need-look-looked-requires invariant-loop-at decreases-loop-at
-look-requires c κs = let l = turn c.before in let a = start l in
+look-looked-requires : tie.Need-look-looked-requires invariant-loop-at decreases-loop-at
+look-looked-requires c κs = let l = turn c.before in let a = start l in
     light_lookable _ _ (list_of a) _ _ _ a.requires.0 a.requires.1 _ _ l.loop-at.invariant c.loop-at-test.true _
     c.entry_or-to.ensures a.requires.5 a.requires.6
 
-returns : tie.Need-returns-then-looked invariant-loop-at decreases-loop-at
-returns c = (turn c.before.before.before).loop-at.invariant
+returns-then-looked : tie.Need-returns-then-looked invariant-loop-at decreases-loop-at
+returns-then-looked c = (turn c.before.before.before).loop-at.invariant
 
-add-t14 : tie.Need-overflow_add-at-in-loop-at invariant-loop-at decreases-loop-at
-add-t14 c = let t = c in let r = ranked t.before.before.before.before.before.before.before in
+overflow_add-at-in-loop-at : tie.Need-overflow_add-at-in-loop-at invariant-loop-at decreases-loop-at
+overflow_add-at-in-loop-at c = let t = c in let r = ranked t.before.before.before.before.before.before.before in
     omega (arith, r.below, r.in_order, (start t.before.before.before.before.before.before.before.before.before).well_formed)
 
 -- the turn, from where its piece was light
 abbrev passing : tie.Else-looked invariant-loop-at decreases-loop-at → tie.At-loop-at invariant-loop-at decreases-loop-at
 passing c = c.before.before.before.before.before.before.before
 
-loop-less : tie.Need-loop-at-smaller invariant-loop-at decreases-loop-at
-loop-less c =
+loop-at-smaller : tie.Need-loop-at-smaller invariant-loop-at decreases-loop-at
+loop-at-smaller c =
     let e = c in
     let l = passing e.before.before in
     let a = start l in
@@ -72,8 +72,8 @@ loop-less c =
       t.loop-at-test.true,
     )
 
-loop-again : tie.Need-loop-at-preserved invariant-loop-at decreases-loop-at
-loop-again c =
+loop-at-preserved : tie.Need-loop-at-preserved invariant-loop-at decreases-loop-at
+loop-at-preserved c =
     let e = c in
     let l = passing e.before.before in
     let a = start l in
@@ -81,8 +81,8 @@ loop-again c =
     light_on _ _ (list_of a) _ _ _ a.requires.0 a.requires.1 _ _ l.loop-at.invariant t.loop-at-test.true _
     t.entry_or-to.ensures _ e.look-looked.ensures e.if-looked.false
 
-returns_2 : tie.Need-returns invariant-loop-at decreases-loop-at
-returns_2 c = c.loop-at.invariant
+returns : tie.Need-returns invariant-loop-at decreases-loop-at
+returns c = c.loop-at.invariant
 
 pub pass_light_spec : {M : Type 1} → statement M
 pass_light_spec =
@@ -90,12 +90,12 @@ pass_light_spec =
     (tie.spec
     invariant-loop-at
     decreases-loop-at
-    loop-holds
-    add-entry-or
-    entry-or-requires
-    look-requires
-    returns
-    add-t14
-    loop-less
-    loop-again
-    returns_2)
+    loop-at-init
+    overflow_add-at
+    entry_or-to-requires
+    look-looked-requires
+    returns-then-looked
+    overflow_add-at-in-loop-at
+    loop-at-smaller
+    loop-at-preserved
+    returns)

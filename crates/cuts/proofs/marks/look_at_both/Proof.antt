@@ -13,39 +13,39 @@ use Rattle.cuts.proofs.marks.look_at_both.Tie as tie
 abbrev start : tie.After-skip-last → tie.Start
 start c = c.before.before.before.before
 
-skip-requires : tie.Need-skip-middle-requires
-skip-requires c κs = search rules
+skip-middle-requires : tie.Need-skip-middle-requires
+skip-middle-requires c κs = search rules
 
-skip-requires-2 : tie.Need-skip-last-requires
-skip-requires-2 c κs = search rules
+skip-last-requires : tie.Need-skip-last-requires
+skip-last-requires c κs = search rules
 
 -- the starts and the cuts are no more than a slice may have
 few : (a : tie.Start) → length (merged a.args.starts.now a.args.cuts.now) < 9223372036854775808
 few a = omega (arith, merged_length a.args.starts.now a.args.cuts.now, a.well_formed)
 
-add-if1 : tie.Need-overflow_add-last
-add-if1 c = omega (arith, few (start c.before), c.skip-last.ensures.at.within)
+overflow_add-last : tie.Need-overflow_add-last
+overflow_add-last c = omega (arith, few (start c.before), c.skip-last.ensures.at.within)
 
-add-if1-2 : tie.Need-overflow_add-mark
-add-if1-2 c = let a = start c.before.before in omega (arith, few a, a.requires.at.within)
+overflow_add-mark : tie.Need-overflow_add-mark
+overflow_add-mark c = let a = start c.before.before in omega (arith, few a, a.requires.at.within)
 
-mul-if1 : tie.Need-overflow_mul-d
-mul-if1 c = search rules
+overflow_mul-d : tie.Need-overflow_mul-d
+overflow_mul-d c = search rules
 
-add-if1-3 : tie.Need-overflow_add-mark-2
-add-if1-3 c = let a = start c.before.before in omega (arith, few a, a.requires.at.within, a.requires.most)
+overflow_add-mark-2 : tie.Need-overflow_add-mark-2
+overflow_add-mark-2 c = let a = start c.before.before in omega (arith, few a, a.requires.at.within, a.requires.most)
 
-returns : tie.Need-returns-then-last-mark
-returns c =
+returns-then-last-mark : tie.Need-returns-then-last-mark
+returns-then-last-mark c =
     let k = c in
     let a = start k.before.before.before in
     look_light _ _ _ _ _ a.requires.known _ _ _ a.requires.some k.skip-middle.ensures k.skip-last.ensures c.if-last-mark.true
 
-entry-at-requires : tie.Need-entry_at-requires
-entry-at-requires c κs = search rules
+entry_at-requires : tie.Need-entry_at-requires
+entry_at-requires c κs = search rules
 
-returns_2 : tie.Need-returns
-returns_2 c =
+returns : tie.Need-returns
+returns c =
     let k = c in
     let a = start k.before.before.before.before in
     look_heavy _ _ _ _ _ a.requires.known _ _ _ a.requires.some k.skip-middle.ensures k.skip-last.ensures
@@ -55,12 +55,12 @@ pub look_at_both_spec : {M : Type 1} → statement M
 look_at_both_spec =
     tie.close
     (tie.spec
-    skip-requires
-    skip-requires-2
-    add-if1
-    add-if1-2
-    mul-if1
-    add-if1-3
-    returns
-    entry-at-requires
-    returns_2)
+    skip-middle-requires
+    skip-last-requires
+    overflow_add-last
+    overflow_add-mark
+    overflow_mul-d
+    overflow_add-mark-2
+    returns-then-last-mark
+    entry_at-requires
+    returns)

@@ -25,14 +25,14 @@ start c = c.before.before.before
 abbrev turn : tie.After-step-step invariant-loop-i decreases-loop-i → tie.At-loop-i invariant-loop-i decreases-loop-i
 turn c = c.before.before
 
-loop-holds : tie.Need-loop-i-init invariant-loop-i decreases-loop-i
-loop-holds c = (omega arith, c.requires.1, omega arith, c.requires.2)
+loop-i-init : tie.Need-loop-i-init invariant-loop-i decreases-loop-i
+loop-i-init c = (omega arith, c.requires.1, omega arith, c.requires.2)
 
-step-requires : tie.Need-step-step-requires invariant-loop-i decreases-loop-i
-step-requires c κs = ((start c.before).requires.0, c.loop-i.invariant.1)
+step-step-requires : tie.Need-step-step-requires invariant-loop-i decreases-loop-i
+step-step-requires c κs = ((start c.before).requires.0, c.loop-i.invariant.1)
 
-returns : tie.Need-returns-then-to-step invariant-loop-i decreases-loop-i
-returns c =
+returns-then-to-step : tie.Need-returns-then-to-step invariant-loop-i decreases-loop-i
+returns-then-to-step c =
     let k = c in
     let l = (turn k.before.before).loop-i in
     let a = start (turn k.before.before) in
@@ -51,14 +51,14 @@ more c =
     at_go _ _ _ a.requires.0 _ _ l.loop-i.invariant.1 a.args.to a.requires.3
     (omega (arith, c.if-to-step.false, k.step-step.ensures.entry_is))
 
-add-i : tie.Need-overflow_add-i invariant-loop-i decreases-loop-i
-add-i c = omega arith
+overflow_add-i : tie.Need-overflow_add-i invariant-loop-i decreases-loop-i
+overflow_add-i c = omega arith
 
-loop-less : tie.Need-loop-i-smaller invariant-loop-i decreases-loop-i
-loop-less c = omega arith
+loop-i-smaller : tie.Need-loop-i-smaller invariant-loop-i decreases-loop-i
+loop-i-smaller c = omega arith
 
-loop-again : tie.Need-loop-i-preserved invariant-loop-i decreases-loop-i
-loop-again c =
+loop-i-preserved : tie.Need-loop-i-preserved invariant-loop-i decreases-loop-i
+loop-i-preserved c =
     let e = c in
     let k = e in
     let l = turn k.before.before.before in
@@ -67,8 +67,8 @@ loop-again c =
     let s = at_sum _ _ _ a.requires.0 _ _ b in
     (omega arith, at_own _ _ _ a.requires.0 _ _ b, omega (arith, l.loop-i.invariant.2), omega (arith, (more e.before).1))
 
-returns_2 : tie.Need-returns invariant-loop-i decreases-loop-i
-returns_2 c = let l = c.loop-i in
+returns : tie.Need-returns invariant-loop-i decreases-loop-i
+returns c = let l = c.loop-i in
     record {
       at = l.invariant.1;
       below = l.invariant.3;
@@ -82,10 +82,10 @@ skip_spec =
     (tie.spec
     invariant-loop-i
     decreases-loop-i
-    loop-holds
-    step-requires
-    returns
-    add-i
-    loop-less
-    loop-again
-    returns_2)
+    loop-i-init
+    step-step-requires
+    returns-then-to-step
+    overflow_add-i
+    loop-i-smaller
+    loop-i-preserved
+    returns)

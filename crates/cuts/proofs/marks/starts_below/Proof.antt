@@ -18,41 +18,41 @@ decreases-loop-passed n starts from most to passed₀ passed = most - passed
 abbrev start : tie.At-loop-passed invariant-loop-passed decreases-loop-passed → tie.Start invariant-loop-passed decreases-loop-passed
 start c = c.before.before
 
-loop-holds : tie.Need-loop-passed-init invariant-loop-passed decreases-loop-passed
-loop-holds c = (omega arith, omega (arith, c.requires.1))
+loop-passed-init : tie.Need-loop-passed-init invariant-loop-passed decreases-loop-passed
+loop-passed-init c = (omega arith, omega (arith, c.requires.1))
 
-add-entry-or : tie.Need-overflow_add-from invariant-loop-passed decreases-loop-passed
-add-entry-or c =
+overflow_add-from : tie.Need-overflow_add-from invariant-loop-passed decreases-loop-passed
+overflow_add-from c =
     let a = (start c.before).args in
     omega (arith, c.loop-passed.invariant.1, count_le_length a.to a.starts.now)
 
-entry-or-requires : tie.Need-entry_or-requires invariant-loop-passed decreases-loop-passed
-entry-or-requires c κs = search rules
+entry_or-requires : tie.Need-entry_or-requires invariant-loop-passed decreases-loop-passed
+entry_or-requires c κs = search rules
 
-returns : tie.Need-returns-then-to-entry_or invariant-loop-passed decreases-loop-passed
-returns c =
+returns-then-to-entry_or : tie.Need-returns-then-to-entry_or invariant-loop-passed decreases-loop-passed
+returns-then-to-entry_or c =
     let l = c in
     let a = start l.before.before.before in
     let s = below_stop a.args.starts.now a.requires.0 a.args.n a.args.to (a.args.from + l.loop-passed.passed)
     (omega (arith, c.if-to-entry_or.true, c.entry_or.ensures)) in
     record { few = l.loop-passed.invariant.0; below = l.loop-passed.invariant.1; stopped = λ z. omega (arith, l.loop-passed.invariant.1) }
 
-add-passed : tie.Need-overflow_add-passed invariant-loop-passed decreases-loop-passed
-add-passed c = omega arith
+overflow_add-passed : tie.Need-overflow_add-passed invariant-loop-passed decreases-loop-passed
+overflow_add-passed c = omega arith
 
-loop-less : tie.Need-loop-passed-smaller invariant-loop-passed decreases-loop-passed
-loop-less c = omega arith
+loop-passed-smaller : tie.Need-loop-passed-smaller invariant-loop-passed decreases-loop-passed
+loop-passed-smaller c = omega arith
 
-loop-again : tie.Need-loop-passed-preserved invariant-loop-passed decreases-loop-passed
-loop-again c =
+loop-passed-preserved : tie.Need-loop-passed-preserved invariant-loop-passed decreases-loop-passed
+loop-passed-preserved c =
     let l = c in
     let a = start l.before.before.before in
     let g = below_go a.args.starts.now a.requires.0 a.args.n a.args.to (a.args.from + l.loop-passed.passed)
     a.requires.2 (omega (arith, c.if-to-entry_or.false, c.entry_or.ensures)) in
     (omega arith, omega arith)
 
-returns_2 : tie.Need-returns invariant-loop-passed decreases-loop-passed
-returns_2 c = let l = c.loop-passed in
+returns : tie.Need-returns invariant-loop-passed decreases-loop-passed
+returns c = let l = c.loop-passed in
     record { few = l.invariant.0; below = l.invariant.1; stopped = λ z. absurd (omega (arith, l.invariant.0)) }
 
 pub starts_below_spec : {M : Type 1} → statement M
@@ -61,11 +61,11 @@ starts_below_spec =
     (tie.spec
     invariant-loop-passed
     decreases-loop-passed
-    loop-holds
-    add-entry-or
-    entry-or-requires
-    returns
-    add-passed
-    loop-less
-    loop-again
-    returns_2)
+    loop-passed-init
+    overflow_add-from
+    entry_or-requires
+    returns-then-to-entry_or
+    overflow_add-passed
+    loop-passed-smaller
+    loop-passed-preserved
+    returns)

@@ -7,14 +7,14 @@ use Rattle.cuts.specs.declared.Front.{Front}
 use Rattle.cuts.proofs.pieces.after_cut.Statement.{statement}
 use Rattle.cuts.proofs.pieces.after_cut.Tie as tie
 
-count-cut-requires : tie.Need-count_cut-counted-requires
-count-cut-requires c κs = search rules
+count_cut-counted-requires : tie.Need-count_cut-counted-requires
+count_cut-counted-requires c κs = search rules
 
-at-front-requires : tie.Need-at_front-requires
-at-front-requires c κs = search rules
+at_front-requires : tie.Need-at_front-requires
+at_front-requires c κs = search rules
 
-returns : tie.Need-returns-then-counted-u
-returns c =
+returns-then-counted-u : tie.Need-returns-then-counted-u
+returns-then-counted-u c =
     let k = c in
     let a = k.args in
     let counted = k.count_cut-counted.ensures in
@@ -27,11 +27,11 @@ returns c =
       };
     }
 
-piece-around-requires : tie.Need-piece_around-spot-requires
-piece-around-requires c κs = search rules
+piece_around-spot-requires : tie.Need-piece_around-spot-requires
+piece_around-spot-requires c κs = search rules
 
-returns_2 : tie.Need-returns
-returns_2 c =
+returns : tie.Need-returns
+returns c =
     let m = c in
     let counted = m.count_cut-counted.ensures in
     record {
@@ -45,4 +45,4 @@ returns_2 c =
 pub after_cut_spec : {M : Type 1} → statement M
 after_cut_spec =
     tie.close
-    (tie.spec count-cut-requires at-front-requires returns piece-around-requires returns_2)
+    (tie.spec count_cut-counted-requires at_front-requires returns-then-counted-u piece_around-spot-requires returns)

@@ -41,38 +41,38 @@ place : (a : tie.Start)
     ≡ carry_back (list_of a) (run_of a) a.args.front.q
 place a = ap (λ (i : ℕ). start_of (list_of a) (run_of a) + (a.args.front.q - i)) (rank a).image_is
 
-mul-x : tie.Need-offset_bounds-order-rank
-mul-x c = let a = start c in omega (arith, (rank a).below, (rank a).in_order)
+offset_bounds-order-rank : tie.Need-offset_bounds-order-rank
+offset_bounds-order-rank c = let a = start c in omega (arith, (rank a).below, (rank a).in_order)
 
-shared-slice-read-x : tie.Need-bounds-order-rank
-shared-slice-read-x c = let a = start c.before in omega (arith, (rank a).below, (rank a).in_order)
+bounds-order-rank : tie.Need-bounds-order-rank
+bounds-order-rank c = let a = start c.before in omega (arith, (rank a).below, (rank a).in_order)
 
-cast-x : tie.Need-overflow_cast-x
-cast-x c = let a = start c.before in omega (arith, (rank a).known)
+overflow_cast-x : tie.Need-overflow_cast-x
+overflow_cast-x c = let a = start c.before in omega (arith, (rank a).known)
 
-mul-t10 : tie.Need-offset_bounds-starts-x
-mul-t10 c = let a = start c.before in omega (arith, (rank a).known)
+offset_bounds-starts-x : tie.Need-offset_bounds-starts-x
+offset_bounds-starts-x c = let a = start c.before in omega (arith, (rank a).known)
 
-shared-slice-read-t12 : tie.Need-bounds-starts-x
-shared-slice-read-t12 c = (rank (start c.before.before)).known
+bounds-starts-x : tie.Need-bounds-starts-x
+bounds-starts-x c = (rank (start c.before.before)).known
 
-mul-t14 : tie.Need-offset_bounds-ranked-rank
-mul-t14 c = let a = start c.before.before in omega (arith, (rank a).below, (rank a).in_order)
+offset_bounds-ranked-rank : tie.Need-offset_bounds-ranked-rank
+offset_bounds-ranked-rank c = let a = start c.before.before in omega (arith, (rank a).below, (rank a).in_order)
 
-shared-slice-read-t16 : tie.Need-bounds-ranked-rank
-shared-slice-read-t16 c = let a = start c.before.before.before in omega (arith, (rank a).below, (rank a).in_ranked)
+bounds-ranked-rank : tie.Need-bounds-ranked-rank
+bounds-ranked-rank c = let a = start c.before.before.before in omega (arith, (rank a).below, (rank a).in_ranked)
 
-sub-t17 : tie.Need-overflow_sub-result
-sub-t17 c = let a = reading c in omega (arith, (rank a).image_is, (rank a).first, a.requires.2.from)
+overflow_sub-result : tie.Need-overflow_sub-result
+overflow_sub-result c = let a = reading c in omega (arith, (rank a).image_is, (rank a).first, a.requires.2.from)
 
-add-t18 : tie.Need-overflow_add-result
-add-t18 c = let a = reading c in omega (arith, place a, (sent a).below, a.ranges.n)
+overflow_add-result : tie.Need-overflow_add-result
+overflow_add-result c = let a = reading c in omega (arith, place a, (sent a).below, a.ranges.n)
 
-add-entry-or : tie.Need-overflow_add-rank
-add-entry-or c = let a = reading c in omega (arith, (rank a).below, (rank a).in_order, a.well_formed)
+overflow_add-rank : tie.Need-overflow_add-rank
+overflow_add-rank c = let a = reading c in omega (arith, (rank a).below, (rank a).in_order, a.well_formed)
 
-entry-or-requires : tie.Need-entry_or-requires
-entry-or-requires c κs = search rules
+entry_or-requires : tie.Need-entry_or-requires
+entry_or-requires c κs = search rules
 
 returns : tie.Need-returns
 returns c = let a = reading c.before in
@@ -83,15 +83,15 @@ pub front_piece_spec : {M : Type 1} → statement M
 front_piece_spec =
     tie.close
     (tie.spec
-    mul-x
-    shared-slice-read-x
-    cast-x
-    mul-t10
-    shared-slice-read-t12
-    mul-t14
-    shared-slice-read-t16
-    sub-t17
-    add-t18
-    add-entry-or
-    entry-or-requires
+    offset_bounds-order-rank
+    bounds-order-rank
+    overflow_cast-x
+    offset_bounds-starts-x
+    bounds-starts-x
+    offset_bounds-ranked-rank
+    bounds-ranked-rank
+    overflow_sub-result
+    overflow_add-result
+    overflow_add-rank
+    entry_or-requires
     returns)

@@ -13,8 +13,8 @@ use Rattle.cuts.proofs.pieces.here.Tie as tie
 abbrev start : tie.After-struct_known-2-1 → tie.Start
 start c = c.before.before.before.before.before.before.before.before
 
-front-piece-requires : tie.Need-front_piece-piece-requires
-front-piece-requires c κs =
+front_piece-piece-requires : tie.Need-front_piece-piece-requires
+front_piece-piece-requires c κs =
     let a = start c.before.before in (
       a.requires.0,
       a.requires.1,
@@ -23,8 +23,8 @@ front-piece-requires c κs =
           a.args.cuts.now) t) c.if-at-front.true a.requires.3.begins,
     )
 
-returns : tie.Need-returns-then-at-front
-returns c =
+returns-then-at-front : tie.Need-returns-then-at-front
+returns-then-at-front c =
     let a = start c.before.before.before in
     let e = c.if-at-front.true in
     subst (λ (t : ℕ). HereAt a.args.n (runs a.args.starts.now a.args.images.now) a.args.cuts.now t
@@ -35,15 +35,15 @@ returns c =
       cuts_before = a.requires.2.cuts_before;
     })
 
-mark-at-requires : tie.Need-mark_at-mark-requires
-mark-at-requires c κs =
+mark_at-mark-requires : tie.Need-mark_at-mark-requires
+mark_at-mark-requires c κs =
     let a = start c.before in (
       strict_sorted a.args.starts.now a.requires.1.starts_rise,
       strict_sorted a.args.cuts.now a.requires.1.cuts_rise,
     )
 
-returns_2 : tie.Need-returns
-returns_2 c =
+returns : tie.Need-returns
+returns c =
     let m = c in
     let a = start m.before.before.before in
     record {
@@ -53,4 +53,4 @@ returns_2 c =
     }
 
 pub here_spec : {M : Type 1} → statement M
-here_spec = tie.close (tie.spec front-piece-requires returns mark-at-requires returns_2)
+here_spec = tie.close (tie.spec front_piece-piece-requires returns-then-at-front mark_at-mark-requires returns)

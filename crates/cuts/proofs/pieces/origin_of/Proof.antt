@@ -24,28 +24,28 @@ sent : (c : tie.After-run_at_rank-x) → let a = start c.before in
     (record { run = c.run_at_rank-x.result; place = carry_back (list_of a) c.run_at_rank-x.result a.args.q })
 sent c = sent_to _ (list_of (start c.before)) _ _ (start c.before).requires.0 _ (start c.before).requires.1 _ (found c)
 
-run-at-rank-requires : tie.Need-run_at_rank-x-requires
-run-at-rank-requires c κs = ranking _ (list_of (start c)) _ _ (start c).requires.0 _ (start c).requires.1
+run_at_rank-x-requires : tie.Need-run_at_rank-x-requires
+run_at_rank-x-requires c κs = ranking _ (list_of (start c)) _ _ (start c).requires.0 _ (start c).requires.1
     (omega (arith, (start c).ranges.n))
 
-mul-t8 : tie.Need-offset_bounds-starts-x
-mul-t8 c = omega (arith, (found c).known)
+offset_bounds-starts-x : tie.Need-offset_bounds-starts-x
+offset_bounds-starts-x c = omega (arith, (found c).known)
 
-shared-slice-read-t10 : tie.Need-bounds-starts-x
-shared-slice-read-t10 c = (found c.before).known
+bounds-starts-x : tie.Need-bounds-starts-x
+bounds-starts-x c = (found c.before).known
 
-mul-t11 : tie.Need-offset_bounds-images-x
-mul-t11 c = omega (arith, (found c.before).known, (start c.before.before).requires.0.legal.paired)
+offset_bounds-images-x : tie.Need-offset_bounds-images-x
+offset_bounds-images-x c = omega (arith, (found c.before).known, (start c.before.before).requires.0.legal.paired)
 
-shared-slice-read-t13 : tie.Need-bounds-images-x
-shared-slice-read-t13 c =
+bounds-images-x : tie.Need-bounds-images-x
+bounds-images-x c =
     omega (arith, (found c.before.before).known, (start c.before.before.before).requires.0.legal.paired)
 
-sub-t14 : tie.Need-overflow_sub-result
-sub-t14 c = (found c.before.before).from
+overflow_sub-result : tie.Need-overflow_sub-result
+overflow_sub-result c = (found c.before.before).from
 
-add-t15 : tie.Need-overflow_add-result
-add-t15 c = omega (arith, (sent c.before.before).below)
+overflow_add-result : tie.Need-overflow_add-result
+overflow_add-result c = omega (arith, (sent c.before.before).below)
 
 returns : tie.Need-returns
 returns c = sent c.before.before
@@ -54,11 +54,11 @@ pub origin_of_spec : {M : Type 1} → statement M
 origin_of_spec =
     tie.close
     (tie.spec
-    run-at-rank-requires
-    mul-t8
-    shared-slice-read-t10
-    mul-t11
-    shared-slice-read-t13
-    sub-t14
-    add-t15
+    run_at_rank-x-requires
+    offset_bounds-starts-x
+    bounds-starts-x
+    offset_bounds-images-x
+    bounds-images-x
+    overflow_sub-result
+    overflow_add-result
     returns)

@@ -33,23 +33,23 @@ begun c = c.before.before.before.before.before.before.before.before.before.befor
 abbrev list_of : tie.Start → Runs
 list_of a = runs a.args.starts.now a.args.images.now
 
-origin-of-requires : tie.Need-origin_of-origin-requires
-origin-of-requires c κs = search rules
+origin_of-origin-requires : tie.Need-origin_of-origin-requires
+origin_of-origin-requires c κs = search rules
 
-add-count-below : tie.Need-overflow_add-origin
-add-count-below c = search rules
+overflow_add-origin : tie.Need-overflow_add-origin
+overflow_add-origin c = search rules
 
-count-below-requires : tie.Need-count_below-count-requires
-count-below-requires c κs = let a = start c.before in strict_sorted a.args.cuts.now a.requires.1.cuts_rise
+count_below-count-requires : tie.Need-count_below-count-requires
+count_below-count-requires c κs = let a = start c.before in strict_sorted a.args.cuts.now a.requires.1.cuts_rise
 
-mul-later-start : tie.Need-offset_bounds-starts-x
-mul-later-start c = search rules
+offset_bounds-starts-x : tie.Need-offset_bounds-starts-x
+offset_bounds-starts-x c = search rules
 
-shared-slice-read-later-start : tie.Need-bounds-starts-x
-shared-slice-read-later-start c = search rules
+bounds-starts-x : tie.Need-bounds-starts-x
+bounds-starts-x c = search rules
 
-later-start-requires : tie.Need-later_start-start-requires
-later-start-requires c κs =
+later_start-start-requires : tie.Need-later_start-start-requires
+later_start-start-requires c κs =
     let o = c in
     omega (
       arith,
@@ -57,8 +57,8 @@ later-start-requires c κs =
       count_le_length (o.origin_of-origin.result.place + 1) (start o.before.before.before).args.cuts.now,
     )
 
-add-t17 : tie.Need-overflow_add-after
-add-t17 c = search rules
+overflow_add-after : tie.Need-overflow_add-after
+overflow_add-after c = search rules
 
 -- the mark after the place
 marked : (c : tie.After-later_start-start)
@@ -68,8 +68,8 @@ marked : (c : tie.After-later_start-start)
     (count_below ((origin c).origin_of-origin.result.place + 1) (merged a.starts.now a.cuts.now))
 marked c = at_counts _ _ _ (begun c).requires.1 _ _ (origin c).origin_of-origin.ensures.counted (counted c).count_below-count.ensures
 
-entry-at-requires : tie.Need-entry_at-end-requires
-entry-at-requires c κs = ((begun c).requires.1, at_own _ _ _ (begun c).requires.1 _ _ (marked c))
+entry_at-end-requires : tie.Need-entry_at-end-requires
+entry_at-end-requires c κs = ((begun c).requires.1, at_own _ _ _ (begun c).requires.1 _ _ (marked c))
 
 around : (c : tie.After-entry_at-end)
     → let a = (begun c.before).args in
@@ -93,17 +93,17 @@ around c =
     (c.entry_at-end.ensures ∙ ap (λ (i : ℕ). get_or (merged a.starts.now a.cuts.now) i a.n)
     (at_sum _ _ _ b.requires.1 _ _ (marked k.before)))
 
-sub-p : tie.Need-overflow_sub-p
-sub-p c = (around c.before).0
+overflow_sub-p : tie.Need-overflow_sub-p
+overflow_sub-p c = (around c.before).0
 
-sub-p-2 : tie.Need-overflow_sub-p-2
-sub-p-2 c = (around c.before).1
+overflow_sub-p-2 : tie.Need-overflow_sub-p-2
+overflow_sub-p-2 c = (around c.before).1
 
-sub-t16 : tie.Need-overflow_sub-piece
-sub-t16 c = (around c.before).2
+overflow_sub-piece : tie.Need-overflow_sub-piece
+overflow_sub-piece c = (around c.before).2
 
-add-t19 : tie.Need-overflow_add-piece
-add-t19 c = omega (arith, (around c.before).3)
+overflow_add-piece : tie.Need-overflow_add-piece
+overflow_add-piece c = omega (arith, (around c.before).3)
 
 returns : tie.Need-returns
 returns c = (around c.before).4
@@ -112,16 +112,16 @@ pub piece_around_spec : {M : Type 1} → statement M
 piece_around_spec =
     tie.close
     (tie.spec
-    origin-of-requires
-    add-count-below
-    count-below-requires
-    mul-later-start
-    shared-slice-read-later-start
-    later-start-requires
-    add-t17
-    entry-at-requires
-    sub-p
-    sub-p-2
-    sub-t16
-    add-t19
+    origin_of-origin-requires
+    overflow_add-origin
+    count_below-count-requires
+    offset_bounds-starts-x
+    bounds-starts-x
+    later_start-start-requires
+    overflow_add-after
+    entry_at-end-requires
+    overflow_sub-p
+    overflow_sub-p-2
+    overflow_sub-piece
+    overflow_add-piece
     returns)

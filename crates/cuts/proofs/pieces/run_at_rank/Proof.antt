@@ -7,23 +7,23 @@ use lib.ListN.{get_or}
 use Rattle.cuts.proofs.pieces.run_at_rank.Statement.{statement}
 use Rattle.cuts.proofs.pieces.run_at_rank.Tie as tie
 
-add-count-below : tie.Need-overflow_add-q
-add-count-below c = search rules
+overflow_add-q : tie.Need-overflow_add-q
+overflow_add-q c = search rules
 
-count-below-requires : tie.Need-count_below-requires
-count-below-requires c κs = search rules
+count_below-requires : tie.Need-count_below-requires
+count_below-requires c κs = search rules
 
-sub-result : tie.Need-overflow_sub-result
-sub-result c = search rules
+overflow_sub-result : tie.Need-overflow_sub-result
+overflow_sub-result c = search rules
 
-mul-result : tie.Need-offset_bounds-order-count_below
-mul-result c = search rules
+offset_bounds-order-count_below : tie.Need-offset_bounds-order-count_below
+offset_bounds-order-count_below c = search rules
 
-shared-slice-read-result : tie.Need-bounds-order-count_below
-shared-slice-read-result c = search rules
+bounds-order-count_below : tie.Need-bounds-order-count_below
+bounds-order-count_below c = search rules
 
-cast-result : tie.Need-overflow_cast-result
-cast-result c = omega (arith, c.shared_slice_known-3-1.given (c.count_below.result - 1))
+overflow_cast-result : tie.Need-overflow_cast-result
+overflow_cast-result c = omega (arith, c.shared_slice_known-3-1.given (c.count_below.result - 1))
 
 returns : tie.Need-returns
 returns c = ap (λ (k : ℕ). get_or c.args.order.now (k - 1) 0)
@@ -33,10 +33,10 @@ pub run_at_rank_spec : {M : Type 1} → statement M
 run_at_rank_spec =
     tie.close
     (tie.spec
-    add-count-below
-    count-below-requires
-    sub-result
-    mul-result
-    shared-slice-read-result
-    cast-result
+    overflow_add-q
+    count_below-requires
+    overflow_sub-result
+    offset_bounds-order-count_below
+    bounds-order-count_below
+    overflow_cast-result
     returns)

@@ -86,11 +86,11 @@ front_known n q front at w l = absurd (omega (arith, w.p_is, ap (λ (f : Front).
 first-requires : tie.Need-first-requires invariant-loop-at decreases-loop-at
 first-requires c κs = search rules
 
-at-front-requires : tie.Need-at_front-at-requires invariant-loop-at decreases-loop-at
-at-front-requires c κs = search rules
+at_front-at-requires : tie.Need-at_front-at-requires invariant-loop-at decreases-loop-at
+at_front-at-requires c κs = search rules
 
-loop-holds : tie.Need-loop-at-init invariant-loop-at decreases-loop-at
-loop-holds c =
+loop-at-init : tie.Need-loop-at-init invariant-loop-at decreases-loop-at
+loop-at-init c =
     let b = c in
     let a = b.args in
     let none = c.first.result in
@@ -101,15 +101,15 @@ loop-holds c =
     (progress_start a.d a.n (list_of b.before.before.before.before.before.before.before) a.working.now b.requires.0.legal, front_start _ (list_of b.before.before.before.before.before.before.before) _ _ b.requires.0 _ refl refl)) in
     (begun.0, begun.1, front_known _ _ none _ c.at_front-at.ensures)
 
-slice-reshare-prefix-here : tie.Need-slice_bounds-here-end invariant-loop-at decreases-loop-at
-slice-reshare-prefix-here c = c.loop-at.invariant.0.fits
+slice_bounds-here-end : tie.Need-slice_bounds-here-end invariant-loop-at decreases-loop-at
+slice_bounds-here-end c = c.loop-at.invariant.0.fits
 
-slice-aggregate-here : tie.Need-slice_bounds-here-end-in-loop-at invariant-loop-at decreases-loop-at
-slice-aggregate-here c = let l = c.loop-at in
+slice_bounds-here-end-in-loop-at : tie.Need-slice_bounds-here-end-in-loop-at invariant-loop-at decreases-loop-at
+slice_bounds-here-end-in-loop-at c = let l = c.loop-at in
     sym (length-take-le l.cuts l.working l.invariant.0.fits)
 
-here-requires : tie.Need-here-here-requires invariant-loop-at decreases-loop-at
-here-requires c κs =
+here-here-requires : tie.Need-here-here-requires invariant-loop-at decreases-loop-at
+here-here-requires c κs =
     let l = c in
     let a = start l.before.before in (
       a.requires.0,
@@ -122,11 +122,11 @@ here-requires c κs =
       },
     )
 
-slice-reshare-prefix-look : tie.Need-slice_bounds-look-end invariant-loop-at decreases-loop-at
-slice-reshare-prefix-look c = (turn c.before).loop-at.invariant.0.fits
+slice_bounds-look-end : tie.Need-slice_bounds-look-end invariant-loop-at decreases-loop-at
+slice_bounds-look-end c = (turn c.before).loop-at.invariant.0.fits
 
-slice-aggregate-look : tie.Need-slice_bounds-look-end-in-loop-at invariant-loop-at decreases-loop-at
-slice-aggregate-look c = let l = (turn c.before).loop-at in
+slice_bounds-look-end-in-loop-at : tie.Need-slice_bounds-look-end-in-loop-at invariant-loop-at decreases-loop-at
+slice_bounds-look-end-in-loop-at c = let l = (turn c.before).loop-at in
     sym (length-take-le l.cuts l.working l.invariant.0.fits)
 
 -- the image of the piece; the mark before it
@@ -146,8 +146,8 @@ summed : (c : tie.After-here-here invariant-loop-at decreases-loop-at)
     → c.here-here.result.mark.starts + c.here-here.result.mark.cuts ≡ count_below (turn c).loop-at.at.p (merged_of (turn c))
 summed c = at_sum _ _ _ (turn c).loop-at.invariant.0.starts _ _ (marked c)
 
-look-requires : tie.Need-look-looked-requires invariant-loop-at decreases-loop-at
-look-requires c κs =
+look-looked-requires : tie.Need-look-looked-requires invariant-loop-at decreases-loop-at
+look-looked-requires c κs =
     let h = c in
     let a = start (turn h.before.before) in
     record {
@@ -163,8 +163,8 @@ look-requires c κs =
       most = a.requires.2;
     }
 
-pass-requires : tie.Need-pass-front-requires invariant-loop-at decreases-loop-at
-pass-requires c κs =
+pass-front-requires : tie.Need-pass-front-requires invariant-loop-at decreases-loop-at
+pass-front-requires c κs =
     let l = turn (seen c) in
     let a = start l in
     omega (arith, l.loop-at.invariant.1.most, a.well_formed)
@@ -241,11 +241,11 @@ room c e =
     cut_room _ _ a.requires.1 (list_of a) a.requires.0.legal _ _ _ _ _ l.loop-at.invariant.0 _ h.here-here.ensures.piece_at
     (heavy c e) _ (placed c e) (omega (arith, a.requires.3, l.loop-at.invariant.0.kept))
 
-sub-u : tie.Need-overflow_sub-u invariant-loop-at decreases-loop-at
-sub-u c = let t = c in omega (arith, inside t.before.before.before.before t.if-looked.true)
+overflow_sub-u : tie.Need-overflow_sub-u invariant-loop-at decreases-loop-at
+overflow_sub-u c = let t = c in omega (arith, inside t.before.before.before.before t.if-looked.true)
 
-add-u : tie.Need-overflow_add-u invariant-loop-at decreases-loop-at
-add-u c =
+overflow_add-u : tie.Need-overflow_add-u invariant-loop-at decreases-loop-at
+overflow_add-u c =
     let t = c in
     let k = t in
     omega (arith, below k.before.before.before.before.before t.if-looked.true, (start (turn (seen k.before.before.before.before.before))).ranges.n)
@@ -280,16 +280,16 @@ added c =
 grown : (c : tie.After-insert invariant-loop-at decreases-loop-at) → (turn_t c).loop-at.cuts + 1 ≤ length c.insert.new.s
 grown c = omega (arith, room (look_t c) (heavy_t c).if-looked.true, c.insert.auto.s)
 
-add-cuts : tie.Need-overflow_add-cuts invariant-loop-at decreases-loop-at
-add-cuts c =
+overflow_add-cuts : tie.Need-overflow_add-cuts invariant-loop-at decreases-loop-at
+overflow_add-cuts c =
     let i = c in
     omega (arith, room (look_t i.before.before) (heavy_t i.before.before).if-looked.true, (turn_t i.before.before).loop-at.invariant.0.kept, (start_t i.before.before).well_formed)
 
-slice-reshare-prefix-after-cut : tie.Need-slice_bounds-after_cut-end invariant-loop-at decreases-loop-at
-slice-reshare-prefix-after-cut c = grown c.before.before
+slice_bounds-after_cut-end : tie.Need-slice_bounds-after_cut-end invariant-loop-at decreases-loop-at
+slice_bounds-after_cut-end c = grown c.before.before
 
-slice-aggregate-after-cut : tie.Need-slice_bounds-after_cut-end-then-looked invariant-loop-at decreases-loop-at
-slice-aggregate-after-cut c =
+slice_bounds-after_cut-end-then-looked : tie.Need-slice_bounds-after_cut-end-then-looked invariant-loop-at decreases-loop-at
+slice_bounds-after_cut-end-then-looked c =
     let i = c in
     sym (length-take-le ((turn_t i.before.before).loop-at.cuts + 1) i.insert.new.s (grown i.before.before))
 
@@ -308,8 +308,8 @@ few_before i =
       (start_t i).well_formed,
     )
 
-after-cut-requires : tie.Need-after_cut-at-requires invariant-loop-at decreases-loop-at
-after-cut-requires c κs =
+after_cut-at-requires : tie.Need-after_cut-at-requires invariant-loop-at decreases-loop-at
+after_cut-at-requires c κs =
     let i = c in
     ((start_t i.before.before).requires.0, added i.before.before, below (look_t i.before.before) (heavy_t i.before.before).if-looked.true, few_before i.before.before)
 
@@ -362,11 +362,11 @@ behind_known n q front u at b l = go (lt_or_le u front.q)
     go (inl h) = (b.back.around h).piece_at
     go (inr h) = absurd (omega (arith, b.back.stays h, b.counts.q_kept))
 
-loop-less : tie.Need-loop-at-smaller-then-looked invariant-loop-at decreases-loop-at
-loop-less c = (stepped c).1
+loop-at-smaller-then-looked : tie.Need-loop-at-smaller-then-looked invariant-loop-at decreases-loop-at
+loop-at-smaller-then-looked c = (stepped c).1
 
-loop-again : tie.Need-loop-at-preserved-then-looked invariant-loop-at decreases-loop-at
-loop-again c = ((stepped c).0, counted c, behind_known _ _ _ _ _ c.after_cut-at.ensures)
+loop-at-preserved-then-looked : tie.Need-loop-at-preserved-then-looked invariant-loop-at decreases-loop-at
+loop-at-preserved-then-looked c = ((stepped c).0, counted c, behind_known _ _ _ _ _ c.after_cut-at.ensures)
 
 -- a light piece: on from the front, or back to it
 moved : (c : tie.Else-looked invariant-loop-at decreases-loop-at) → let l = turn (seen c.before.before) in
@@ -396,15 +396,15 @@ moved c = go (lt_or_le (turn (seen c.before.before)).loop-at.at.p (turn (seen c.
         (progress_on _ _ a.requires.1 (list_of a) a.requires.0.legal _ _ _ _ _ l.loop-at.invariant.0 _
         (seen k.before.before).here-here.ensures.piece_at (light k.before.before c.if-looked.false).0 m)
 
-slice-reshare-prefix-pass-light : tie.Need-slice_bounds-pass_light-end invariant-loop-at decreases-loop-at
-slice-reshare-prefix-pass-light c = (turn (seen c.before.before)).loop-at.invariant.0.fits
+slice_bounds-pass_light-end : tie.Need-slice_bounds-pass_light-end invariant-loop-at decreases-loop-at
+slice_bounds-pass_light-end c = (turn (seen c.before.before)).loop-at.invariant.0.fits
 
-slice-aggregate-pass-light : tie.Need-slice_bounds-pass_light-end-else-looked invariant-loop-at decreases-loop-at
-slice-aggregate-pass-light c = let l = (turn (seen c.before.before)).loop-at in
+slice_bounds-pass_light-end-else-looked : tie.Need-slice_bounds-pass_light-end-else-looked invariant-loop-at decreases-loop-at
+slice_bounds-pass_light-end-else-looked c = let l = (turn (seen c.before.before)).loop-at in
     sym (length-take-le l.cuts l.working l.invariant.0.fits)
 
-pass-light-requires : tie.Need-pass_light-on-requires invariant-loop-at decreases-loop-at
-pass-light-requires c κs =
+pass_light-on-requires : tie.Need-pass_light-on-requires invariant-loop-at decreases-loop-at
+pass_light-on-requires c κs =
     let e = c in
     let l = turn (seen e.before.before) in
     let a = start l in
@@ -422,8 +422,8 @@ further c =
     let p = progress_light _ _ (list_of (start (turn (seen (else_t c).before.before)))) _ _ _ _ _ _ c.pass_light-on.ensures m.0 in
     (p.0, omega (arith, p.1, m.1))
 
-at-front-requires-2 : tie.Need-at_front-at-requires-else-looked invariant-loop-at decreases-loop-at
-at-front-requires-2 c κs = search rules
+at_front-at-requires-else-looked : tie.Need-at_front-at-requires-else-looked invariant-loop-at decreases-loop-at
+at_front-at-requires-else-looked c κs = search rules
 
 -- the same where the sweep stands then
 stood : (c : tie.After-at_front-at-else-looked invariant-loop-at decreases-loop-at) → let l = turn (seen (else_t c.before).before.before) in let at = c.at_front-at-else-looked.result in
@@ -432,11 +432,11 @@ stood c =
     let l = turn (seen (else_t c.before).before.before) in
     front_holds (λ p f. Moves l l.loop-at.working p f.q l.loop-at.cuts) _ _ c.at_front-at-else-looked.ensures (further c.before)
 
-loop-less-2 : tie.Need-loop-at-smaller invariant-loop-at decreases-loop-at
-loop-less-2 c = (stood c).1
+loop-at-smaller : tie.Need-loop-at-smaller invariant-loop-at decreases-loop-at
+loop-at-smaller c = (stood c).1
 
-loop-again-2 : tie.Need-loop-at-preserved invariant-loop-at decreases-loop-at
-loop-again-2 c =
+loop-at-preserved : tie.Need-loop-at-preserved invariant-loop-at decreases-loop-at
+loop-at-preserved c =
     let l = turn (seen (else_t c.before).before.before) in
     let a = start l in (
       (stood c).0,
@@ -445,8 +445,8 @@ loop-again-2 c =
       front_known _ _ _ _ c.at_front-at-else-looked.ensures,
     )
 
-same_length : tie.Need-shape_of-working invariant-loop-at decreases-loop-at
-same_length c = c.loop-at.invariant.0.kept
+shape_of-working : tie.Need-shape_of-working invariant-loop-at decreases-loop-at
+shape_of-working c = c.loop-at.invariant.0.kept
 
 returns : tie.Need-returns invariant-loop-at decreases-loop-at
 returns c =
@@ -461,29 +461,29 @@ sweep_spec =
     invariant-loop-at
     decreases-loop-at
     first-requires
-    at-front-requires
-    loop-holds
-    slice-reshare-prefix-here
-    slice-aggregate-here
-    here-requires
-    slice-reshare-prefix-look
-    slice-aggregate-look
-    look-requires
-    pass-requires
-    sub-u
-    add-u
+    at_front-at-requires
+    loop-at-init
+    slice_bounds-here-end
+    slice_bounds-here-end-in-loop-at
+    here-here-requires
+    slice_bounds-look-end
+    slice_bounds-look-end-in-loop-at
+    look-looked-requires
+    pass-front-requires
+    overflow_sub-u
+    overflow_add-u
     insert-requires
-    add-cuts
-    slice-reshare-prefix-after-cut
-    slice-aggregate-after-cut
-    after-cut-requires
-    loop-less
-    loop-again
-    slice-reshare-prefix-pass-light
-    slice-aggregate-pass-light
-    pass-light-requires
-    at-front-requires-2
-    loop-less-2
-    loop-again-2
-    same_length
+    overflow_add-cuts
+    slice_bounds-after_cut-end
+    slice_bounds-after_cut-end-then-looked
+    after_cut-at-requires
+    loop-at-smaller-then-looked
+    loop-at-preserved-then-looked
+    slice_bounds-pass_light-end
+    slice_bounds-pass_light-end-else-looked
+    pass_light-on-requires
+    at_front-at-requires-else-looked
+    loop-at-smaller
+    loop-at-preserved
+    shape_of-working
     returns)

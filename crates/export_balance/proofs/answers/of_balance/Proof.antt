@@ -6,11 +6,11 @@ use Rattle.export_balance.specs.Answers.{balance_answer}
 use Rattle.export_balance.proofs.answers.of_balance.Statement.{statement}
 use Rattle.export_balance.proofs.answers.of_balance.Tie as tie
 
-enum-known-balanced : tie.Need-enum_known-balanced
-enum-known-balanced c = search rules
+enum_known-balanced : tie.Need-enum_known-balanced
+enum_known-balanced c = search rules
 
-enum-known-balanced-2 : tie.Need-enum_known-balanced-in-Refused-1
-enum-known-balanced-2 c = search rules
+enum_known-balanced-in-Refused-1 : tie.Need-enum_known-balanced-in-Refused-1
+enum_known-balanced-in-Refused-1 c = search rules
 
 number-requires : tie.Need-number-requires
 number-requires c κs = search rules
@@ -18,12 +18,12 @@ number-requires c κs = search rules
 place-requires : tie.Need-place-requires
 place-requires c κs = search rules
 
-returns : tie.Need-returns-in-Intervals
-returns c =
+returns-in-Intervals : tie.Need-returns-in-Intervals
+returns-in-Intervals c =
     ap (λ a. balance_answer (balanced_says a)) (sym c.in-Intervals.is)
 
-returns_2 : tie.Need-returns-in-Refused
-returns_2 c =
+returns-in-Refused : tie.Need-returns-in-Refused
+returns-in-Refused c =
     let arm = sym c.in-Refused.is in
     rw (c.number.ensures, c.place.ensures) (ap (λ a. balance_answer (balanced_says a)) arm)
 
@@ -31,9 +31,9 @@ pub of_balance_spec : {M : Type 1} → statement M
 of_balance_spec =
     tie.close
     (tie.spec
-    enum-known-balanced
-    enum-known-balanced-2
+    enum_known-balanced
+    enum_known-balanced-in-Refused-1
     number-requires
     place-requires
-    returns
-    returns_2)
+    returns-in-Intervals
+    returns-in-Refused)

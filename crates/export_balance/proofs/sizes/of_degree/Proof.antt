@@ -6,11 +6,11 @@ use Rattle.export_balance.specs.Answers.{degree_answer}
 use Rattle.export_balance.proofs.sizes.of_degree.Statement.{statement}
 use Rattle.export_balance.proofs.sizes.of_degree.Tie as tie
 
-enum-known-sought : tie.Need-enum_known-sought
-enum-known-sought c = search rules
+enum_known-sought : tie.Need-enum_known-sought
+enum_known-sought c = search rules
 
-enum-known-sought-2 : tie.Need-enum_known-sought-in-Refused-1
-enum-known-sought-2 c = search rules
+enum_known-sought-in-Refused-1 : tie.Need-enum_known-sought-in-Refused-1
+enum_known-sought-in-Refused-1 c = search rules
 
 number-requires : tie.Need-number-requires
 number-requires c κs = search rules
@@ -18,11 +18,11 @@ number-requires c κs = search rules
 place-requires : tie.Need-place-requires
 place-requires c κs = search rules
 
-returns : tie.Need-returns-in-Degree
-returns c = ap (λ a. degree_answer (sought_says a)) (sym c.in-Degree.is)
+returns-in-Degree : tie.Need-returns-in-Degree
+returns-in-Degree c = ap (λ a. degree_answer (sought_says a)) (sym c.in-Degree.is)
 
-returns_2 : tie.Need-returns-in-Refused
-returns_2 c =
+returns-in-Refused : tie.Need-returns-in-Refused
+returns-in-Refused c =
     let arm = sym c.in-Refused.is in
     rw (c.number.ensures, c.place.ensures) (ap (λ a. degree_answer (sought_says a)) arm)
 
@@ -30,9 +30,9 @@ pub of_degree_spec : {M : Type 1} → statement M
 of_degree_spec =
     tie.close
     (tie.spec
-    enum-known-sought
-    enum-known-sought-2
+    enum_known-sought
+    enum_known-sought-in-Refused-1
     number-requires
     place-requires
-    returns
-    returns_2)
+    returns-in-Degree
+    returns-in-Refused)

@@ -6,11 +6,11 @@ use Rattle.export_balance.specs.Answers.{forecast_answer}
 use Rattle.export_balance.proofs.sizes.of_size.Statement.{statement}
 use Rattle.export_balance.proofs.sizes.of_size.Tie as tie
 
-enum-known-forecasted : tie.Need-enum_known-forecasted
-enum-known-forecasted c = search rules
+enum_known-forecasted : tie.Need-enum_known-forecasted
+enum_known-forecasted c = search rules
 
-enum-known-forecasted-2 : tie.Need-enum_known-forecasted-in-Refused-1
-enum-known-forecasted-2 c = search rules
+enum_known-forecasted-in-Refused-1 : tie.Need-enum_known-forecasted-in-Refused-1
+enum_known-forecasted-in-Refused-1 c = search rules
 
 number-requires : tie.Need-number-requires
 number-requires c κs = search rules
@@ -18,11 +18,11 @@ number-requires c κs = search rules
 place-requires : tie.Need-place-requires
 place-requires c κs = search rules
 
-returns : tie.Need-returns-in-Size
-returns c = ap (λ a. forecast_answer (forecasted_says a)) (sym c.in-Size.is)
+returns-in-Size : tie.Need-returns-in-Size
+returns-in-Size c = ap (λ a. forecast_answer (forecasted_says a)) (sym c.in-Size.is)
 
-returns_2 : tie.Need-returns-in-Refused
-returns_2 c =
+returns-in-Refused : tie.Need-returns-in-Refused
+returns-in-Refused c =
     let arm = sym c.in-Refused.is in
     rw (c.number.ensures, c.place.ensures) (ap (λ a. forecast_answer (forecasted_says a)) arm)
 
@@ -30,9 +30,9 @@ pub of_size_spec : {M : Type 1} → statement M
 of_size_spec =
     tie.close
     (tie.spec
-    enum-known-forecasted
-    enum-known-forecasted-2
+    enum_known-forecasted
+    enum_known-forecasted-in-Refused-1
     number-requires
     place-requires
-    returns
-    returns_2)
+    returns-in-Size
+    returns-in-Refused)

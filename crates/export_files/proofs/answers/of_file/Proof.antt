@@ -6,11 +6,11 @@ use Rattle.export_files.specs.Answers.{file_answer}
 use Rattle.export_files.proofs.answers.of_file.Statement.{statement}
 use Rattle.export_files.proofs.answers.of_file.Tie as tie
 
-enum-known-checked : tie.Need-enum_known-checked
-enum-known-checked c = search rules
+enum_known-checked : tie.Need-enum_known-checked
+enum_known-checked c = search rules
 
-enum-known-checked-2 : tie.Need-enum_known-checked-in-Refused-1
-enum-known-checked-2 c = search rules
+enum_known-checked-in-Refused-1 : tie.Need-enum_known-checked-in-Refused-1
+enum_known-checked-in-Refused-1 c = search rules
 
 number-requires : tie.Need-number-requires
 number-requires c κs = search rules
@@ -18,12 +18,12 @@ number-requires c κs = search rules
 place-requires : tie.Need-place-requires
 place-requires c κs = search rules
 
-returns : tie.Need-returns-in-Read
-returns c =
+returns-in-Read : tie.Need-returns-in-Read
+returns-in-Read c =
     ap (λ a. file_answer (file_says a)) (sym c.in-Read.is)
 
-returns_2 : tie.Need-returns-in-Refused
-returns_2 c =
+returns-in-Refused : tie.Need-returns-in-Refused
+returns-in-Refused c =
     let arm = sym c.in-Refused.is in
     rw (c.number.ensures, c.place.ensures) (ap (λ a. file_answer (file_says a)) arm)
 
@@ -31,9 +31,9 @@ pub of_file_spec : {M : Type 1} → statement M
 of_file_spec =
     tie.close
     (tie.spec
-    enum-known-checked
-    enum-known-checked-2
+    enum_known-checked
+    enum_known-checked-in-Refused-1
     number-requires
     place-requires
-    returns
-    returns_2)
+    returns-in-Read
+    returns-in-Refused)

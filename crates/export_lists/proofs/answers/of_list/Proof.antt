@@ -6,11 +6,11 @@ use Rattle.export_lists.specs.Answers.{list_answer}
 use Rattle.export_lists.proofs.answers.of_list.Statement.{statement}
 use Rattle.export_lists.proofs.answers.of_list.Tie as tie
 
-enum_told : tie.Need-enum_told-1
-enum_told c = search rules
+enum_told-1 : tie.Need-enum_told-1
+enum_told-1 c = search rules
 
-enum-known-checked : tie.Need-enum_known-checked
-enum-known-checked c = search rules
+enum_known-checked : tie.Need-enum_known-checked
+enum_known-checked c = search rules
 
 number-requires : tie.Need-number-requires
 number-requires c κs = search rules
@@ -18,16 +18,16 @@ number-requires c κs = search rules
 place-requires : tie.Need-place-requires
 place-requires c κs = search rules
 
-returns : tie.Need-returns-in-Accepted
-returns c =
+returns-in-Accepted : tie.Need-returns-in-Accepted
+returns-in-Accepted c =
     ap (λ a. list_answer (checked_says a)) (sym c.in-Accepted.is)
 
-returns_2 : tie.Need-returns-in-Refused
-returns_2 c =
+returns-in-Refused : tie.Need-returns-in-Refused
+returns-in-Refused c =
     let arm = sym c.in-Refused.is in
     rw (c.number.ensures, c.place.ensures) (ap (λ a. list_answer (checked_says a)) arm)
 
 pub of_list_spec : {M : Type 1} → statement M
 of_list_spec =
     tie.close
-    (tie.spec enum_told enum-known-checked number-requires place-requires returns returns_2)
+    (tie.spec enum_told-1 enum_known-checked number-requires place-requires returns-in-Accepted returns-in-Refused)

@@ -6,14 +6,14 @@ use Rattle.export_questions.specs.Answers.{questions_answer}
 use Rattle.export_questions.proofs.answers.of_questions.Statement.{statement}
 use Rattle.export_questions.proofs.answers.of_questions.Tie as tie
 
-enum-known-answered : tie.Need-enum_known-answered
-enum-known-answered c = search rules
+enum_known-answered : tie.Need-enum_known-answered
+enum_known-answered c = search rules
 
-enum-known-answered-2 : tie.Need-enum_known-answered-in-PlaceOrder-1
-enum-known-answered-2 c = search rules
+enum_known-answered-in-PlaceOrder-1 : tie.Need-enum_known-answered-in-PlaceOrder-1
+enum_known-answered-in-PlaceOrder-1 c = search rules
 
-enum-known-answered-3 : tie.Need-enum_known-answered-in-Refused-1
-enum-known-answered-3 c = search rules
+enum_known-answered-in-Refused-1 : tie.Need-enum_known-answered-in-Refused-1
+enum_known-answered-in-Refused-1 c = search rules
 
 number-requires : tie.Need-number-requires
 number-requires c κs = search rules
@@ -21,22 +21,22 @@ number-requires c κs = search rules
 place-requires : tie.Need-place-requires
 place-requires c κs = search rules
 
-cast-t9 : tie.Need-overflow_cast-result
-cast-t9 c = search rules
+overflow_cast-result : tie.Need-overflow_cast-result
+overflow_cast-result c = search rules
 
-returns : tie.Need-returns-in-Passed
-returns c = ap (λ a. questions_answer (answered_says a)) (sym c.in-Passed.is)
+returns-in-Passed : tie.Need-returns-in-Passed
+returns-in-Passed c = ap (λ a. questions_answer (answered_says a)) (sym c.in-Passed.is)
 
-returns_2 : tie.Need-returns-in-PlaceOrder
-returns_2 c = ap (λ a. questions_answer (answered_says a)) (sym c.in-PlaceOrder.is)
+returns-in-PlaceOrder : tie.Need-returns-in-PlaceOrder
+returns-in-PlaceOrder c = ap (λ a. questions_answer (answered_says a)) (sym c.in-PlaceOrder.is)
 
-returns-3 : tie.Need-returns-in-Refused
-returns-3 c =
+returns-in-Refused : tie.Need-returns-in-Refused
+returns-in-Refused c =
     let arm = sym c.in-Refused.is in
     rw (c.number.ensures, c.place.ensures) (ap (λ a. questions_answer (answered_says a)) arm)
 
 pub of_questions_spec : {M : Type 1} → statement M
 of_questions_spec =
     tie.close
-    (tie.spec enum-known-answered enum-known-answered-2 enum-known-answered-3 number-requires place-requires cast-t9
-    returns returns_2 returns-3)
+    (tie.spec enum_known-answered enum_known-answered-in-PlaceOrder-1 enum_known-answered-in-Refused-1 number-requires place-requires overflow_cast-result
+    returns-in-Passed returns-in-PlaceOrder returns-in-Refused)

@@ -6,11 +6,11 @@ use Rattle.export_under.specs.Answers.{under_answer}
 use Rattle.export_under.proofs.answers.of_under.Statement.{statement}
 use Rattle.export_under.proofs.answers.of_under.Tie as tie
 
-enum-known-stretched : tie.Need-enum_known-stretched
-enum-known-stretched c = search rules
+enum_known-stretched : tie.Need-enum_known-stretched
+enum_known-stretched c = search rules
 
-enum-known-stretched-2 : tie.Need-enum_known-stretched-in-Refused-1
-enum-known-stretched-2 c = search rules
+enum_known-stretched-in-Refused-1 : tie.Need-enum_known-stretched-in-Refused-1
+enum_known-stretched-in-Refused-1 c = search rules
 
 number-requires : tie.Need-number-requires
 number-requires c κs = search rules
@@ -18,12 +18,12 @@ number-requires c κs = search rules
 place-requires : tie.Need-place-requires
 place-requires c κs = search rules
 
-returns : tie.Need-returns-in-At
-returns c =
+returns-in-At : tie.Need-returns-in-At
+returns-in-At c =
     ap (λ a. under_answer (stretched_says a)) (sym c.in-At.is)
 
-returns_2 : tie.Need-returns-in-Refused
-returns_2 c =
+returns-in-Refused : tie.Need-returns-in-Refused
+returns-in-Refused c =
     let arm = sym c.in-Refused.is in
     rw (c.number.ensures, c.place.ensures) (ap (λ a. under_answer (stretched_says a)) arm)
 
@@ -31,9 +31,9 @@ pub of_under_spec : {M : Type 1} → statement M
 of_under_spec =
     tie.close
     (tie.spec
-    enum-known-stretched
-    enum-known-stretched-2
+    enum_known-stretched
+    enum_known-stretched-in-Refused-1
     number-requires
     place-requires
-    returns
-    returns_2)
+    returns-in-At
+    returns-in-Refused)

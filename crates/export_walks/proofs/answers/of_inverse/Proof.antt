@@ -6,11 +6,11 @@ use Rattle.export_walks.specs.Answers.{inverse_answer}
 use Rattle.export_walks.proofs.answers.of_inverse.Statement.{statement}
 use Rattle.export_walks.proofs.answers.of_inverse.Tie as tie
 
-enum-known-inverted : tie.Need-enum_known-inverted
-enum-known-inverted c = search rules
+enum_known-inverted : tie.Need-enum_known-inverted
+enum_known-inverted c = search rules
 
-enum-known-inverted-2 : tie.Need-enum_known-inverted-in-Refused-1
-enum-known-inverted-2 c = search rules
+enum_known-inverted-in-Refused-1 : tie.Need-enum_known-inverted-in-Refused-1
+enum_known-inverted-in-Refused-1 c = search rules
 
 number-requires : tie.Need-number-requires
 number-requires c κs = search rules
@@ -18,12 +18,12 @@ number-requires c κs = search rules
 place-requires : tie.Need-place-requires
 place-requires c κs = search rules
 
-returns : tie.Need-returns-in-From
-returns c =
+returns-in-From : tie.Need-returns-in-From
+returns-in-From c =
     ap (λ a. inverse_answer (inverted_says a)) (sym c.in-From.is)
 
-returns_2 : tie.Need-returns-in-Refused
-returns_2 c =
+returns-in-Refused : tie.Need-returns-in-Refused
+returns-in-Refused c =
     let arm = sym c.in-Refused.is in
     rw (c.number.ensures, c.place.ensures) (ap (λ a. inverse_answer (inverted_says a)) arm)
 
@@ -31,9 +31,9 @@ pub of_inverse_spec : {M : Type 1} → statement M
 of_inverse_spec =
     tie.close
     (tie.spec
-    enum-known-inverted
-    enum-known-inverted-2
+    enum_known-inverted
+    enum_known-inverted-in-Refused-1
     number-requires
     place-requires
-    returns
-    returns_2)
+    returns-in-From
+    returns-in-Refused)

@@ -6,11 +6,11 @@ use Rattle.export_walks.specs.Answers.{moves_answer}
 use Rattle.export_walks.proofs.answers.of_moves.Statement.{statement}
 use Rattle.export_walks.proofs.answers.of_moves.Tie as tie
 
-enum-known-moved : tie.Need-enum_known-moved
-enum-known-moved c = search rules
+enum_known-moved : tie.Need-enum_known-moved
+enum_known-moved c = search rules
 
-enum-known-moved-2 : tie.Need-enum_known-moved-in-Refused-1
-enum-known-moved-2 c = search rules
+enum_known-moved-in-Refused-1 : tie.Need-enum_known-moved-in-Refused-1
+enum_known-moved-in-Refused-1 c = search rules
 
 number-requires : tie.Need-number-requires
 number-requires c κs = search rules
@@ -18,16 +18,16 @@ number-requires c κs = search rules
 place-requires : tie.Need-place-requires
 place-requires c κs = search rules
 
-returns : tie.Need-returns-in-To
-returns c =
+returns-in-To : tie.Need-returns-in-To
+returns-in-To c =
     ap (λ a. moves_answer (moved_says a)) (sym c.in-To.is)
 
-returns_2 : tie.Need-returns-in-Refused
-returns_2 c =
+returns-in-Refused : tie.Need-returns-in-Refused
+returns-in-Refused c =
     let arm = sym c.in-Refused.is in
     rw (c.number.ensures, c.place.ensures) (ap (λ a. moves_answer (moved_says a)) arm)
 
 pub of_moves_spec : {M : Type 1} → statement M
 of_moves_spec =
     tie.close
-    (tie.spec enum-known-moved enum-known-moved-2 number-requires place-requires returns returns_2)
+    (tie.spec enum_known-moved enum_known-moved-in-Refused-1 number-requires place-requires returns-in-To returns-in-Refused)

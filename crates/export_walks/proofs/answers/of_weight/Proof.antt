@@ -6,11 +6,11 @@ use Rattle.export_walks.specs.Answers.{weight_answer}
 use Rattle.export_walks.proofs.answers.of_weight.Statement.{statement}
 use Rattle.export_walks.proofs.answers.of_weight.Tie as tie
 
-enum-known-weighed : tie.Need-enum_known-weighed
-enum-known-weighed c = search rules
+enum_known-weighed : tie.Need-enum_known-weighed
+enum_known-weighed c = search rules
 
-enum-known-weighed-2 : tie.Need-enum_known-weighed-in-Refused-1
-enum-known-weighed-2 c = search rules
+enum_known-weighed-in-Refused-1 : tie.Need-enum_known-weighed-in-Refused-1
+enum_known-weighed-in-Refused-1 c = search rules
 
 number-requires : tie.Need-number-requires
 number-requires c κs = search rules
@@ -18,12 +18,12 @@ number-requires c κs = search rules
 place-requires : tie.Need-place-requires
 place-requires c κs = search rules
 
-returns : tie.Need-returns-in-Weight
-returns c =
+returns-in-Weight : tie.Need-returns-in-Weight
+returns-in-Weight c =
     ap (λ a. weight_answer (weighed_says a)) (sym c.in-Weight.is)
 
-returns_2 : tie.Need-returns-in-Refused
-returns_2 c =
+returns-in-Refused : tie.Need-returns-in-Refused
+returns-in-Refused c =
     let arm = sym c.in-Refused.is in
     rw (c.number.ensures, c.place.ensures) (ap (λ a. weight_answer (weighed_says a)) arm)
 
@@ -31,9 +31,9 @@ pub of_weight_spec : {M : Type 1} → statement M
 of_weight_spec =
     tie.close
     (tie.spec
-    enum-known-weighed
-    enum-known-weighed-2
+    enum_known-weighed
+    enum_known-weighed-in-Refused-1
     number-requires
     place-requires
-    returns
-    returns_2)
+    returns-in-Weight
+    returns-in-Refused)

@@ -5,22 +5,22 @@ use borrow.Author.Rules.{rules}
 use Rattle.files.proofs.layout.check_numbers.Statement.{statement}
 use Rattle.files.proofs.layout.check_numbers.Tie as tie
 
-returns : tie.Need-returns-then-n-eq0
-returns c = numbers_no_places _ _ _ _ c.if-n-eq0.true
+returns-then-n-eq0 : tie.Need-returns-then-n-eq0
+returns-then-n-eq0 c = numbers_no_places _ _ _ _ c.if-n-eq0.true
 
-returns_2 : tie.Need-returns-then-k-eq0
-returns_2 c = numbers_no_runs _ _ _ _ c.if-n-eq0.false c.if-k-eq0.true
+returns-then-k-eq0 : tie.Need-returns-then-k-eq0
+returns-then-k-eq0 c = numbers_no_runs _ _ _ _ c.if-n-eq0.false c.if-k-eq0.true
 
-returns-3 : tie.Need-returns-then-most-k
-returns-3 c = numbers_many _ _ _ _ c.if-n-eq0.false c.if-k-eq0.false c.if-most-k.true
+returns-then-most-k : tie.Need-returns-then-most-k
+returns-then-most-k c = numbers_many _ _ _ _ c.if-n-eq0.false c.if-k-eq0.false c.if-most-k.true
 
-is-laid-requires : tie.Need-is_laid-requires
-is-laid-requires c κs = search rules
+is_laid-requires : tie.Need-is_laid-requires
+is_laid-requires c κs = search rules
 
-returns-4 : tie.Need-returns
-returns-4 c =
+returns : tie.Need-returns
+returns c =
     let e = c in
     c.is_laid.ensures ∙ numbers_few _ _ _ _ e.if-n-eq0.false e.if-k-eq0.false e.if-most-k.false
 
 pub check_numbers_spec : {M : Type 1} → statement M
-check_numbers_spec = tie.close (tie.spec returns returns_2 returns-3 is-laid-requires returns-4)
+check_numbers_spec = tie.close (tie.spec returns-then-n-eq0 returns-then-k-eq0 returns-then-most-k is_laid-requires returns)

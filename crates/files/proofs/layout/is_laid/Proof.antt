@@ -4,41 +4,41 @@ use borrow.Author.Rules.{rules}
 use Rattle.files.proofs.layout.is_laid.Statement.{statement}
 use Rattle.files.proofs.layout.is_laid.Tie as tie
 
-word-requires : tie.Need-word-starts-requires
-word-requires c κs = search rules
+word-starts-requires : tie.Need-word-starts-requires
+word-starts-requires c κs = search rules
 
-word-requires-2 : tie.Need-word-images-requires
-word-requires-2 c κs = search rules
+word-images-requires : tie.Need-word-images-requires
+word-images-requires c κs = search rules
 
-mul-images-at : tie.Need-overflow_mul-images_at
-mul-images-at c = search rules
+overflow_mul-images_at : tie.Need-overflow_mul-images_at
+overflow_mul-images_at c = search rules
 
-add-images-at : tie.Need-overflow_add-images_at
-add-images-at c = search rules
+overflow_add-images_at : tie.Need-overflow_add-images_at
+overflow_add-images_at c = search rules
 
-mul-end : tie.Need-overflow_mul-end
-mul-end c = search rules
+overflow_mul-end : tie.Need-overflow_mul-end
+overflow_mul-end c = search rules
 
-add-end : tie.Need-overflow_add-end
-add-end c = search rules
+overflow_add-end : tie.Need-overflow_add-end
+overflow_add-end c = search rules
 
-returns : tie.Need-returns-then-starts-ne20
-returns c = layout_starts _ _ _ c.word-starts.ensures c.if-starts-ne20.true
+returns-then-starts-ne20 : tie.Need-returns-then-starts-ne20
+returns-then-starts-ne20 c = layout_starts _ _ _ c.word-starts.ensures c.if-starts-ne20.true
 
-returns_2 : tie.Need-returns-then-images-images_at
-returns_2 c =
+returns-then-images-images_at : tie.Need-returns-then-images-images_at
+returns-then-images-images_at c =
     let e = c in
     let w = e in
     layout_images _ _ _ w.word-starts.ensures e.if-starts-ne20.false _ w.word-images.ensures c.if-images-images_at.true
 
-returns-3 : tie.Need-returns-then-size-end
-returns-3 c =
+returns-then-size-end : tie.Need-returns-then-size-end
+returns-then-size-end c =
     let f = c in
     let w = f in
     layout_long _ _ _ w.word-starts.ensures f.if-starts-ne20.false _ w.word-images.ensures f.if-images-images_at.false c.if-size-end.true
 
-returns-4 : tie.Need-returns
-returns-4 c =
+returns : tie.Need-returns
+returns c =
     let f = c in
     let w = f in
     layout_right _ _ _ w.word-starts.ensures f.if-starts-ne20.false _ w.word-images.ensures f.if-images-images_at.false c.if-size-end.false
@@ -47,13 +47,13 @@ pub is_laid_spec : {M : Type 1} → statement M
 is_laid_spec =
     tie.close
     (tie.spec
-    word-requires
-    word-requires-2
-    mul-images-at
-    add-images-at
-    mul-end
-    add-end
-    returns
-    returns_2
-    returns-3
-    returns-4)
+    word-starts-requires
+    word-images-requires
+    overflow_mul-images_at
+    overflow_add-images_at
+    overflow_mul-end
+    overflow_add-end
+    returns-then-starts-ne20
+    returns-then-images-images_at
+    returns-then-size-end
+    returns)

@@ -17,32 +17,32 @@ invariant-loop-i bytes first to₀ i₀ to i =
 abbrev decreases-loop-i : tie.decreases-loop-i
 decreases-loop-i bytes first to₀ i₀ to i = length to₀ - i
 
-loop-holds : tie.Need-loop-i-init invariant-loop-i decreases-loop-i
-loop-holds c =
+loop-i-init : tie.Need-loop-i-init invariant-loop-i decreases-loop-i
+loop-i-init c =
     let a = c.args in
     let e = from_length a.bytes.now a.first (length a.to.now) (omega arith) in
     (filling_none _ _ (omega arith), refl, omega arith)
 
-add-word : tie.Need-overflow_add-first invariant-loop-i decreases-loop-i
-add-word c = search rules
+overflow_add-first : tie.Need-overflow_add-first invariant-loop-i decreases-loop-i
+overflow_add-first c = search rules
 
 word-requires : tie.Need-word-requires invariant-loop-i decreases-loop-i
 word-requires c κs = search rules
 
-mul-to : tie.Need-offset_bounds-to-i invariant-loop-i decreases-loop-i
-mul-to c = search rules
+offset_bounds-to-i : tie.Need-offset_bounds-to-i invariant-loop-i decreases-loop-i
+offset_bounds-to-i c = search rules
 
-slice-write-to : tie.Need-bounds-to-i invariant-loop-i decreases-loop-i
-slice-write-to c = search rules
+bounds-to-i : tie.Need-bounds-to-i invariant-loop-i decreases-loop-i
+bounds-to-i c = search rules
 
-add-i : tie.Need-overflow_add-i invariant-loop-i decreases-loop-i
-add-i c = search rules
+overflow_add-i : tie.Need-overflow_add-i invariant-loop-i decreases-loop-i
+overflow_add-i c = search rules
 
-loop-less : tie.Need-loop-i-smaller invariant-loop-i decreases-loop-i
-loop-less c = search rules
+loop-i-smaller : tie.Need-loop-i-smaller invariant-loop-i decreases-loop-i
+loop-i-smaller c = search rules
 
-loop-again : tie.Need-loop-i-preserved invariant-loop-i decreases-loop-i
-loop-again c =
+loop-i-preserved : tie.Need-loop-i-preserved invariant-loop-i decreases-loop-i
+loop-i-preserved c =
     let l = c.loop-i in
     let a = c.args in
     let k = length a.to.now in
@@ -50,8 +50,8 @@ loop-again c =
     let v = from_at_lem a.bytes.now a.first k (omega arith) l.i (omega arith) in
     (filling_next _ _ _ _ l.invariant.0 (omega arith) _ (c.word.ensures ∙ sym v), simp length-set l.invariant.1, omega arith)
 
-same_length : tie.Need-shape_of-to invariant-loop-i decreases-loop-i
-same_length c = search rules
+shape_of-to : tie.Need-shape_of-to invariant-loop-i decreases-loop-i
+shape_of-to c = search rules
 
 returns : tie.Need-returns invariant-loop-i decreases-loop-i
 returns c =
@@ -66,13 +66,13 @@ read_words_spec =
     (tie.spec
     invariant-loop-i
     decreases-loop-i
-    loop-holds
-    add-word
+    loop-i-init
+    overflow_add-first
     word-requires
-    mul-to
-    slice-write-to
-    add-i
-    loop-less
-    loop-again
-    same_length
+    offset_bounds-to-i
+    bounds-to-i
+    overflow_add-i
+    loop-i-smaller
+    loop-i-preserved
+    shape_of-to
     returns)

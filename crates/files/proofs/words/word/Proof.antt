@@ -6,59 +6,59 @@ use borrow.Author.Rules.{rules}
 use Rattle.files.proofs.words.word.Statement.{statement}
 use Rattle.files.proofs.words.word.Tie as tie
 
-mul_at : tie.Need-overflow_mul-at
-mul_at c = search rules
+overflow_mul-at : tie.Need-overflow_mul-at
+overflow_mul-at c = search rules
 
-shared-slice-read-wide : tie.Need-bounds-bytes-at
-shared-slice-read-wide c = search rules
+bounds-bytes-at : tie.Need-bounds-bytes-at
+bounds-bytes-at c = search rules
 
-wide-requires : tie.Need-wide-a-requires
-wide-requires c κs = search rules
+wide-a-requires : tie.Need-wide-a-requires
+wide-a-requires c κs = search rules
 
-add_wide : tie.Need-overflow_add-at
-add_wide c = search rules
+overflow_add-at : tie.Need-overflow_add-at
+overflow_add-at c = search rules
 
-shared-slice-read-wide-2 : tie.Need-bounds-bytes-at-2
-shared-slice-read-wide-2 c = search rules
+bounds-bytes-at-2 : tie.Need-bounds-bytes-at-2
+bounds-bytes-at-2 c = search rules
 
-wide-requires-2 : tie.Need-wide-b-requires
-wide-requires-2 c κs = search rules
+wide-b-requires : tie.Need-wide-b-requires
+wide-b-requires c κs = search rules
 
-add-wide-2 : tie.Need-overflow_add-at-2
-add-wide-2 c = search rules
+overflow_add-at-2 : tie.Need-overflow_add-at-2
+overflow_add-at-2 c = search rules
 
-shared-slice-read-wide-3 : tie.Need-bounds-bytes-at-3
-shared-slice-read-wide-3 c = search rules
+bounds-bytes-at-3 : tie.Need-bounds-bytes-at-3
+bounds-bytes-at-3 c = search rules
 
-wide-requires-3 : tie.Need-wide-c-requires
-wide-requires-3 c κs = search rules
+wide-c-requires : tie.Need-wide-c-requires
+wide-c-requires c κs = search rules
 
-add-wide-3 : tie.Need-overflow_add-at-3
-add-wide-3 c = search rules
+overflow_add-at-3 : tie.Need-overflow_add-at-3
+overflow_add-at-3 c = search rules
 
-shared-slice-read-wide-4 : tie.Need-bounds-bytes-at-4
-shared-slice-read-wide-4 c = search rules
+bounds-bytes-at-4 : tie.Need-bounds-bytes-at-4
+bounds-bytes-at-4 c = search rules
 
-wide-requires-4 : tie.Need-wide-e-requires
-wide-requires-4 c κs = search rules
+wide-e-requires : tie.Need-wide-e-requires
+wide-e-requires c κs = search rules
 
-mul-result : tie.Need-overflow_mul-result
-mul-result c = search rules
+overflow_mul-result : tie.Need-overflow_mul-result
+overflow_mul-result c = search rules
 
-add-result : tie.Need-overflow_add-result
-add-result c = search rules
+overflow_add-result : tie.Need-overflow_add-result
+overflow_add-result c = search rules
 
-mul-result-2 : tie.Need-overflow_mul-result-2
-mul-result-2 c = search rules
+overflow_mul-result-2 : tie.Need-overflow_mul-result-2
+overflow_mul-result-2 c = search rules
 
-add-result-2 : tie.Need-overflow_add-result-2
-add-result-2 c = search rules
+overflow_add-result-2 : tie.Need-overflow_add-result-2
+overflow_add-result-2 c = search rules
 
-mul-result-3 : tie.Need-overflow_mul-result-3
-mul-result-3 c = search rules
+overflow_mul-result-3 : tie.Need-overflow_mul-result-3
+overflow_mul-result-3 c = search rules
 
-add-result-3 : tie.Need-overflow_add-result-3
-add-result-3 c = search rules
+overflow_add-result-3 : tie.Need-overflow_add-result-3
+overflow_add-result-3 c = search rules
 
 returns : tie.Need-returns
 returns c =
@@ -73,22 +73,22 @@ pub word_spec : {M : Type 1} → statement M
 word_spec =
     tie.close
     (tie.spec
-    mul_at
-    shared-slice-read-wide
-    wide-requires
-    add_wide
-    shared-slice-read-wide-2
-    wide-requires-2
-    add-wide-2
-    shared-slice-read-wide-3
-    wide-requires-3
-    add-wide-3
-    shared-slice-read-wide-4
-    wide-requires-4
-    mul-result
-    add-result
-    mul-result-2
-    add-result-2
-    mul-result-3
-    add-result-3
+    overflow_mul-at
+    bounds-bytes-at
+    wide-a-requires
+    overflow_add-at
+    bounds-bytes-at-2
+    wide-b-requires
+    overflow_add-at-2
+    bounds-bytes-at-3
+    wide-c-requires
+    overflow_add-at-3
+    bounds-bytes-at-4
+    wide-e-requires
+    overflow_mul-result
+    overflow_add-result
+    overflow_mul-result-2
+    overflow_add-result-2
+    overflow_mul-result-3
+    overflow_add-result-3
     returns)

@@ -38,43 +38,43 @@ inside c = omega (arith, c.bucket_of-b.ensures, bucketed c.before.before, long (
 clear-requires : tie.Need-clear-requires invariant-loop-x decreases-loop-x
 clear-requires c κs = omega arith
 
-loop-holds : tie.Need-loop-x-init invariant-loop-x decreases-loop-x
-loop-holds c = let a = start c in
+loop-x-init : tie.Need-loop-x-init invariant-loop-x decreases-loop-x
+loop-x-init c = let a = start c in
     (omega arith, refl, noted_none _ _ _ a.args.tops.now _ a.requires.0 c.clear.ensures)
 
-mul-bucket-of : tie.Need-offset_bounds-starts-x invariant-loop-x decreases-loop-x
-mul-bucket-of c = omega arith
+offset_bounds-starts-x : tie.Need-offset_bounds-starts-x invariant-loop-x decreases-loop-x
+offset_bounds-starts-x c = omega arith
 
-shared-slice-read-bucket-of : tie.Need-bounds-starts-x invariant-loop-x decreases-loop-x
-shared-slice-read-bucket-of c = omega arith
+bounds-starts-x : tie.Need-bounds-starts-x invariant-loop-x decreases-loop-x
+bounds-starts-x c = omega arith
 
-bucket-of-requires : tie.Need-bucket_of-b-requires invariant-loop-x decreases-loop-x
-bucket-of-requires c κs = omega (arith, bucketed c.before, (start c.before.before.before).requires.2)
+bucket_of-b-requires : tie.Need-bucket_of-b-requires invariant-loop-x decreases-loop-x
+bucket_of-b-requires c κs = omega (arith, bucketed c.before, (start c.before.before.before).requires.2)
 
-cast-tops : tie.Need-overflow_cast-tops invariant-loop-x decreases-loop-x
-cast-tops c = omega (arith, (start (at c).before).requires.1)
+overflow_cast-tops : tie.Need-overflow_cast-tops invariant-loop-x decreases-loop-x
+overflow_cast-tops c = omega (arith, (start (at c).before).requires.1)
 
-mul-tops : tie.Need-offset_bounds-tops-b invariant-loop-x decreases-loop-x
-mul-tops c = omega (arith, inside c, long (at c), (start (at c).before).requires.2)
+offset_bounds-tops-b : tie.Need-offset_bounds-tops-b invariant-loop-x decreases-loop-x
+offset_bounds-tops-b c = omega (arith, inside c, long (at c), (start (at c).before).requires.2)
 
-slice-write-tops : tie.Need-bounds-tops-b invariant-loop-x decreases-loop-x
-slice-write-tops c = inside c
+bounds-tops-b : tie.Need-bounds-tops-b invariant-loop-x decreases-loop-x
+bounds-tops-b c = inside c
 
-add-x : tie.Need-overflow_add-x invariant-loop-x decreases-loop-x
-add-x c = omega arith
+overflow_add-x : tie.Need-overflow_add-x invariant-loop-x decreases-loop-x
+overflow_add-x c = omega arith
 
-loop-less : tie.Need-loop-x-smaller invariant-loop-x decreases-loop-x
-loop-less c = omega arith
+loop-x-smaller : tie.Need-loop-x-smaller invariant-loop-x decreases-loop-x
+loop-x-smaller c = omega arith
 
-loop-again : tie.Need-loop-x-preserved invariant-loop-x decreases-loop-x
-loop-again c =
+loop-x-preserved : tie.Need-loop-x-preserved invariant-loop-x decreases-loop-x
+loop-x-preserved c =
     let l = (at c).loop-x in
     let more = c.loop-x-test.true in
     let noted = noted_next _ _ _ l.tops l.x _ l.invariant.2 more c.bucket_of-b.ensures (inside c) in
     (omega arith, length-set l.tops _ _ ∙ l.invariant.1, noted)
 
-same_length : tie.Need-shape_of-tops invariant-loop-x decreases-loop-x
-same_length c = long c.before
+shape_of-tops : tie.Need-shape_of-tops invariant-loop-x decreases-loop-x
+shape_of-tops c = long c.before
 
 returns : tie.Need-returns invariant-loop-x decreases-loop-x
 returns c =
@@ -90,15 +90,15 @@ note_runs_spec =
     invariant-loop-x
     decreases-loop-x
     clear-requires
-    loop-holds
-    mul-bucket-of
-    shared-slice-read-bucket-of
-    bucket-of-requires
-    cast-tops
-    mul-tops
-    slice-write-tops
-    add-x
-    loop-less
-    loop-again
-    same_length
+    loop-x-init
+    offset_bounds-starts-x
+    bounds-starts-x
+    bucket_of-b-requires
+    overflow_cast-tops
+    offset_bounds-tops-b
+    bounds-tops-b
+    overflow_add-x
+    loop-x-smaller
+    loop-x-preserved
+    shape_of-tops
     returns)

@@ -13,11 +13,11 @@ start c = c.before.before.before
 abbrev noted : tie.After-slice_known-3-1 → tie.After-note_runs
 noted c = c.before.before.before.before.before.before
 
-scale-of-requires : tie.Need-scale_of-scale-requires
-scale-of-requires c κs = search rules
+scale_of-scale-requires : tie.Need-scale_of-scale-requires
+scale_of-scale-requires c κs = search rules
 
-note-runs-requires : tie.Need-note_runs-requires
-note-runs-requires c κs =
+note_runs-requires : tie.Need-note_runs-requires
+note_runs-requires c κs =
     let s = c.scale_of-scale.ensures in
     let a = start c.before in
     (a.requires.some, s.few, omega (arith, s.few, a.requires.fits), λ y h. omega (arith, s.inside _ (a.requires.below y h), a.requires.fits))
@@ -25,8 +25,8 @@ note-runs-requires c κs =
 raise-requires : tie.Need-raise-requires
 raise-requires c κs = search rules
 
-same_length : tie.Need-shape_of-tops
-same_length c = search rules
+shape_of-tops : tie.Need-shape_of-tops
+shape_of-tops c = search rules
 
 returns : tie.Need-returns
 returns c =
@@ -37,4 +37,4 @@ returns c =
     w.note_runs.ensures r.ensures
 
 pub note_tops_spec : {M : Type 1} → statement M
-note_tops_spec = tie.close (tie.spec scale-of-requires note-runs-requires raise-requires same_length returns)
+note_tops_spec = tie.close (tie.spec scale_of-scale-requires note_runs-requires raise-requires shape_of-tops returns)

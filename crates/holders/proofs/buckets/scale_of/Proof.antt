@@ -7,11 +7,11 @@ use Rattle.holders.proofs.Noting.{scale_inside}
 use Rattle.holders.proofs.buckets.scale_of.Statement.{statement}
 use Rattle.holders.proofs.buckets.scale_of.Tie as tie
 
-mul-result : tie.Need-overflow_mul-result
-mul-result c = search rules
+overflow_mul-result : tie.Need-overflow_mul-result
+overflow_mul-result c = search rules
 
-div-result : tie.Need-nonzero_div-result
-div-result c = search rules
+nonzero_div-result : tie.Need-nonzero_div-result
+nonzero_div-result c = search rules
 
 returns : tie.Need-returns
 returns c =
@@ -21,4 +21,4 @@ returns c =
     record { few = omega arith; inside = scale_inside a.n a.size _ some (div-mul-le_self total a.n) }
 
 pub scale_of_spec : {M : Type 1} → statement M
-scale_of_spec = tie.close (tie.spec mul-result div-result returns)
+scale_of_spec = tie.close (tie.spec overflow_mul-result nonzero_div-result returns)

@@ -12,16 +12,16 @@ use Rattle.listings.proofs.lines.head.Tie as tie
 fit : (c : tie.Start) → Fits c.args.page.now c.args.at (pair_text c.args.n c.args.k 32 ++ pair_text c.args.d c.args.size 10)
 fit c = rw head_parts at c.requires
 
-pair-requires : tie.Need-pair-next-requires
-pair-requires c κs = fits_first _ _ _ _ (fit c.before.before)
+pair-next-requires : tie.Need-pair-next-requires
+pair-next-requires c κs = fits_first _ _ _ _ (fit c.before.before)
 
-pair-requires-2 : tie.Need-pair-requires
-pair-requires-2 c κs =
+pair-requires : tie.Need-pair-requires
+pair-requires c κs =
     let p = c in
     fits_second _ _ _ _ (fit p.before.before.before.before.before.before) _ _ p.pair-next.ensures
 
-same_length : tie.Need-shape_of-page
-same_length c = search rules
+shape_of-page : tie.Need-shape_of-page
+shape_of-page c = search rules
 
 returns : tie.Need-returns
 returns c =
@@ -30,4 +30,4 @@ returns c =
     rw head_parts (wrote_both _ _ _ _ (fit p.before.before.before.before.before.before.before.before.before) _ _ p.pair-next.ensures _ _ q.pair.ensures)
 
 pub head_spec : {M : Type 1} → statement M
-head_spec = tie.close (tie.spec pair-requires pair-requires-2 same_length returns)
+head_spec = tie.close (tie.spec pair-next-requires pair-requires shape_of-page returns)

@@ -36,24 +36,24 @@ shifted : (c : tie.After-signed_field-at_holder) → let f = c.field-at_shift in
     Wrote f.new.page f.result (signed c.args.shift ++ (32 ∷ [])) c.signed_field-at_holder.new.page c.signed_field-at_holder.result
 shifted c = rw (bits_back _ c.ranges.shift) at c.signed_field-at_holder.ensures
 
-pair-requires : tie.Need-pair-at_image-requires
-pair-requires c κs = fits_first _ _ _ _ (fit₀ c.before.before)
+pair-at_image-requires : tie.Need-pair-at_image-requires
+pair-at_image-requires c κs = fits_first _ _ _ _ (fit₀ c.before.before)
 
-field-requires : tie.Need-field-at_shift-requires
-field-requires c κs = fits_first _ _ _ _ (fit₁ c.before.before.before)
+field-at_shift-requires : tie.Need-field-at_shift-requires
+field-at_shift-requires c κs = fits_first _ _ _ _ (fit₁ c.before.before.before)
 
-signed-field-requires : tie.Need-signed_field-at_holder-requires
-signed-field-requires c κs =
+signed_field-at_holder-requires : tie.Need-signed_field-at_holder-requires
+signed_field-at_holder-requires c κs =
     let f = c in
     rw (bits_back _ f.ranges.shift) (f.requires.0, fits_first _ _ _ _ (fit₂ f.before.before.before))
 
-pair-requires-2 : tie.Need-pair-requires
-pair-requires-2 c κs =
+pair-requires : tie.Need-pair-requires
+pair-requires c κs =
     let p = c in
     fits_second _ _ _ _ (fit₂ p.before.before.before.before.before.before.before) _ _ (shifted p.before.before.before)
 
-same_length : tie.Need-shape_of-page
-same_length c = search rules
+shape_of-page : tie.Need-shape_of-page
+shape_of-page c = search rules
 
 returns : tie.Need-returns
 returns c =
@@ -69,4 +69,4 @@ returns c =
 pub row_spec : {M : Type 1} → statement M
 row_spec =
     tie.close
-    (tie.spec pair-requires field-requires signed-field-requires pair-requires-2 same_length returns)
+    (tie.spec pair-at_image-requires field-at_shift-requires signed_field-at_holder-requires pair-requires shape_of-page returns)

@@ -10,53 +10,53 @@ use borrow.Author.Rules.{rules}
 use Rattle.listings.proofs.table.interval_row.Statement.{statement}
 use Rattle.listings.proofs.table.interval_row.Tie as tie
 
-abbrev tables-of : tie.Start → Tables
-tables-of a = tables a.args.starts.now a.args.images.now a.args.holders.now a.args.lengths.now
+abbrev tables_of : tie.Start → Tables
+tables_of a = tables a.args.starts.now a.args.images.now a.args.holders.now a.args.lengths.now
 
 -- the call that a weight belongs to
 abbrev start : tie.After-weight_of-weight → tie.Start
 start c = c.before.before.before.before.before.before.before.before
 
-mul-start : tie.Need-offset_bounds-starts-i
-mul-start c = search rules
+offset_bounds-starts-i : tie.Need-offset_bounds-starts-i
+offset_bounds-starts-i c = search rules
 
-shared-slice-read-start : tie.Need-bounds-starts-i
-shared-slice-read-start c = search rules
+bounds-starts-i : tie.Need-bounds-starts-i
+bounds-starts-i c = search rules
 
-mul-image : tie.Need-offset_bounds-images-i
-mul-image c = search rules
+offset_bounds-images-i : tie.Need-offset_bounds-images-i
+offset_bounds-images-i c = search rules
 
-shared-slice-read-image : tie.Need-bounds-images-i
-shared-slice-read-image c = search rules
+bounds-images-i : tie.Need-bounds-images-i
+bounds-images-i c = search rules
 
-weight-of-requires : tie.Need-weight_of-weight-requires
-weight-of-requires c κs = search rules
+weight_of-weight-requires : tie.Need-weight_of-weight-requires
+weight_of-weight-requires c κs = search rules
 
 shift-requires : tie.Need-shift-requires
 shift-requires c κs = search rules
 
-mul-row : tie.Need-offset_bounds-holders-i
-mul-row c = search rules
+offset_bounds-holders-i : tie.Need-offset_bounds-holders-i
+offset_bounds-holders-i c = search rules
 
-shared-slice-read-row : tie.Need-bounds-holders-i
-shared-slice-read-row c =
+bounds-holders-i : tie.Need-bounds-holders-i
+bounds-holders-i c =
     let a = start c.before.before.before in
-    omega (arith, holders_long a.args.n (tables-of a) a.requires.0 a.args.x a.requires.1)
+    omega (arith, holders_long a.args.n (tables_of a) a.requires.0 a.args.x a.requires.1)
 
 row-requires : tie.Need-row-requires
 row-requires c κs =
     let s = c in
     let w = s in
     let a = start w.before.before.before in
-    let t = tables-of a in
+    let t = tables_of a in
     let e = row_bits _ t a.requires.0 _ a.requires.1 a.ranges.n.fits _ (record { sfits = s.shift.type_inv })
     s.shift.ensures _ w.weight_of-weight.ensures in (
       bits_small _ t a.requires.0 _ a.requires.1 a.ranges.n.fits _ (record { sfits = s.shift.type_inv }) s.shift.ensures,
       subst (λ (u : List ℕ). Fits a.args.page.now a.args.at u) (sym e) a.requires.2,
     )
 
-same_length : tie.Need-shape_of-page
-same_length c = search rules
+shape_of-page : tie.Need-shape_of-page
+shape_of-page c = search rules
 
 returns : tie.Need-returns
 returns c =
@@ -65,7 +65,7 @@ returns c =
     let s = k in
     let w = s in
     let a = start w.before.before.before.before.before.before in
-    let e = row_bits _ (tables-of a) a.requires.0 _ a.requires.1 a.ranges.n.fits _ (record { sfits = s.shift.type_inv })
+    let e = row_bits _ (tables_of a) a.requires.0 _ a.requires.1 a.ranges.n.fits _ (record { sfits = s.shift.type_inv })
     s.shift.ensures _ w.weight_of-weight.ensures in
     subst (λ (u : List ℕ). Wrote a.args.page.now a.args.at u r.row.new.page r.row.result) e r.row.ensures
 
@@ -73,14 +73,14 @@ pub interval_row_spec : {M : Type 1} → statement M
 interval_row_spec =
     tie.close
     (tie.spec
-    mul-start
-    shared-slice-read-start
-    mul-image
-    shared-slice-read-image
-    weight-of-requires
+    offset_bounds-starts-i
+    bounds-starts-i
+    offset_bounds-images-i
+    bounds-images-i
+    weight_of-weight-requires
     shift-requires
-    mul-row
-    shared-slice-read-row
+    offset_bounds-holders-i
+    bounds-holders-i
     row-requires
-    same_length
+    shape_of-page
     returns)

@@ -16,44 +16,44 @@ invariant-loop-x page₀ at n starts images holders lengths next₀ x₀ page ne
 abbrev decreases-loop-x : tie.decreases-loop-x
 decreases-loop-x page₀ at n starts images holders lengths next₀ x₀ page next x = length starts - x
 
-abbrev tables-of : tie.Start invariant-loop-x decreases-loop-x → Tables
-tables-of a = tables a.args.starts.now a.args.images.now a.args.holders.now a.args.lengths.now
+abbrev tables_of : tie.Start invariant-loop-x decreases-loop-x → Tables
+tables_of a = tables a.args.starts.now a.args.images.now a.args.holders.now a.args.lengths.now
 
 -- the call that a turn belongs to
 abbrev start : tie.At-loop-x invariant-loop-x decreases-loop-x → tie.Start invariant-loop-x decreases-loop-x
 start c = c.before.before.before.before.before.before
 
-loop-holds : tie.Need-loop-x-init invariant-loop-x decreases-loop-x
-loop-holds c = (rows_start _ _ _ _ (omega arith), refl)
+loop-x-init : tie.Need-loop-x-init invariant-loop-x decreases-loop-x
+loop-x-init c = (rows_start _ _ _ _ (omega arith), refl)
 
-cast-interval-row : tie.Need-overflow_cast-x invariant-loop-x decreases-loop-x
-cast-interval-row c = omega (arith, c.requires.0.few)
+overflow_cast-x : tie.Need-overflow_cast-x invariant-loop-x decreases-loop-x
+overflow_cast-x c = omega (arith, c.requires.0.few)
 
-interval-row-requires : tie.Need-interval_row-next-requires invariant-loop-x decreases-loop-x
-interval-row-requires c κs =
+interval_row-next-requires : tie.Need-interval_row-next-requires invariant-loop-x decreases-loop-x
+interval_row-next-requires c κs =
     let l = c in
     let a = start l.before.before in
     let h = c.loop-x-test.true in
-    (a.requires.0, h, row_fits _ (tables-of a) a.requires.0 a.ranges.n.fits _ _ a.requires.1 _ _ _ l.loop-x.invariant.0 h)
+    (a.requires.0, h, row_fits _ (tables_of a) a.requires.0 a.ranges.n.fits _ _ a.requires.1 _ _ _ l.loop-x.invariant.0 h)
 
-add-x : tie.Need-overflow_add-x invariant-loop-x decreases-loop-x
-add-x c = search rules
+overflow_add-x : tie.Need-overflow_add-x invariant-loop-x decreases-loop-x
+overflow_add-x c = search rules
 
-loop-less : tie.Need-loop-x-smaller invariant-loop-x decreases-loop-x
-loop-less c = search rules
+loop-x-smaller : tie.Need-loop-x-smaller invariant-loop-x decreases-loop-x
+loop-x-smaller c = search rules
 
-loop-again : tie.Need-loop-x-preserved invariant-loop-x decreases-loop-x
-loop-again c =
+loop-x-preserved : tie.Need-loop-x-preserved invariant-loop-x decreases-loop-x
+loop-x-preserved c =
     let i = c in
     let l = i in
     let a = start l.before.before.before.before.before in (
-      rows_more _ (tables-of a) a.requires.0 a.ranges.n.fits _ _ a.requires.1 _ _ _
+      rows_more _ (tables_of a) a.requires.0 a.ranges.n.fits _ _ a.requires.1 _ _ _
           l.loop-x.invariant.0 i.loop-x-test.true _ _ i.interval_row-next.ensures,
       i.interval_row-next.auto.page ∙ l.loop-x.invariant.1,
     )
 
-same_length : tie.Need-shape_of-page invariant-loop-x decreases-loop-x
-same_length c = search rules
+shape_of-page : tie.Need-shape_of-page invariant-loop-x decreases-loop-x
+shape_of-page c = search rules
 
 returns : tie.Need-returns invariant-loop-x decreases-loop-x
 returns c =
@@ -68,11 +68,11 @@ rows_spec =
     (tie.spec
     invariant-loop-x
     decreases-loop-x
-    loop-holds
-    cast-interval-row
-    interval-row-requires
-    add-x
-    loop-less
-    loop-again
-    same_length
+    loop-x-init
+    overflow_cast-x
+    interval_row-next-requires
+    overflow_add-x
+    loop-x-smaller
+    loop-x-preserved
+    shape_of-page
     returns)

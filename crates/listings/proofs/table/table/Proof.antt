@@ -50,22 +50,22 @@ head_wrote c =
     subst (λ (z : ℕ). Wrote a.args.page.now 0 (head_of a z) c.head-next.new.page c.head-next.result)
     (sym (counted a)) c.head-next.ensures
 
-head-requires : tie.Need-head-next-requires
-head-requires c κs =
+head-next-requires : tie.Need-head-next-requires
+head-next-requires c κs =
     let a = c in
     record { room = omega (arith, head_most a.before.before.before.before.before.before, a.requires.1) }
 
-slice-aggregate-rows : tie.Need-slice_bounds-rows-end
-slice-aggregate-rows c = sym (length-take-le _ _ (start (headed c)).requires.0.long.0)
+slice_bounds-rows-end : tie.Need-slice_bounds-rows-end
+slice_bounds-rows-end c = sym (length-take-le _ _ (start (headed c)).requires.0.long.0)
 
-slice-aggregate-rows-2 : tie.Need-slice_bounds-rows-end-2
-slice-aggregate-rows-2 c = sym (length-take-le _ _ (start (headed c)).requires.0.long.1.0)
+slice_bounds-rows-end-2 : tie.Need-slice_bounds-rows-end-2
+slice_bounds-rows-end-2 c = sym (length-take-le _ _ (start (headed c)).requires.0.long.1.0)
 
-slice-aggregate-rows-3 : tie.Need-slice_bounds-rows-end-3
-slice-aggregate-rows-3 c = sym (length-take-le _ _ (start (headed c)).requires.0.long.1.1.0)
+slice_bounds-rows-end-3 : tie.Need-slice_bounds-rows-end-3
+slice_bounds-rows-end-3 c = sym (length-take-le _ _ (start (headed c)).requires.0.long.1.1.0)
 
-slice-aggregate-rows-4 : tie.Need-slice_bounds-rows-end-4
-slice-aggregate-rows-4 c = sym (length-take-le _ _ (start (headed c)).requires.0.long.1.1.1.0)
+slice_bounds-rows-end-4 : tie.Need-slice_bounds-rows-end-4
+slice_bounds-rows-end-4 c = sym (length-take-le _ _ (start (headed c)).requires.0.long.1.1.1.0)
 
 rows-requires : tie.Need-rows-requires
 rows-requires c κs =
@@ -73,8 +73,8 @@ rows-requires c κs =
     let a = start d in
     (a.requires.0.listed, omega (arith, d.head-next.auto.page, d.head-next.ensures.till, head_most a, a.requires.0.listed.few, a.requires.1))
 
-same_length : tie.Need-shape_of-page
-same_length c = search rules
+shape_of-page : tie.Need-shape_of-page
+shape_of-page c = search rules
 
 returns : tie.Need-returns
 returns c =
@@ -92,11 +92,11 @@ pub table_spec : {M : Type 1} → statement M
 table_spec =
     tie.close
     (tie.spec
-    head-requires
-    slice-aggregate-rows
-    slice-aggregate-rows-2
-    slice-aggregate-rows-3
-    slice-aggregate-rows-4
+    head-next-requires
+    slice_bounds-rows-end
+    slice_bounds-rows-end-2
+    slice_bounds-rows-end-3
+    slice_bounds-rows-end-4
     rows-requires
-    same_length
+    shape_of-page
     returns)

@@ -7,29 +7,29 @@ use borrow.Author.Rules.{rules}
 use Rattle.listings.proofs.table.weight_of.Statement.{statement}
 use Rattle.listings.proofs.table.weight_of.Tie as tie
 
-abbrev tables-of : tie.Start → Tables
-tables-of a = tables a.args.starts.now a.args.images.now a.args.holders.now a.args.lengths.now
+abbrev tables_of : tie.Start → Tables
+tables_of a = tables a.args.starts.now a.args.images.now a.args.holders.now a.args.lengths.now
 
 weight-requires : tie.Need-weight-requires
 weight-requires c κs = search rules
 
-enum-known-w : tie.Need-enum_known-w
-enum-known-w c = search rules
+enum_known-w : tie.Need-enum_known-w
+enum_known-w c = search rules
 
-enum_told : tie.Need-enum_told-1
-enum_told c = search rules
+enum_told-1 : tie.Need-enum_told-1
+enum_told-1 c = search rules
 
-returns : tie.Need-returns-in-Weight
-returns c =
+returns-in-Weight : tie.Need-returns-in-Weight
+returns-in-Weight c =
     let a = c in
-    weighed _ (tables-of a.before.before.before.before.before.before) a.requires.0 _ a.requires.1 _
+    weighed _ (tables_of a.before.before.before.before.before.before) a.requires.0 _ a.requires.1 _
     (sym (ap weighed_says c.in-Weight.is) ∙ c.weight.ensures)
 
-returns_2 : tie.Need-returns-in-Refused
-returns_2 c =
+returns-in-Refused : tie.Need-returns-in-Refused
+returns-in-Refused c =
     let a = c in
-    unrefused _ (tables-of a.before.before.before.before.before.before) a.requires.0 _ a.requires.1 _ _
+    unrefused _ (tables_of a.before.before.before.before.before.before) a.requires.0 _ a.requires.1 _ _
     (sym (ap weighed_says c.in-Refused.is) ∙ c.weight.ensures)
 
 pub weight_of_spec : {M : Type 1} → statement M
-weight_of_spec = tie.close (tie.spec weight-requires enum-known-w enum_told returns returns_2)
+weight_of_spec = tie.close (tie.spec weight-requires enum_known-w enum_told-1 returns-in-Weight returns-in-Refused)

@@ -5,17 +5,17 @@ use Rattle.lists.proofs.Writing.{ordered_gathers, starts_short, images_short, wr
 use Rattle.lists.proofs.inverse.write.Statement.{statement}
 use Rattle.lists.proofs.inverse.write.Tie as tie
 
-cast-t9 : tie.Need-overflow_cast-result
-cast-t9 c = search rules
+overflow_cast-result : tie.Need-overflow_cast-result
+overflow_cast-result c = search rules
 
-returns : tie.Need-returns-then-to_starts-k
-returns c = starts_short _ _ _ (omega arith)
+returns-then-to_starts-k : tie.Need-returns-then-to_starts-k
+returns-then-to_starts-k c = starts_short _ _ _ (omega arith)
 
-cast-t11 : tie.Need-overflow_cast-result-then-to_images-k
-cast-t11 c = search rules
+overflow_cast-result-then-to_images-k : tie.Need-overflow_cast-result-then-to_images-k
+overflow_cast-result-then-to_images-k c = search rules
 
-returns_2 : tie.Need-returns-then-to_images-k
-returns_2 c = images_short _ _ _ (omega arith) (omega arith)
+returns-then-to_images-k : tie.Need-returns-then-to_images-k
+returns-then-to_images-k c = images_short _ _ _ (omega arith) (omega arith)
 
 gather-requires : tie.Need-gather-requires
 gather-requires c κs =
@@ -27,14 +27,14 @@ gather-requires-2 c κs =
     let o = c.requires.0 in
     ordered_gathers _ _ o _ _ (omega (arith, o.paired)) (omega arith)
 
-same_length : tie.Need-shape_of-to_starts
-same_length c = search rules
+shape_of-to_starts : tie.Need-shape_of-to_starts
+shape_of-to_starts c = search rules
 
-same_length_2 : tie.Need-shape_of-to_images
-same_length_2 c = search rules
+shape_of-to_images : tie.Need-shape_of-to_images
+shape_of-to_images c = search rules
 
-returns-3 : tie.Need-returns
-returns-3 c =
+returns : tie.Need-returns
+returns c =
     written _ _ _ (omega arith) (omega arith) _ _ _
     c.requires.0
     c.gather.ensures c.gather-2.ensures
@@ -43,12 +43,12 @@ pub write_spec : {M : Type 1} → statement M
 write_spec =
     tie.close
     (tie.spec
-    cast-t9
-    returns
-    cast-t11
-    returns_2
+    overflow_cast-result
+    returns-then-to_starts-k
+    overflow_cast-result-then-to_images-k
+    returns-then-to_images-k
     gather-requires
     gather-requires-2
-    same_length
-    same_length_2
-    returns-3)
+    shape_of-to_starts
+    shape_of-to_images
+    returns)

@@ -14,26 +14,26 @@ invariant-loop-p values ascent other after₀ p₀ after p = Filling (changed va
 abbrev decreases-loop-p : tie.decreases-loop-p
 decreases-loop-p values ascent other after₀ p₀ after p = length values - p
 
-loop-holds : tie.Need-loop-p-init invariant-loop-p decreases-loop-p
-loop-holds c = let q = c.requires in changing_none _ _ _ q.0 _ q.1
+loop-p-init : tie.Need-loop-p-init invariant-loop-p decreases-loop-p
+loop-p-init c = let q = c.requires in changing_none _ _ _ q.0 _ q.1
 
-value-after-requires : tie.Need-value_after-requires invariant-loop-p decreases-loop-p
-value-after-requires c κs = (c.requires.0, omega arith)
+value_after-requires : tie.Need-value_after-requires invariant-loop-p decreases-loop-p
+value_after-requires c κs = (c.requires.0, omega arith)
 
-mul-after : tie.Need-offset_bounds-after-p invariant-loop-p decreases-loop-p
-mul-after c = omega arith
+offset_bounds-after-p : tie.Need-offset_bounds-after-p invariant-loop-p decreases-loop-p
+offset_bounds-after-p c = omega arith
 
-array-write-after : tie.Need-bounds-after-p invariant-loop-p decreases-loop-p
-array-write-after c = omega arith
+bounds-after-p : tie.Need-bounds-after-p invariant-loop-p decreases-loop-p
+bounds-after-p c = omega arith
 
-add-p : tie.Need-overflow_add-p invariant-loop-p decreases-loop-p
-add-p c = omega arith
+overflow_add-p : tie.Need-overflow_add-p invariant-loop-p decreases-loop-p
+overflow_add-p c = omega arith
 
-loop-less : tie.Need-loop-p-smaller invariant-loop-p decreases-loop-p
-loop-less c = omega arith
+loop-p-smaller : tie.Need-loop-p-smaller invariant-loop-p decreases-loop-p
+loop-p-smaller c = omega arith
 
-loop-again : tie.Need-loop-p-preserved invariant-loop-p decreases-loop-p
-loop-again c =
+loop-p-preserved : tie.Need-loop-p-preserved invariant-loop-p decreases-loop-p
+loop-p-preserved c =
     let q = c in
     changing_next _ _ _ q.requires.0 _ _ _ q.loop-p.invariant (omega arith) _ c.value_after.ensures
 
@@ -46,11 +46,11 @@ change_spec =
     (tie.spec
     invariant-loop-p
     decreases-loop-p
-    loop-holds
-    value-after-requires
-    mul-after
-    array-write-after
-    add-p
-    loop-less
-    loop-again
+    loop-p-init
+    value_after-requires
+    offset_bounds-after-p
+    bounds-after-p
+    overflow_add-p
+    loop-p-smaller
+    loop-p-preserved
     returns)

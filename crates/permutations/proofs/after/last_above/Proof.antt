@@ -14,39 +14,39 @@ invariant-loop-i values v i₀ i = (i < length values) × (last_above values v i
 abbrev decreases-loop-i : tie.decreases-loop-i
 decreases-loop-i values v i₀ i = i
 
-returns : tie.Need-returns-then-values-eq0 invariant-loop-i decreases-loop-i
-returns c = sym (above_end _ _ _ (omega arith))
+returns-then-values-eq0 : tie.Need-returns-then-values-eq0 invariant-loop-i decreases-loop-i
+returns-then-values-eq0 c = sym (above_end _ _ _ (omega arith))
 
-sub-i : tie.Need-overflow_sub-i invariant-loop-i decreases-loop-i
-sub-i c = omega arith
+overflow_sub-i : tie.Need-overflow_sub-i invariant-loop-i decreases-loop-i
+overflow_sub-i c = omega arith
 
-loop-holds : tie.Need-loop-i-init invariant-loop-i decreases-loop-i
-loop-holds c = (omega arith, refl)
+loop-i-init : tie.Need-loop-i-init invariant-loop-i decreases-loop-i
+loop-i-init c = (omega arith, refl)
 
-mul-if2 : tie.Need-offset_bounds-values-i invariant-loop-i decreases-loop-i
-mul-if2 c = omega arith
+offset_bounds-values-i : tie.Need-offset_bounds-values-i invariant-loop-i decreases-loop-i
+offset_bounds-values-i c = omega arith
 
-shared-slice-read-if2 : tie.Need-bounds-values-i invariant-loop-i decreases-loop-i
-shared-slice-read-if2 c = omega arith
+bounds-values-i : tie.Need-bounds-values-i invariant-loop-i decreases-loop-i
+bounds-values-i c = omega arith
 
-returns_2 : tie.Need-returns-then-v-values invariant-loop-i decreases-loop-i
-returns_2 c =
+returns-then-v-values : tie.Need-returns-then-v-values invariant-loop-i decreases-loop-i
+returns-then-v-values c =
     let q = c.loop-i in
     sym (above_hit _ _ q.i (omega arith) (omega arith)) ∙ q.invariant.1
 
-sub-i-2 : tie.Need-overflow_sub-i-in-loop-i invariant-loop-i decreases-loop-i
-sub-i-2 c = omega arith
+overflow_sub-i-in-loop-i : tie.Need-overflow_sub-i-in-loop-i invariant-loop-i decreases-loop-i
+overflow_sub-i-in-loop-i c = omega arith
 
-loop-less : tie.Need-loop-i-smaller invariant-loop-i decreases-loop-i
-loop-less c = omega arith
+loop-i-smaller : tie.Need-loop-i-smaller invariant-loop-i decreases-loop-i
+loop-i-smaller c = omega arith
 
-loop-again : tie.Need-loop-i-preserved invariant-loop-i decreases-loop-i
-loop-again c =
+loop-i-preserved : tie.Need-loop-i-preserved invariant-loop-i decreases-loop-i
+loop-i-preserved c =
     let q = c.loop-i in
     (omega arith, sym (above_miss _ _ q.i (omega arith) (omega arith)) ∙ q.invariant.1)
 
-returns-3 : tie.Need-returns invariant-loop-i decreases-loop-i
-returns-3 c = let q = c.loop-i in sym (above_end _ _ q.i (omega arith)) ∙ q.invariant.1
+returns : tie.Need-returns invariant-loop-i decreases-loop-i
+returns c = let q = c.loop-i in sym (above_end _ _ q.i (omega arith)) ∙ q.invariant.1
 
 pub last_above_spec : {M : Type 1} → statement M
 last_above_spec =
@@ -54,13 +54,13 @@ last_above_spec =
     (tie.spec
     invariant-loop-i
     decreases-loop-i
-    returns
-    sub-i
-    loop-holds
-    mul-if2
-    shared-slice-read-if2
-    returns_2
-    sub-i-2
-    loop-less
-    loop-again
-    returns-3)
+    returns-then-values-eq0
+    overflow_sub-i
+    loop-i-init
+    offset_bounds-values-i
+    bounds-values-i
+    returns-then-v-values
+    overflow_sub-i-in-loop-i
+    loop-i-smaller
+    loop-i-preserved
+    returns)

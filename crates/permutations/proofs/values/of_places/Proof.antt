@@ -13,52 +13,52 @@ invariant-loop-p n starts images values₀ x₀ p₀ values x p = Placing n (run
 abbrev decreases-loop-p : tie.decreases-loop-p
 decreases-loop-p n starts images values₀ x₀ p₀ values x p = n - p
 
-loop-holds : tie.Need-loop-p-init invariant-loop-p decreases-loop-p
-loop-holds c = placing_none _ _ c.requires _ refl
+loop-p-init : tie.Need-loop-p-init invariant-loop-p decreases-loop-p
+loop-p-init c = placing_none _ _ c.requires _ refl
 
-run-near-requires : tie.Need-run_near-x-requires invariant-loop-p decreases-loop-p
-run-near-requires c κs = c.loop-p.invariant.near (omega arith)
+run_near-x-requires : tie.Need-run_near-x-requires invariant-loop-p decreases-loop-p
+run_near-x-requires c κs = c.loop-p.invariant.near (omega arith)
 
-mul-values : tie.Need-offset_bounds-images-x invariant-loop-p decreases-loop-p
-mul-values c = omega arith
+offset_bounds-images-x : tie.Need-offset_bounds-images-x invariant-loop-p decreases-loop-p
+offset_bounds-images-x c = omega arith
 
-shared-slice-read-values : tie.Need-bounds-images-x invariant-loop-p decreases-loop-p
-shared-slice-read-values c =
+bounds-images-x : tie.Need-bounds-images-x invariant-loop-p decreases-loop-p
+bounds-images-x c =
     let s = c.requires in
     omega (arith, s.legal.paired, c.run_near-x.ensures.run)
 
-mul-values-2 : tie.Need-offset_bounds-starts-x invariant-loop-p decreases-loop-p
-mul-values-2 c = omega arith
+offset_bounds-starts-x : tie.Need-offset_bounds-starts-x invariant-loop-p decreases-loop-p
+offset_bounds-starts-x c = omega arith
 
-shared-slice-read-values-2 : tie.Need-bounds-starts-x invariant-loop-p decreases-loop-p
-shared-slice-read-values-2 c = c.run_near-x.ensures.run
+bounds-starts-x : tie.Need-bounds-starts-x invariant-loop-p decreases-loop-p
+bounds-starts-x c = c.run_near-x.ensures.run
 
-sub-values : tie.Need-overflow_sub-values invariant-loop-p decreases-loop-p
-sub-values c = c.run_near-x.ensures.from
+overflow_sub-values : tie.Need-overflow_sub-values invariant-loop-p decreases-loop-p
+overflow_sub-values c = c.run_near-x.ensures.from
 
-add-values : tie.Need-overflow_add-values invariant-loop-p decreases-loop-p
-add-values c =
+overflow_add-values : tie.Need-overflow_add-values invariant-loop-p decreases-loop-p
+overflow_add-values c =
     let s = c.requires in
     let v = home_value _ _ s _ _ (omega arith) c.run_near-x.ensures in
     omega (arith, v.0, v.1, s.few)
 
-cast-values : tie.Need-overflow_cast-values invariant-loop-p decreases-loop-p
-cast-values c = omega arith
+overflow_cast-values : tie.Need-overflow_cast-values invariant-loop-p decreases-loop-p
+overflow_cast-values c = omega arith
 
-mul-values-3 : tie.Need-offset_bounds-values-p invariant-loop-p decreases-loop-p
-mul-values-3 c = omega arith
+offset_bounds-values-p : tie.Need-offset_bounds-values-p invariant-loop-p decreases-loop-p
+offset_bounds-values-p c = omega arith
 
-array-write-values : tie.Need-bounds-values-p invariant-loop-p decreases-loop-p
-array-write-values c = omega (arith, c.requires.few)
+bounds-values-p : tie.Need-bounds-values-p invariant-loop-p decreases-loop-p
+bounds-values-p c = omega (arith, c.requires.few)
 
-add-p : tie.Need-overflow_add-p invariant-loop-p decreases-loop-p
-add-p c = omega arith
+overflow_add-p : tie.Need-overflow_add-p invariant-loop-p decreases-loop-p
+overflow_add-p c = omega arith
 
-loop-less : tie.Need-loop-p-smaller invariant-loop-p decreases-loop-p
-loop-less c = omega arith
+loop-p-smaller : tie.Need-loop-p-smaller invariant-loop-p decreases-loop-p
+loop-p-smaller c = omega arith
 
-loop-again : tie.Need-loop-p-preserved invariant-loop-p decreases-loop-p
-loop-again c =
+loop-p-preserved : tie.Need-loop-p-preserved invariant-loop-p decreases-loop-p
+loop-p-preserved c =
     let q = c in
     placing_next _ _ q.requires _ _ _ _ _ q.loop-p.invariant (omega arith) c.run_near-x.ensures
 
@@ -71,18 +71,18 @@ of_places_spec =
     (tie.spec
     invariant-loop-p
     decreases-loop-p
-    loop-holds
-    run-near-requires
-    mul-values
-    shared-slice-read-values
-    mul-values-2
-    shared-slice-read-values-2
-    sub-values
-    add-values
-    cast-values
-    mul-values-3
-    array-write-values
-    add-p
-    loop-less
-    loop-again
+    loop-p-init
+    run_near-x-requires
+    offset_bounds-images-x
+    bounds-images-x
+    offset_bounds-starts-x
+    bounds-starts-x
+    overflow_sub-values
+    overflow_add-values
+    overflow_cast-values
+    offset_bounds-values-p
+    bounds-values-p
+    overflow_add-p
+    loop-p-smaller
+    loop-p-preserved
     returns)

@@ -5,31 +5,31 @@ use borrow.Author.Rules.{rules}
 use Rattle.permutations.proofs.values.run_near.Statement.{statement}
 use Rattle.permutations.proofs.values.run_near.Tie as tie
 
-add-if1 : tie.Need-overflow_add-x
-add-if1 c = search rules
+overflow_add-x : tie.Need-overflow_add-x
+overflow_add-x c = search rules
 
-add-if2 : tie.Need-overflow_add-x-then-x-starts
-add-if2 c = search rules
+overflow_add-x-then-x-starts : tie.Need-overflow_add-x-then-x-starts
+overflow_add-x-then-x-starts c = search rules
 
-mul-if2 : tie.Need-offset_bounds-starts-x
-mul-if2 c = search rules
+offset_bounds-starts-x : tie.Need-offset_bounds-starts-x
+offset_bounds-starts-x c = search rules
 
-shared-slice-read-if2 : tie.Need-bounds-starts-x
-shared-slice-read-if2 c = search rules
+bounds-starts-x : tie.Need-bounds-starts-x
+bounds-starts-x c = search rules
 
-add-result : tie.Need-overflow_add-result
-add-result c = search rules
+overflow_add-result : tie.Need-overflow_add-result
+overflow_add-result c = search rules
 
-returns : tie.Need-returns-then-starts-x
-returns c = near_next _ _ _ _ c.requires (omega arith) (omega arith)
+returns-then-starts-x : tie.Need-returns-then-starts-x
+returns-then-starts-x c = near_next _ _ _ _ c.requires (omega arith) (omega arith)
 
-returns_2 : tie.Need-returns-else-starts-x
-returns_2 c = near_here _ _ _ _ c.requires (omega arith) (omega arith)
+returns-else-starts-x : tie.Need-returns-else-starts-x
+returns-else-starts-x c = near_here _ _ _ _ c.requires (omega arith) (omega arith)
 
-returns-3 : tie.Need-returns-else-x-starts
-returns-3 c = near_last _ _ _ _ c.requires (omega arith)
+returns-else-x-starts : tie.Need-returns-else-x-starts
+returns-else-x-starts c = near_last _ _ _ _ c.requires (omega arith)
 
 pub run_near_spec : {M : Type 1} → statement M
 run_near_spec =
     tie.close
-    (tie.spec add-if1 add-if2 mul-if2 shared-slice-read-if2 add-result returns returns_2 returns-3)
+    (tie.spec overflow_add-x overflow_add-x-then-x-starts offset_bounds-starts-x bounds-starts-x overflow_add-result returns-then-starts-x returns-else-starts-x returns-else-x-starts)

@@ -10,17 +10,17 @@ use Rattle.plans.proofs.deciding.bound_of.Tie as tie
 small : (c : tie.Start) → c.args.d * c.args.k ≤ 1048576
 small c = mul-le-mul c.requires.1 c.requires.2
 
-mul-result : tie.Need-overflow_mul-result
-mul-result c = omega (arith, small c)
+overflow_mul-result : tie.Need-overflow_mul-result
+overflow_mul-result c = omega (arith, small c)
 
-sub-result : tie.Need-overflow_sub-result
-sub-result c = search rules
+overflow_sub-result : tie.Need-overflow_sub-result
+overflow_sub-result c = search rules
 
-div-result : tie.Need-nonzero_div-result
-div-result c = search rules
+nonzero_div-result : tie.Need-nonzero_div-result
+nonzero_div-result c = search rules
 
 returns : tie.Need-returns
 returns c = (refl, le_trans (div-le_self (c.args.d * c.args.k) (c.args.d - 1)) (small c))
 
 pub bound_of_spec : {M : Type 1} → statement M
-bound_of_spec = tie.close (tie.spec mul-result sub-result div-result returns)
+bound_of_spec = tie.close (tie.spec overflow_mul-result overflow_sub-result nonzero_div-result returns)

@@ -18,38 +18,38 @@ refused_by {d} {r} e f = not-false d (sym e ∙ f)
 passed_by : {d r : Bool} → r ≡ not d → r ≡ true → d ≡ false
 passed_by {d} {r} e f = not-true d (sym e ∙ f)
 
-is-degree-requires : tie.Need-is_degree-requires
-is-degree-requires c κs = search rules
+is_degree-requires : tie.Need-is_degree-requires
+is_degree-requires c κs = search rules
 
-returns : tie.Need-returns-then-not-is_degree
-returns c = sym (sized_degree _ _ _ (refused_by c.is_degree.ensures c.if-not-is_degree.true))
+returns-then-not-is_degree : tie.Need-returns-then-not-is_degree
+returns-then-not-is_degree c = sym (sized_degree _ _ _ (refused_by c.is_degree.ensures c.if-not-is_degree.true))
 
 -- the degree passes
 passes : (c : tie.Else-not-is_degree) → no_degree c.args.d ≡ false
 passes c = passed_by c.is_degree.ensures c.if-not-is_degree.false
 
-bound-of-requires : tie.Need-bound_of-b-requires
-bound-of-requires c κs = let i = degree_in _ (passes c) in (i.0, i.1, c.requires)
+bound_of-b-requires : tie.Need-bound_of-b-requires
+bound_of-b-requires c κs = let i = degree_in _ (passes c) in (i.0, i.1, c.requires)
 
-cast-t8 : tie.Need-overflow_cast-result
-cast-t8 c = search rules
+overflow_cast-result : tie.Need-overflow_cast-result
+overflow_cast-result c = search rules
 
-returns_2 : tie.Need-returns-then-room-b
-returns_2 c =
+returns-then-room-b : tie.Need-returns-then-room-b
+returns-then-room-b c =
     let b = c.bound_of-b.ensures.0 in
     ap (refused 8) b ∙ sym (sized_short _ _ _ (passes c.before.before) (omega (arith, b, c.if-room-b.true)))
 
-returns-3 : tie.Need-returns
-returns-3 c =
+returns : tie.Need-returns
+returns c =
     sym (sized_done _ _ _ (passes c.before.before) (omega (arith, c.bound_of-b.ensures.0, c.if-room-b.false)))
 
 pub decide_spec : {M : Type 1} → statement M
 decide_spec =
     tie.close
     (tie.spec
-    is-degree-requires
-    returns
-    bound-of-requires
-    cast-t8
-    returns_2
-    returns-3)
+    is_degree-requires
+    returns-then-not-is_degree
+    bound_of-b-requires
+    overflow_cast-result
+    returns-then-room-b
+    returns)

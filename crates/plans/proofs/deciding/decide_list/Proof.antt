@@ -24,40 +24,40 @@ list_of a = runs a.args.starts.now a.args.images.now
 accepted : (c : tie.In-Accepted) → check_of c.args.n (runs c.args.starts.now c.args.images.now) ≡ done tt
 accepted c = sym (ap checked_says (sym c.in-Accepted.is) ∙ c.check_order-checked.ensures.says)
 
-check-order-requires : tie.Need-check_order-checked-requires
-check-order-requires c κs = search rules
+check_order-checked-requires : tie.Need-check_order-checked-requires
+check_order-checked-requires c κs = search rules
 
-enum-known-checked : tie.Need-enum_known-checked
-enum-known-checked c = search rules
+enum_known-checked : tie.Need-enum_known-checked
+enum_known-checked c = search rules
 
-enum_told : tie.Need-enum_told-1
-enum_told c = search rules
+enum_told-1 : tie.Need-enum_told-1
+enum_told-1 c = search rules
 
 decide-requires : tie.Need-decide-requires
 decide-requires c κs = (accepted_legal _ (runs c.args.starts.now c.args.images.now) (accepted c)).1
 
-same_length : tie.Need-shape_of-order-in-Refused
-same_length c = search rules
+shape_of-order-in-Refused : tie.Need-shape_of-order-in-Refused
+shape_of-order-in-Refused c = search rules
 
-same_length_2 : tie.Need-shape_of-spare-in-Refused
-same_length_2 c = search rules
+shape_of-spare-in-Refused : tie.Need-shape_of-spare-in-Refused
+shape_of-spare-in-Refused c = search rules
 
-returns : tie.Need-returns-in-Refused
-returns c =
+returns-in-Refused : tie.Need-returns-in-Refused
+returns-in-Refused c =
     record {
       says = planned_refused _ (runs c.args.starts.now c.args.images.now) _ _ _ _ (ap checked_says (sym c.in-Refused.is)
           ∙ c.check_order-checked.ensures.says);
       ordered = λ e. c.check_order-checked.ensures.ordered (planned_passed _ (runs c.args.starts.now c.args.images.now) _ _ e).0;
     }
 
-same-length-3 : tie.Need-shape_of-order-in-Accepted
-same-length-3 c = search rules
+shape_of-order-in-Accepted : tie.Need-shape_of-order-in-Accepted
+shape_of-order-in-Accepted c = search rules
 
-same-length-4 : tie.Need-shape_of-spare-in-Accepted
-same-length-4 c = search rules
+shape_of-spare-in-Accepted : tie.Need-shape_of-spare-in-Accepted
+shape_of-spare-in-Accepted c = search rules
 
-returns_2 : tie.Need-returns-in-Accepted
-returns_2 c =
+returns-in-Accepted : tie.Need-returns-in-Accepted
+returns-in-Accepted c =
     record {
       says = c.decide.ensures ∙ sym (planned_accepted _ (runs c.args.starts.now c.args.images.now) _ _ (accepted c.before));
       ordered = λ e. c.check_order-checked.ensures.ordered (accepted c.before);
@@ -67,13 +67,13 @@ pub decide_list_spec : {M : Type 1} → statement M
 decide_list_spec =
     tie.close
     (tie.spec
-    check-order-requires
-    enum-known-checked
-    enum_told
+    check_order-checked-requires
+    enum_known-checked
+    enum_told-1
     decide-requires
-    same_length
-    same_length_2
-    returns
-    same-length-3
-    same-length-4
-    returns_2)
+    shape_of-order-in-Refused
+    shape_of-spare-in-Refused
+    returns-in-Refused
+    shape_of-order-in-Accepted
+    shape_of-spare-in-Accepted
+    returns-in-Accepted)

@@ -26,14 +26,14 @@ list_of a = runs a.args.starts.now a.args.images.now
 passed : (c : tie.In-Accepted) → planned_of c.args.n (runs c.args.starts.now c.args.images.now) c.args.low (length c.args.working.now) ≡ done tt
 passed c = sym (ap checked_says (sym c.in-Accepted.is) ∙ c.decide_list-decided.ensures.says)
 
-decide-list-requires : tie.Need-decide_list-decided-requires
-decide-list-requires c κs = search rules
+decide_list-decided-requires : tie.Need-decide_list-decided-requires
+decide_list-decided-requires c κs = search rules
 
-enum-known-decided : tie.Need-enum_known-decided
-enum-known-decided c = search rules
+enum_known-decided : tie.Need-enum_known-decided
+enum_known-decided c = search rules
 
-enum_told : tie.Need-enum_told-1
-enum_told c = search rules
+enum_told-1 : tie.Need-enum_told-1
+enum_told-1 c = search rules
 
 seek-requires : tie.Need-seek-requires
 seek-requires c κs =
@@ -48,42 +48,42 @@ seek-requires c κs =
       wide = omega (arith, a.requires.wide, c.decide_list-decided.auto.spare);
     }
 
-same_length : tie.Need-shape_of-order-in-Refused
-same_length c = search rules
+shape_of-order-in-Refused : tie.Need-shape_of-order-in-Refused
+shape_of-order-in-Refused c = search rules
 
-same_length_2 : tie.Need-shape_of-spare-in-Refused
-same_length_2 c = search rules
+shape_of-spare-in-Refused : tie.Need-shape_of-spare-in-Refused
+shape_of-spare-in-Refused c = search rules
 
-returns : tie.Need-returns-in-Refused
-returns c =
+returns-in-Refused : tie.Need-returns-in-Refused
+returns-in-Refused c =
     let a = c in
     let e = sym (ap checked_says (sym c.in-Refused.is) ∙ c.decide_list-decided.ensures.says) in
     (sought_refused _ (runs c.args.starts.now c.args.images.now) _ _ _ _ _ e, sym (working_kept _ (runs c.args.starts.now c.args.images.now) _ _ _ _ e))
 
-same-length-3 : tie.Need-shape_of-order-in-Accepted
-same-length-3 c = search rules
+shape_of-order-in-Accepted : tie.Need-shape_of-order-in-Accepted
+shape_of-order-in-Accepted c = search rules
 
-same-length-4 : tie.Need-shape_of-spare-in-Accepted
-same-length-4 c = search rules
+shape_of-spare-in-Accepted : tie.Need-shape_of-spare-in-Accepted
+shape_of-spare-in-Accepted c = search rules
 
-same-length-5 : tie.Need-shape_of-working
-same-length-5 c = search rules
+shape_of-working : tie.Need-shape_of-working
+shape_of-working c = search rules
 
-returns_2 : tie.Need-returns-in-Accepted
-returns_2 c = c.seek.ensures
+returns-in-Accepted : tie.Need-returns-in-Accepted
+returns-in-Accepted c = c.seek.ensures
 
 pub plan_in_spec : {M : Type 1} → statement M
 plan_in_spec =
     tie.close
     (tie.spec
-    decide-list-requires
-    enum-known-decided
-    enum_told
+    decide_list-decided-requires
+    enum_known-decided
+    enum_told-1
     seek-requires
-    same_length
-    same_length_2
-    returns
-    same-length-3
-    same-length-4
-    same-length-5
-    returns_2)
+    shape_of-order-in-Refused
+    shape_of-spare-in-Refused
+    returns-in-Refused
+    shape_of-order-in-Accepted
+    shape_of-spare-in-Accepted
+    shape_of-working
+    returns-in-Accepted)

@@ -6,20 +6,20 @@ use lib.ListN.{length}
 use Rattle.plans.proofs.seeking.first_open.Statement.{statement}
 use Rattle.plans.proofs.seeking.first_open.Tie as tie
 
-div-if1 : tie.Need-nonzero_div-k
-div-if1 c = omega (arith, c.requires.from)
+nonzero_div-k : tie.Need-nonzero_div-k
+nonzero_div-k c = omega (arith, c.requires.from)
 
-add-if1 : tie.Need-overflow_add-k
-add-if1 c =
+overflow_add-k : tie.Need-overflow_add-k
+overflow_add-k c =
     let a = c in
     let k = length a.args.starts.now in
     omega (arith, a.requires.few, div-le_self k a.args.low)
 
-add-t14 : tie.Need-overflow_add-result
-add-t14 c = search rules
+overflow_add-result : tie.Need-overflow_add-result
+overflow_add-result c = search rules
 
-returns : tie.Need-returns-then-k-low
-returns c = let a = c in
+returns-then-k-low : tie.Need-returns-then-k-low
+returns-then-k-low c = let a = c in
     record {
       ruled = record { from = omega arith; most = omega (arith, a.requires.high); none = λ d h l. absurd (omega arith) };
       up = omega (arith, a.requires.high);
@@ -27,14 +27,14 @@ returns c = let a = c in
       whole = λ h. absurd (omega arith);
     }
 
-first-degree-requires : tie.Need-first_degree-requires
-first-degree-requires c κs = search rules
+first_degree-requires : tie.Need-first_degree-requires
+first_degree-requires c κs = search rules
 
-same_length : tie.Need-shape_of-spare
-same_length c = search rules
+shape_of-spare : tie.Need-shape_of-spare
+shape_of-spare c = search rules
 
-returns_2 : tie.Need-returns
-returns_2 c = c.first_degree.ensures
+returns : tie.Need-returns
+returns c = c.first_degree.ensures
 
 pub first_open_spec : {M : Type 1} → statement M
-first_open_spec = tie.close (tie.spec div-if1 add-if1 add-t14 returns first-degree-requires same_length returns_2)
+first_open_spec = tie.close (tie.spec nonzero_div-k overflow_add-k overflow_add-result returns-then-k-low first_degree-requires shape_of-spare returns)

@@ -16,13 +16,13 @@ opened c = c.before.before
 abbrev list_of : tie.Start → Runs
 list_of a = runs a.args.starts.now a.args.images.now
 
-first-open-requires : tie.Need-first_open-first-requires
-first-open-requires c κs =
+first_open-first-requires : tie.Need-first_open-first-requires
+first_open-first-requires c κs =
     let a = c in
     seeking_boundable _ (list_of a.before.before.before.before.before.before) a.args.entries _ _ _ _ a.requires
 
-sweep-from-requires : tie.Need-sweep_from-requires
-sweep-from-requires c κs =
+sweep_from-requires : tie.Need-sweep_from-requires
+sweep_from-requires c κs =
     let f = opened c.before.before in
     let a = start f in
     let k = f.first_open-first.auto.spare in (
@@ -36,15 +36,15 @@ sweep-from-requires c κs =
       f.first_open-first.ensures,
     )
 
-same_length : tie.Need-shape_of-spare
-same_length c = search rules
+shape_of-spare : tie.Need-shape_of-spare
+shape_of-spare c = search rules
 
-same_length_2 : tie.Need-shape_of-working
-same_length_2 c = search rules
+shape_of-working : tie.Need-shape_of-working
+shape_of-working c = search rules
 
 returns : tie.Need-returns
 returns c = c.sweep_from.ensures
 
 pub seek_spec : {M : Type 1} → statement M
 seek_spec =
-    tie.close (tie.spec first-open-requires sweep-from-requires same_length same_length_2 returns)
+    tie.close (tie.spec first_open-first-requires sweep_from-requires shape_of-spare shape_of-working returns)

@@ -35,20 +35,20 @@ list_of a = runs a.args.starts.now a.args.images.now
 high : (t : tie.In-loop-d invariant-loop-d decreases-loop-d) → t.loop-d.d ≤ 64
 high t = let a = start t.before.before in omega (arith, t.loop-d-test.true, a.requires.1.most)
 
-loop-holds : tie.Need-loop-d-init invariant-loop-d decreases-loop-d
-loop-holds c =
+loop-d-init : tie.Need-loop-d-init invariant-loop-d decreases-loop-d
+loop-d-init c =
     let a = c in
     (seeking_first _ (list_of a.before.before.before.before.before) _ _ _ _ _ a.requires.0 _ a.requires.1, refl, a.requires.1.up)
 
-find-cuts-requires : tie.Need-find_cuts-cuts-requires invariant-loop-d decreases-loop-d
-find-cuts-requires c κs =
+find_cuts-cuts-requires : tie.Need-find_cuts-cuts-requires invariant-loop-d decreases-loop-d
+find_cuts-cuts-requires c κs =
     let t = c in
     let l = t.loop-d in
     let a = start t.before.before.before.before in
     seeking_cuttable _ (list_of a) _ _ _ _ _ a.requires.0 _ _ l.invariant.0 _ l.invariant.1 (high t.before.before)
 
-add-if2 : tie.Need-overflow_add-starts invariant-loop-d decreases-loop-d
-add-if2 c =
+overflow_add-starts : tie.Need-overflow_add-starts invariant-loop-d decreases-loop-d
+overflow_add-starts c =
     let s = swept c in
     let l = s.loop-d in
     let a = start (turn s).before.before in
@@ -60,28 +60,28 @@ add-if2 c =
       size_few _ (list_of a) l.d 0 h.0 h.1 (omega (arith, l.invariant.0.ruled.from)),
     )
 
-same_length : tie.Need-shape_of-spare-then-starts-cuts invariant-loop-d decreases-loop-d
-same_length c = search rules
+shape_of-spare-then-starts-cuts : tie.Need-shape_of-spare-then-starts-cuts invariant-loop-d decreases-loop-d
+shape_of-spare-then-starts-cuts c = search rules
 
-same_length_2 : tie.Need-shape_of-working-then-starts-cuts invariant-loop-d decreases-loop-d
-same_length_2 c = search rules
+shape_of-working-then-starts-cuts : tie.Need-shape_of-working-then-starts-cuts invariant-loop-d decreases-loop-d
+shape_of-working-then-starts-cuts c = search rules
 
-returns : tie.Need-returns-then-starts-cuts invariant-loop-d decreases-loop-d
-returns c =
+returns-then-starts-cuts : tie.Need-returns-then-starts-cuts invariant-loop-d decreases-loop-d
+returns-then-starts-cuts c =
     let s = swept c.before in
     let t = turn s in
     let l = t.loop-d in
     let a = start t.before.before in
     seeking_found _ (list_of a) _ _ _ _ _ a.requires.0 _ _ l.invariant.0 (high t) _ _ s.find_cuts-cuts.ensures c.if-starts-cuts.true
 
-add-d : tie.Need-overflow_add-d invariant-loop-d decreases-loop-d
-add-d c = omega (arith, high (turn (swept c.before)))
+overflow_add-d : tie.Need-overflow_add-d invariant-loop-d decreases-loop-d
+overflow_add-d c = omega (arith, high (turn (swept c.before)))
 
-loop-less : tie.Need-loop-d-smaller invariant-loop-d decreases-loop-d
-loop-less c = omega (arith, high (turn (swept c.before)))
+loop-d-smaller : tie.Need-loop-d-smaller invariant-loop-d decreases-loop-d
+loop-d-smaller c = omega (arith, high (turn (swept c.before)))
 
-loop-again : tie.Need-loop-d-preserved invariant-loop-d decreases-loop-d
-loop-again c =
+loop-d-preserved : tie.Need-loop-d-preserved invariant-loop-d decreases-loop-d
+loop-d-preserved c =
     let s = swept c.before in
     let t = turn s in
     let l = t.loop-d in
@@ -92,14 +92,14 @@ loop-again c =
       omega (arith, t.loop-d-test.true),
     )
 
-same-length-3 : tie.Need-shape_of-spare-then-d-le-MOST_DEGREE invariant-loop-d decreases-loop-d
-same-length-3 c = search rules
+shape_of-spare-then-d-le-MOST_DEGREE : tie.Need-shape_of-spare-then-d-le-MOST_DEGREE invariant-loop-d decreases-loop-d
+shape_of-spare-then-d-le-MOST_DEGREE c = search rules
 
-same-length-4 : tie.Need-shape_of-working-then-d-le-MOST_DEGREE invariant-loop-d decreases-loop-d
-same-length-4 c = search rules
+shape_of-working-then-d-le-MOST_DEGREE : tie.Need-shape_of-working-then-d-le-MOST_DEGREE invariant-loop-d decreases-loop-d
+shape_of-working-then-d-le-MOST_DEGREE c = search rules
 
-returns_2 : tie.Need-returns-then-d-le-MOST_DEGREE invariant-loop-d decreases-loop-d
-returns_2 c =
+returns-then-d-le-MOST_DEGREE : tie.Need-returns-then-d-le-MOST_DEGREE invariant-loop-d decreases-loop-d
+returns-then-d-le-MOST_DEGREE c =
     let e = c in
     let l = e.loop-d in
     let a = start e.before.before.before in
@@ -111,14 +111,14 @@ clear-requires c κs =
     let a = start c.before.before.before.before in
     clearable _ (list_of a) _ _ a.requires.0.passed _ l.invariant.0.sized
 
-same-length-5 : tie.Need-shape_of-spare invariant-loop-d decreases-loop-d
-same-length-5 c = search rules
+shape_of-spare : tie.Need-shape_of-spare invariant-loop-d decreases-loop-d
+shape_of-spare c = search rules
 
-same-length-6 : tie.Need-shape_of-working invariant-loop-d decreases-loop-d
-same-length-6 c = search rules
+shape_of-working : tie.Need-shape_of-working invariant-loop-d decreases-loop-d
+shape_of-working c = search rules
 
-returns-3 : tie.Need-returns invariant-loop-d decreases-loop-d
-returns-3 c =
+returns : tie.Need-returns invariant-loop-d decreases-loop-d
+returns c =
     let k = c in
     let e = k in
     let l = e.loop-d in
@@ -133,19 +133,19 @@ sweep_from_spec =
     (tie.spec
     invariant-loop-d
     decreases-loop-d
-    loop-holds
-    find-cuts-requires
-    add-if2
-    same_length
-    same_length_2
-    returns
-    add-d
-    loop-less
-    loop-again
-    same-length-3
-    same-length-4
-    returns_2
+    loop-d-init
+    find_cuts-cuts-requires
+    overflow_add-starts
+    shape_of-spare-then-starts-cuts
+    shape_of-working-then-starts-cuts
+    returns-then-starts-cuts
+    overflow_add-d
+    loop-d-smaller
+    loop-d-preserved
+    shape_of-spare-then-d-le-MOST_DEGREE
+    shape_of-working-then-d-le-MOST_DEGREE
+    returns-then-d-le-MOST_DEGREE
     clear-requires
-    same-length-5
-    same-length-6
-    returns-3)
+    shape_of-spare
+    shape_of-working
+    returns)

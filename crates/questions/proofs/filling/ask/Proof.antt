@@ -6,11 +6,11 @@ use borrow.Author.Rules.{rules}
 use Rattle.questions.proofs.filling.ask.Statement.{statement}
 use Rattle.questions.proofs.filling.ask.Tie as tie
 
-step-from-requires : tie.Need-step_from-step-requires
-step-from-requires c κs = search rules
+step_from-step-requires : tie.Need-step_from-step-requires
+step_from-step-requires c κs = search rules
 
-cast-t7 : tie.Need-overflow_cast-result
-cast-t7 c =
+overflow_cast-result : tie.Need-overflow_cast-result
+overflow_cast-result c =
     let s = c in
     record { fits = count_fits _ _ _ _ s.step_from-step.ensures s.requires }
 
@@ -18,4 +18,4 @@ returns : tie.Need-returns
 returns c = ap (question _ _) c.step_from-step.ensures
 
 pub ask_spec : {M : Type 1} → statement M
-ask_spec = tie.close (tie.spec step-from-requires cast-t7 returns)
+ask_spec = tie.close (tie.spec step_from-step-requires overflow_cast-result returns)

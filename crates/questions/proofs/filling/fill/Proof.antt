@@ -4,17 +4,17 @@ use borrow.Author.Rules.{rules}
 use Rattle.questions.proofs.filling.fill.Statement.{statement}
 use Rattle.questions.proofs.filling.fill.Tie as tie
 
-enum_told : tie.Need-enum_told-1
-enum_told c = search rules
+enum_told-1 : tie.Need-enum_told-1
+enum_told-1 c = search rules
 
-enum-told-2 : tie.Need-enum_told-in-Refused
-enum-told-2 c = search rules
+enum_told-in-Refused : tie.Need-enum_told-in-Refused
+enum_told-in-Refused c = search rules
 
-enum-told-3 : tie.Need-enum_told-in-Passed
-enum-told-3 c = search rules
+enum_told-in-Passed : tie.Need-enum_told-in-Passed
+enum_told-in-Passed c = search rules
 
-reach-from-requires : tie.Need-reach_from-y-requires
-reach-from-requires c κs =
+reach_from-y-requires : tie.Need-reach_from-y-requires
+reach_from-y-requires c κs =
     let s = c in
     let f = passed_placed _ c.args.q _ _ _ c.in-Passed.is s.requires in
     (f.pass.index, f.move.few)
@@ -26,14 +26,14 @@ ask-requires c κs =
     let g = e.in-Passed.is in
     placed_move _ _ _ (passed_placed _ c.args.q _ _ _ g s.requires) _ c.reach_from-y.ensures
 
-returns : tie.Need-returns-in-PlaceOrder
-returns c = rw c.in-PlaceOrder.is
+returns-in-PlaceOrder : tie.Need-returns-in-PlaceOrder
+returns-in-PlaceOrder c = rw c.in-PlaceOrder.is
 
-returns_2 : tie.Need-returns-in-Refused
-returns_2 c = rw c.in-Refused.is
+returns-in-Refused : tie.Need-returns-in-Refused
+returns-in-Refused c = rw c.in-Refused.is
 
-returns-3 : tie.Need-returns-in-Passed
-returns-3 c =
+returns-in-Passed : tie.Need-returns-in-Passed
+returns-in-Passed c =
     let d = c in
     let e = d in
     let s = e in
@@ -44,11 +44,11 @@ pub fill_spec : {M : Type 1} → statement M
 fill_spec =
     tie.close
     (tie.spec
-    enum_told
-    enum-told-2
-    enum-told-3
-    reach-from-requires
+    enum_told-1
+    enum_told-in-Refused
+    enum_told-in-Passed
+    reach_from-y-requires
     ask-requires
-    returns
-    returns_2
-    returns-3)
+    returns-in-PlaceOrder
+    returns-in-Refused
+    returns-in-Passed)

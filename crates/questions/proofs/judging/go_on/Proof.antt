@@ -5,28 +5,28 @@ use borrow.Author.Rules.{rules}
 use Rattle.questions.proofs.judging.go_on.Statement.{statement}
 use Rattle.questions.proofs.judging.go_on.Tie as tie
 
-is-unfindable-requires : tie.Need-is_unfindable-requires
-is-unfindable-requires c κs = search rules
+is_unfindable-requires : tie.Need-is_unfindable-requires
+is_unfindable-requires c κs = search rules
 
-returns : tie.Need-returns-then-is_unfindable
-returns c =
+returns-then-is_unfindable : tie.Need-returns-then-is_unfindable
+returns-then-is_unfindable c =
     let e = c in
     gone_outside _ _ _ _ c.requires (sym e.is_unfindable.ensures ∙ c.if-is_unfindable.true)
 
-find-near-requires : tie.Need-find_near-x-requires
-find-near-requires c κs = search rules
+find_near-x-requires : tie.Need-find_near-x-requires
+find_near-x-requires c κs = search rules
 
 stand-requires : tie.Need-stand-requires
 stand-requires c κs =
     let e = c in
     on_located _ _ _ _ c.requires (sym e.is_unfindable.ensures ∙ e.if-is_unfindable.false) _ c.find_near-x.ensures
 
-returns_2 : tie.Need-returns
-returns_2 c =
+returns : tie.Need-returns
+returns c =
     let d = c in
     let e = d in
     gone_found _ _ _ _ c.requires (sym e.is_unfindable.ensures ∙ e.if-is_unfindable.false) _ d.find_near-x.ensures _ c.stand.ensures
 
 pub go_on_spec : {M : Type 1} → statement M
 go_on_spec =
-    tie.close (tie.spec is-unfindable-requires returns find-near-requires stand-requires returns_2)
+    tie.close (tie.spec is_unfindable-requires returns-then-is_unfindable find_near-x-requires stand-requires returns)

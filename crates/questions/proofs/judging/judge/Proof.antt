@@ -10,19 +10,19 @@ use Rattle.questions.proofs.judging.judge.Tie as tie
 fall-requires : tie.Need-fall-requires
 fall-requires c κs = search rules
 
-returns : tie.Need-returns-then-q-s
-returns c = judge_falls _ _ _ _ _ (omega arith) _ c.fall.ensures
+returns-then-q-s : tie.Need-returns-then-q-s
+returns-then-q-s c = judge_falls _ _ _ _ _ (omega arith) _ c.fall.ensures
 
-is-clear-requires : tie.Need-is_clear-requires
-is-clear-requires c κs = search rules
+is_clear-requires : tie.Need-is_clear-requires
+is_clear-requires c κs = search rules
 
-go-on-requires : tie.Need-go_on-requires
-go-on-requires c κs =
+go_on-requires : tie.Need-go_on-requires
+go_on-requires c κs =
     let s = c in
     clear_findable _ s.args.s.standing _ _ (sym c.is_clear.ensures ∙ c.if-is_clear.true) (s.requires s.args.q.place (omega arith))
 
-returns_2 : tie.Need-returns-then-is_clear
-returns_2 c =
+returns-then-is_clear : tie.Need-returns-then-is_clear
+returns-then-is_clear c =
     let e = c in
     judge_goes _ _ _ _ _ (omega arith) (sym e.is_clear.ensures ∙ e.if-is_clear.true) _ c.go_on.ensures
 
@@ -32,8 +32,8 @@ stay-requires c κs =
     let k = links s.args.starts.now s.args.images.now s.args.holders.now in
     staying k s.args.s.standing s.args.s.interval s.args.q.place (s.requires s.args.q.place (omega arith))
 
-returns-3 : tie.Need-returns
-returns-3 c =
+returns : tie.Need-returns
+returns c =
     let e = c in
     judge_stays _ _ _ _ _ (omega arith) (sym e.is_clear.ensures ∙ e.if-is_clear.false) _ c.stay.ensures
 
@@ -42,9 +42,9 @@ judge_spec =
     tie.close
     (tie.spec
     fall-requires
-    returns
-    is-clear-requires
-    go-on-requires
-    returns_2
+    returns-then-q-s
+    is_clear-requires
+    go_on-requires
+    returns-then-is_clear
     stay-requires
-    returns-3)
+    returns)

@@ -5,14 +5,14 @@ use borrow.Author.Rules.{rules}
 use Rattle.questions.proofs.judging.stand.Statement.{statement}
 use Rattle.questions.proofs.judging.stand.Tie as tie
 
-is-broken-requires : tie.Need-is_broken-requires
-is-broken-requires c κs = search rules
+is_broken-requires : tie.Need-is_broken-requires
+is_broken-requires c κs = search rules
 
-returns : tie.Need-returns-then-is_broken
-returns c = stand_broken _ _ _ _ (sym c.is_broken.ensures ∙ c.if-is_broken.true)
+returns-then-is_broken : tie.Need-returns-then-is_broken
+returns-then-is_broken c = stand_broken _ _ _ _ (sym c.is_broken.ensures ∙ c.if-is_broken.true)
 
-returns_2 : tie.Need-returns
-returns_2 c = stand_clear _ _ _ _ (sym c.is_broken.ensures ∙ c.if-is_broken.false)
+returns : tie.Need-returns
+returns c = stand_clear _ _ _ _ (sym c.is_broken.ensures ∙ c.if-is_broken.false)
 
 pub stand_spec : {M : Type 1} → statement M
-stand_spec = tie.close (tie.spec is-broken-requires returns returns_2)
+stand_spec = tie.close (tie.spec is_broken-requires returns-then-is_broken returns)

@@ -4,11 +4,11 @@ use borrow.Author.Rules.{rules}
 use Rattle.questions.proofs.judging.stay.Statement.{statement}
 use Rattle.questions.proofs.judging.stay.Tie as tie
 
-outside-or-requires : tie.Need-outside_or-requires
-outside-or-requires c κs = search rules
+outside_or-requires : tie.Need-outside_or-requires
+outside_or-requires c κs = search rules
 
 returns : tie.Need-returns
 returns c = stayed_is _ _ _ _ _ c.outside_or.ensures
 
 pub stay_spec : {M : Type 1} → statement M
-stay_spec = tie.close (tie.spec outside-or-requires returns)
+stay_spec = tie.close (tie.spec outside_or-requires returns)

@@ -16,32 +16,32 @@ invariant-loop-x n starts images x₀ x = Searched (out_of_range n (runs starts 
 abbrev decreases-loop-x : tie.decreases-loop-x
 decreases-loop-x n starts images x₀ x = length starts - x
 
-loop-holds : tie.Need-loop-x-init invariant-loop-x decreases-loop-x
-loop-holds c = searched_none _ _
+loop-x-init : tie.Need-loop-x-init invariant-loop-x decreases-loop-x
+loop-x-init c = searched_none _ _
 
 wide-requires : tie.Need-wide-requires invariant-loop-x decreases-loop-x
 wide-requires c κs = search rules
 
-image-end-requires : tie.Need-image_end-requires invariant-loop-x decreases-loop-x
-image-end-requires c κs = (omega arith, c.requires)
+image_end-requires : tie.Need-image_end-requires invariant-loop-x decreases-loop-x
+image_end-requires c κs = (omega arith, c.requires)
 
-returns : tie.Need-returns-then-wide-image_end invariant-loop-x decreases-loop-x
-returns c =
+returns-then-wide-image_end : tie.Need-returns-then-wide-image_end invariant-loop-x decreases-loop-x
+returns-then-wide-image_end c =
     searched_hit _ _ _ c.loop-x.invariant (omega arith) (out_of_range_true _ _ _ (omega arith))
 
-add-x : tie.Need-overflow_add-x invariant-loop-x decreases-loop-x
-add-x c = omega arith
+overflow_add-x : tie.Need-overflow_add-x invariant-loop-x decreases-loop-x
+overflow_add-x c = omega arith
 
-loop-less : tie.Need-loop-x-smaller invariant-loop-x decreases-loop-x
-loop-less c = omega arith
+loop-x-smaller : tie.Need-loop-x-smaller invariant-loop-x decreases-loop-x
+loop-x-smaller c = omega arith
 
-loop-again : tie.Need-loop-x-preserved invariant-loop-x decreases-loop-x
-loop-again c =
+loop-x-preserved : tie.Need-loop-x-preserved invariant-loop-x decreases-loop-x
+loop-x-preserved c =
     searched_next _ _ _ c.loop-x.invariant (omega arith)
     (out_of_range_false _ _ _ (omega arith))
 
-returns_2 : tie.Need-returns invariant-loop-x decreases-loop-x
-returns_2 c = searched_end _ _ _ c.loop-x.invariant (omega arith)
+returns : tie.Need-returns invariant-loop-x decreases-loop-x
+returns c = searched_end _ _ _ c.loop-x.invariant (omega arith)
 
 pub first_out_of_range_spec : {M : Type 1} → statement M
 first_out_of_range_spec =
@@ -49,11 +49,11 @@ first_out_of_range_spec =
     (tie.spec
     invariant-loop-x
     decreases-loop-x
-    loop-holds
+    loop-x-init
     wide-requires
-    image-end-requires
-    returns
-    add-x
-    loop-less
-    loop-again
-    returns_2)
+    image_end-requires
+    returns-then-wide-image_end
+    overflow_add-x
+    loop-x-smaller
+    loop-x-preserved
+    returns)

@@ -14,28 +14,28 @@ invariant-loop-x n starts x₀ x = Searched (unordered n starts) (length starts)
 abbrev decreases-loop-x : tie.decreases-loop-x
 decreases-loop-x n starts x₀ x = length starts - x
 
-loop-holds : tie.Need-loop-x-init invariant-loop-x decreases-loop-x
-loop-holds c = searched_none _ _
+loop-x-init : tie.Need-loop-x-init invariant-loop-x decreases-loop-x
+loop-x-init c = searched_none _ _
 
-is-unordered-requires : tie.Need-is_unordered-requires invariant-loop-x decreases-loop-x
-is-unordered-requires c κs = omega arith
+is_unordered-requires : tie.Need-is_unordered-requires invariant-loop-x decreases-loop-x
+is_unordered-requires c κs = omega arith
 
-returns : tie.Need-returns-then-is_unordered invariant-loop-x decreases-loop-x
-returns c =
+returns-then-is_unordered : tie.Need-returns-then-is_unordered invariant-loop-x decreases-loop-x
+returns-then-is_unordered c =
     searched_hit _ _ _ c.loop-x.invariant (omega arith) (sym c.is_unordered.ensures ∙ c.if-is_unordered.true)
 
-add-x : tie.Need-overflow_add-x invariant-loop-x decreases-loop-x
-add-x c = omega arith
+overflow_add-x : tie.Need-overflow_add-x invariant-loop-x decreases-loop-x
+overflow_add-x c = omega arith
 
-loop-less : tie.Need-loop-x-smaller invariant-loop-x decreases-loop-x
-loop-less c = omega arith
+loop-x-smaller : tie.Need-loop-x-smaller invariant-loop-x decreases-loop-x
+loop-x-smaller c = omega arith
 
-loop-again : tie.Need-loop-x-preserved invariant-loop-x decreases-loop-x
-loop-again c =
+loop-x-preserved : tie.Need-loop-x-preserved invariant-loop-x decreases-loop-x
+loop-x-preserved c =
     searched_next _ _ _ c.loop-x.invariant (omega arith) (sym c.is_unordered.ensures ∙ c.if-is_unordered.false)
 
-returns_2 : tie.Need-returns invariant-loop-x decreases-loop-x
-returns_2 c = searched_end _ _ _ c.loop-x.invariant (omega arith)
+returns : tie.Need-returns invariant-loop-x decreases-loop-x
+returns c = searched_end _ _ _ c.loop-x.invariant (omega arith)
 
 pub first_unordered_spec : {M : Type 1} → statement M
 first_unordered_spec =
@@ -43,10 +43,10 @@ first_unordered_spec =
     (tie.spec
     invariant-loop-x
     decreases-loop-x
-    loop-holds
-    is-unordered-requires
-    returns
-    add-x
-    loop-less
-    loop-again
-    returns_2)
+    loop-x-init
+    is_unordered-requires
+    returns-then-is_unordered
+    overflow_add-x
+    loop-x-smaller
+    loop-x-preserved
+    returns)

@@ -5,29 +5,29 @@ use Rattle.order.proofs.Laws.{entry_after}
 use Rattle.runs.proofs.conditions.image_end.Statement.{statement}
 use Rattle.runs.proofs.conditions.image_end.Tie as tie
 
-add-entry-or : tie.Need-overflow_add-x
-add-entry-or c = search rules
+overflow_add-x : tie.Need-overflow_add-x
+overflow_add-x c = search rules
 
-entry-or-requires : tie.Need-entry_or-end-requires
-entry-or-requires c κs = search rules
+entry_or-end-requires : tie.Need-entry_or-end-requires
+entry_or-end-requires c κs = search rules
 
-mul_wide : tie.Need-offset_bounds-images-x
-mul_wide c = search rules
+offset_bounds-images-x : tie.Need-offset_bounds-images-x
+offset_bounds-images-x c = search rules
 
-shared-slice-read-wide : tie.Need-bounds-images-x
-shared-slice-read-wide c = search rules
+bounds-images-x : tie.Need-bounds-images-x
+bounds-images-x c = search rules
 
 wide-requires : tie.Need-wide-requires
 wide-requires c κs = search rules
 
-mul-wide-2 : tie.Need-offset_bounds-starts-x
-mul-wide-2 c = search rules
+offset_bounds-starts-x : tie.Need-offset_bounds-starts-x
+offset_bounds-starts-x c = search rules
 
-shared-slice-read-wide-2 : tie.Need-bounds-starts-x
-shared-slice-read-wide-2 c = search rules
+bounds-starts-x : tie.Need-bounds-starts-x
+bounds-starts-x c = search rules
 
-sub_wide : tie.Need-overflow_sub-end
-sub_wide c =
+overflow_sub-end : tie.Need-overflow_sub-end
+overflow_sub-end c =
     let a = c in
     omega (
       arith,
@@ -38,8 +38,8 @@ sub_wide c =
 wide-requires-2 : tie.Need-wide-requires-2
 wide-requires-2 c κs = search rules
 
-add-result : tie.Need-overflow_add-result
-add-result c = search rules
+overflow_add-result : tie.Need-overflow_add-result
+overflow_add-result c = search rules
 
 returns : tie.Need-returns
 returns c =
@@ -50,14 +50,14 @@ pub image_end_spec : {M : Type 1} → statement M
 image_end_spec =
     tie.close
     (tie.spec
-    add-entry-or
-    entry-or-requires
-    mul_wide
-    shared-slice-read-wide
+    overflow_add-x
+    entry_or-end-requires
+    offset_bounds-images-x
+    bounds-images-x
     wide-requires
-    mul-wide-2
-    shared-slice-read-wide-2
-    sub_wide
+    offset_bounds-starts-x
+    bounds-starts-x
+    overflow_sub-end
     wide-requires-2
-    add-result
+    overflow_add-result
     returns)

@@ -13,8 +13,8 @@ left : (c : tie.After-sort_by_key)
     Ordered (runs a.args.starts.now a.args.images.now) c.sort_by_key.new.order
 left c = ordered _ _ _ c.requires.0.paired c.sort_by_key.ensures
 
-sort-by-key-requires : tie.Need-sort_by_key-requires
-sort-by-key-requires c κs =
+sort_by_key-requires : tie.Need-sort_by_key-requires
+sort_by_key-requires c κs =
     let p = c.requires in
     record {
       few = omega (arith, p.0.paired);
@@ -22,20 +22,20 @@ sort-by-key-requires c κs =
       in_spare = omega (arith, p.0.paired, p.3);
     }
 
-lowest-overlap-requires : tie.Need-lowest_overlap-requires
-lowest-overlap-requires c κs =
+lowest_overlap-requires : tie.Need-lowest_overlap-requires
+lowest_overlap-requires c κs =
     let o = c in
     (o.requires.0, left o.before.before.before.before)
 
-same_length : tie.Need-shape_of-order
-same_length c = search rules
+shape_of-order : tie.Need-shape_of-order
+shape_of-order c = search rules
 
-same_length_2 : tie.Need-shape_of-spare
-same_length_2 c = search rules
+shape_of-spare : tie.Need-shape_of-spare
+shape_of-spare c = search rules
 
 returns : tie.Need-returns
 returns c = record { lowest = c.lowest_overlap.ensures; ordered = left c.before.before.before.before.before }
 
 pub first_overlap_spec : {M : Type 1} → statement M
 first_overlap_spec =
-    tie.close (tie.spec sort-by-key-requires lowest-overlap-requires same_length same_length_2 returns)
+    tie.close (tie.spec sort_by_key-requires lowest_overlap-requires shape_of-order shape_of-spare returns)

@@ -5,11 +5,11 @@ use native.Mathlib.Omega.{arith}
 use Rattle.runs.proofs.sweep.higher.Statement.{statement}
 use Rattle.runs.proofs.sweep.higher.Tie as tie
 
-returns : tie.Need-returns-then-a-b
-returns c = (omega arith, omega arith, inr refl)
+returns-then-a-b : tie.Need-returns-then-a-b
+returns-then-a-b c = (omega arith, omega arith, inr refl)
 
-returns_2 : tie.Need-returns-else-a-b
-returns_2 c = (omega arith, omega arith, inl refl)
+returns-else-a-b : tie.Need-returns-else-a-b
+returns-else-a-b c = (omega arith, omega arith, inl refl)
 
 pub higher_spec : {M : Type 1} → statement M
-higher_spec = tie.close (tie.spec returns returns_2)
+higher_spec = tie.close (tie.spec returns-then-a-b returns-else-a-b)

@@ -16,42 +16,42 @@ invariant-loop-t n starts images order lowest₀ reached₀ t₀ lowest reached 
 abbrev decreases-loop-t : tie.decreases-loop-t
 decreases-loop-t n starts images order lowest₀ reached₀ t₀ lowest reached t = length starts - t
 
-loop-holds : tie.Need-loop-t-init invariant-loop-t decreases-loop-t
-loop-holds c = swept_none _ _ c.requires.0
+loop-t-init : tie.Need-loop-t-init invariant-loop-t decreases-loop-t
+loop-t-init c = swept_none _ _ c.requires.0
 
-mul-x : tie.Need-offset_bounds-order-t invariant-loop-t decreases-loop-t
-mul-x c = omega arith
+offset_bounds-order-t : tie.Need-offset_bounds-order-t invariant-loop-t decreases-loop-t
+offset_bounds-order-t c = omega arith
 
-shared-slice-read-x : tie.Need-bounds-order-t invariant-loop-t decreases-loop-t
-shared-slice-read-x c =
+bounds-order-t : tie.Need-bounds-order-t invariant-loop-t decreases-loop-t
+bounds-order-t c =
     let o = ordered_room _ _ c.requires.1 in omega arith
 
-cast-x : tie.Need-overflow_cast-x invariant-loop-t decreases-loop-t
-cast-x c = omega (arith, c.shared_slice_known-in-loop-t-1.given c.loop-t.t)
+overflow_cast-x : tie.Need-overflow_cast-x invariant-loop-t decreases-loop-t
+overflow_cast-x c = omega (arith, c.shared_slice_known-in-loop-t-1.given c.loop-t.t)
 
-image-end-requires : tie.Need-image_end-end-requires invariant-loop-t decreases-loop-t
-image-end-requires c κs =
+image_end-end-requires : tie.Need-image_end-end-requires invariant-loop-t decreases-loop-t
+image_end-end-requires c κs =
     let a = c in
     let b = entry_below _ _ a.requires.1 c.loop-t.t (omega arith) in
     (omega (arith, a.requires.0.paired), a.requires.0)
 
-meets-another-requires : tie.Need-meets_another-requires invariant-loop-t decreases-loop-t
-meets-another-requires c κs = (omega arith, c.requires.1)
+meets_another-requires : tie.Need-meets_another-requires invariant-loop-t decreases-loop-t
+meets_another-requires c κs = (omega arith, c.requires.1)
 
-lower-requires : tie.Need-lower-lowest-requires invariant-loop-t decreases-loop-t
-lower-requires c κs = tt
+lower-lowest-requires : tie.Need-lower-lowest-requires invariant-loop-t decreases-loop-t
+lower-lowest-requires c κs = tt
 
-higher-requires : tie.Need-higher-reached-requires invariant-loop-t decreases-loop-t
-higher-requires c κs = tt
+higher-reached-requires : tie.Need-higher-reached-requires invariant-loop-t decreases-loop-t
+higher-reached-requires c κs = tt
 
-add-t : tie.Need-overflow_add-t invariant-loop-t decreases-loop-t
-add-t c = omega arith
+overflow_add-t : tie.Need-overflow_add-t invariant-loop-t decreases-loop-t
+overflow_add-t c = omega arith
 
-loop-less : tie.Need-loop-t-smaller invariant-loop-t decreases-loop-t
-loop-less c = omega arith
+loop-t-smaller : tie.Need-loop-t-smaller invariant-loop-t decreases-loop-t
+loop-t-smaller c = omega arith
 
-loop-again : tie.Need-loop-t-preserved invariant-loop-t decreases-loop-t
-loop-again c =
+loop-t-preserved : tie.Need-loop-t-preserved invariant-loop-t decreases-loop-t
+loop-t-preserved c =
     let a = c in
     let l = c.loop-t in
     let b = c.meets_another in
@@ -71,15 +71,15 @@ lowest_overlap_spec =
     (tie.spec
     invariant-loop-t
     decreases-loop-t
-    loop-holds
-    mul-x
-    shared-slice-read-x
-    cast-x
-    image-end-requires
-    meets-another-requires
-    lower-requires
-    higher-requires
-    add-t
-    loop-less
-    loop-again
+    loop-t-init
+    offset_bounds-order-t
+    bounds-order-t
+    overflow_cast-x
+    image_end-end-requires
+    meets_another-requires
+    lower-lowest-requires
+    higher-reached-requires
+    overflow_add-t
+    loop-t-smaller
+    loop-t-preserved
     returns)

@@ -9,71 +9,71 @@ use Rattle.runs.proofs.Sweeping.{meets_before, meets_none, meets_next}
 use Rattle.runs.proofs.sweep.meets_another.Statement.{statement}
 use Rattle.runs.proofs.sweep.meets_another.Tie as tie
 
-mul-x : tie.Need-offset_bounds-order-t
-mul-x c = search rules
+offset_bounds-order-t : tie.Need-offset_bounds-order-t
+offset_bounds-order-t c = search rules
 
-shared-slice-read-x : tie.Need-bounds-order-t
-shared-slice-read-x c = let o = ordered_room _ _ c.requires.1 in omega arith
+bounds-order-t : tie.Need-bounds-order-t
+bounds-order-t c = let o = ordered_room _ _ c.requires.1 in omega arith
 
-cast-x : tie.Need-overflow_cast-x
-cast-x c = omega (arith, c.shared_slice_known-4-1.given c.args.t)
+overflow_cast-x : tie.Need-overflow_cast-x
+overflow_cast-x c = omega (arith, c.shared_slice_known-4-1.given c.args.t)
 
-mul_wide : tie.Need-offset_bounds-images-x
-mul_wide c = omega (arith, c.shared_slice_known-4-1.given c.args.t)
+offset_bounds-images-x : tie.Need-offset_bounds-images-x
+offset_bounds-images-x c = omega (arith, c.shared_slice_known-4-1.given c.args.t)
 
-shared-slice-read-wide : tie.Need-bounds-images-x
-shared-slice-read-wide c =
+bounds-images-x : tie.Need-bounds-images-x
+bounds-images-x c =
     let a = c in entry_below _ _ a.requires.1 a.args.t (omega arith)
 
 wide-requires : tie.Need-wide-requires
 wide-requires c κs = search rules
 
-returns : tie.Need-returns-then-wide-reached
-returns c =
+returns-then-wide-reached : tie.Need-returns-then-wide-reached
+returns-then-wide-reached c =
     let a = c in
     let e = entry_image _ _ a.requires.1 a.args.t a.requires.0 in
     sym (meets_before _ _ _ _ (omega arith))
 
-add-if2 : tie.Need-overflow_add-t
-add-if2 c = search rules
+overflow_add-t : tie.Need-overflow_add-t
+overflow_add-t c = search rules
 
-returns_2 : tie.Need-returns-then-starts-t
-returns_2 c =
+returns-then-starts-t : tie.Need-returns-then-starts-t
+returns-then-starts-t c =
     let a = c in
     let e = entry_image _ _ a.requires.1 a.args.t a.requires.0 in
     sym (meets_none _ _ _ _ (omega arith) (omega arith))
 
-add-y : tie.Need-overflow_add-y
-add-y c = search rules
+overflow_add-y : tie.Need-overflow_add-y
+overflow_add-y c = search rules
 
-mul-y : tie.Need-offset_bounds-order-t-2
-mul-y c = search rules
+offset_bounds-order-t-2 : tie.Need-offset_bounds-order-t-2
+offset_bounds-order-t-2 c = search rules
 
-shared-slice-read-y : tie.Need-bounds-order-t-2
-shared-slice-read-y c =
+bounds-order-t-2 : tie.Need-bounds-order-t-2
+bounds-order-t-2 c =
     let o = ordered_room _ _ c.requires.1 in
     omega arith
 
-cast-y : tie.Need-overflow_cast-y
-cast-y c =
+overflow_cast-y : tie.Need-overflow_cast-y
+overflow_cast-y c =
     omega
     (arith, c.shared_slice_known-6-1.given (c.args.t + 1))
 
-mul-wide-2 : tie.Need-offset_bounds-images-y
-mul-wide-2 c =
+offset_bounds-images-y : tie.Need-offset_bounds-images-y
+offset_bounds-images-y c =
     omega
     (arith, c.shared_slice_known-6-1.given (c.args.t + 1))
 
-shared-slice-read-wide-2 : tie.Need-bounds-images-y
-shared-slice-read-wide-2 c =
+bounds-images-y : tie.Need-bounds-images-y
+bounds-images-y c =
     let a = c in
     entry_below _ _ a.requires.1 (a.args.t + 1) (omega arith)
 
 wide-requires-2 : tie.Need-wide-requires-2
 wide-requires-2 c κs = search rules
 
-returns-3 : tie.Need-returns
-returns-3 c =
+returns : tie.Need-returns
+returns c =
     let a = c in
     let e = entry_image _ _ a.requires.1 a.args.t a.requires.0 in
     let f = c.wide-2.ensures.0 ∙ entry_next _ _ a.requires.1 a.args.t (omega arith) in
@@ -83,20 +83,20 @@ pub meets_another_spec : {M : Type 1} → statement M
 meets_another_spec =
     tie.close
     (tie.spec
-    mul-x
-    shared-slice-read-x
-    cast-x
-    mul_wide
-    shared-slice-read-wide
+    offset_bounds-order-t
+    bounds-order-t
+    overflow_cast-x
+    offset_bounds-images-x
+    bounds-images-x
     wide-requires
-    returns
-    add-if2
-    returns_2
-    add-y
-    mul-y
-    shared-slice-read-y
-    cast-y
-    mul-wide-2
-    shared-slice-read-wide-2
+    returns-then-wide-reached
+    overflow_add-t
+    returns-then-starts-t
+    overflow_add-y
+    offset_bounds-order-t-2
+    bounds-order-t-2
+    overflow_cast-y
+    offset_bounds-images-y
+    bounds-images-y
     wide-requires-2
-    returns-3)
+    returns)

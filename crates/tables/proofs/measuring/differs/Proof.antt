@@ -26,8 +26,8 @@ module _ (s e l d : ℕ) (a : s < 2 ^ 32) (b : e < 2 ^ 32) (c : d < 2 ^ 32) (q :
           empty (inl m) = sym (mismatch_end s e l (λ g. omega arith))
           empty (inr m) = sym (mismatch_empty s e l (omega arith))
 
-wrapping-sub-u32-requires : tie.Need-wrapping_sub_u32-requires
-wrapping-sub-u32-requires c κs = search rules
+wrapping_sub_u32-requires : tie.Need-wrapping_sub_u32-requires
+wrapping_sub_u32-requires c κs = search rules
 
 returns : tie.Need-returns
 returns c =
@@ -35,4 +35,4 @@ returns c =
     difference a.start a.end a.length _ (omega arith) (omega arith) (omega arith) c.wrapping_sub_u32.ensures
 
 pub differs_spec : {M : Type 1} → statement M
-differs_spec = tie.close (tie.spec wrapping-sub-u32-requires returns)
+differs_spec = tie.close (tie.spec wrapping_sub_u32-requires returns)

@@ -31,44 +31,44 @@ module _ (n : ℕ) (l m : List ℕ) (x e : ℕ) (q : e ≡ get_or l (suc x) n) (
       both true u = refl
       both false u = refl
 
-sub-last : tie.Need-overflow_sub-last invariant-loop-x decreases-loop-x
-sub-last c = search rules
+overflow_sub-last : tie.Need-overflow_sub-last invariant-loop-x decreases-loop-x
+overflow_sub-last c = search rules
 
-loop-holds : tie.Need-loop-x-init invariant-loop-x decreases-loop-x
-loop-holds c = (omega arith, refl)
+loop-x-init : tie.Need-loop-x-init invariant-loop-x decreases-loop-x
+loop-x-init c = (omega arith, refl)
 
-mul-differs : tie.Need-offset_bounds-starts-x invariant-loop-x decreases-loop-x
-mul-differs c = omega arith
+offset_bounds-starts-x : tie.Need-offset_bounds-starts-x invariant-loop-x decreases-loop-x
+offset_bounds-starts-x c = omega arith
 
-shared-slice-read-differs : tie.Need-bounds-starts-x invariant-loop-x decreases-loop-x
-shared-slice-read-differs c = omega arith
+bounds-starts-x : tie.Need-bounds-starts-x invariant-loop-x decreases-loop-x
+bounds-starts-x c = omega arith
 
-add-differs : tie.Need-overflow_add-x invariant-loop-x decreases-loop-x
-add-differs c = omega arith
+overflow_add-x : tie.Need-overflow_add-x invariant-loop-x decreases-loop-x
+overflow_add-x c = omega arith
 
-mul-differs-2 : tie.Need-offset_bounds-starts-x-in-loop-x invariant-loop-x decreases-loop-x
-mul-differs-2 c = omega arith
+offset_bounds-starts-x-in-loop-x : tie.Need-offset_bounds-starts-x-in-loop-x invariant-loop-x decreases-loop-x
+offset_bounds-starts-x-in-loop-x c = omega arith
 
-shared-slice-read-differs-2 : tie.Need-bounds-starts-x-in-loop-x invariant-loop-x decreases-loop-x
-shared-slice-read-differs-2 c = omega arith
+bounds-starts-x-in-loop-x : tie.Need-bounds-starts-x-in-loop-x invariant-loop-x decreases-loop-x
+bounds-starts-x-in-loop-x c = omega arith
 
-mul-differs-3 : tie.Need-offset_bounds-lengths-x invariant-loop-x decreases-loop-x
-mul-differs-3 c = omega arith
+offset_bounds-lengths-x : tie.Need-offset_bounds-lengths-x invariant-loop-x decreases-loop-x
+offset_bounds-lengths-x c = omega arith
 
-shared-slice-read-differs-3 : tie.Need-bounds-lengths-x invariant-loop-x decreases-loop-x
-shared-slice-read-differs-3 c = omega arith
+bounds-lengths-x : tie.Need-bounds-lengths-x invariant-loop-x decreases-loop-x
+bounds-lengths-x c = omega arith
 
 differs-requires : tie.Need-differs-requires invariant-loop-x decreases-loop-x
 differs-requires c κs = search rules
 
-add-x : tie.Need-overflow_add-x-in-loop-x invariant-loop-x decreases-loop-x
-add-x c = omega arith
+overflow_add-x-in-loop-x : tie.Need-overflow_add-x-in-loop-x invariant-loop-x decreases-loop-x
+overflow_add-x-in-loop-x c = omega arith
 
-loop-less : tie.Need-loop-x-smaller invariant-loop-x decreases-loop-x
-loop-less c = omega arith
+loop-x-smaller : tie.Need-loop-x-smaller invariant-loop-x decreases-loop-x
+loop-x-smaller c = omega arith
 
-loop-again : tie.Need-loop-x-preserved invariant-loop-x decreases-loop-x
-loop-again c =
+loop-x-preserved : tie.Need-loop-x-preserved invariant-loop-x decreases-loop-x
+loop-x-preserved c =
     let l = c in
     let a = l.args in
     let x = l.loop-x.x in
@@ -76,17 +76,17 @@ loop-again c =
     let e = entry_after s x 0 ∙ get_d_default s (suc x) 0 a.n (omega arith) in
     (omega arith, rw add-one (still a.n s a.lengths.now x _ e _ _ l.loop-x.invariant.1 c.differs.ensures))
 
-mul-differs-4 : tie.Need-offset_bounds-starts-last invariant-loop-x decreases-loop-x
-mul-differs-4 c = omega arith
+offset_bounds-starts-last : tie.Need-offset_bounds-starts-last invariant-loop-x decreases-loop-x
+offset_bounds-starts-last c = omega arith
 
-shared-slice-read-differs-4 : tie.Need-bounds-starts-last invariant-loop-x decreases-loop-x
-shared-slice-read-differs-4 c = omega arith
+bounds-starts-last : tie.Need-bounds-starts-last invariant-loop-x decreases-loop-x
+bounds-starts-last c = omega arith
 
-mul-differs-5 : tie.Need-offset_bounds-lengths-last invariant-loop-x decreases-loop-x
-mul-differs-5 c = omega arith
+offset_bounds-lengths-last : tie.Need-offset_bounds-lengths-last invariant-loop-x decreases-loop-x
+offset_bounds-lengths-last c = omega arith
 
-shared-slice-read-differs-5 : tie.Need-bounds-lengths-last invariant-loop-x decreases-loop-x
-shared-slice-read-differs-5 c = omega arith
+bounds-lengths-last : tie.Need-bounds-lengths-last invariant-loop-x decreases-loop-x
+bounds-lengths-last c = omega arith
 
 differs-requires-2 : tie.Need-differs-requires-2 invariant-loop-x decreases-loop-x
 differs-requires-2 c κs = search rules
@@ -110,22 +110,22 @@ is_any_wrong_spec =
     (tie.spec
     invariant-loop-x
     decreases-loop-x
-    sub-last
-    loop-holds
-    mul-differs
-    shared-slice-read-differs
-    add-differs
-    mul-differs-2
-    shared-slice-read-differs-2
-    mul-differs-3
-    shared-slice-read-differs-3
+    overflow_sub-last
+    loop-x-init
+    offset_bounds-starts-x
+    bounds-starts-x
+    overflow_add-x
+    offset_bounds-starts-x-in-loop-x
+    bounds-starts-x-in-loop-x
+    offset_bounds-lengths-x
+    bounds-lengths-x
     differs-requires
-    add-x
-    loop-less
-    loop-again
-    mul-differs-4
-    shared-slice-read-differs-4
-    mul-differs-5
-    shared-slice-read-differs-5
+    overflow_add-x-in-loop-x
+    loop-x-smaller
+    loop-x-preserved
+    offset_bounds-starts-last
+    bounds-starts-last
+    offset_bounds-lengths-last
+    bounds-lengths-last
     differs-requires-2
     returns)

@@ -8,71 +8,71 @@ use borrow.Author.Rules.{rules}
 use Rattle.walks.proofs.locating.locate.Statement.{statement}
 use Rattle.walks.proofs.locating.locate.Tie as tie
 
-is-misshapen-requires : tie.Need-is_misshapen-requires
-is-misshapen-requires c κs = search rules
+is_misshapen-requires : tie.Need-is_misshapen-requires
+is_misshapen-requires c κs = search rules
 
-returns : tie.Need-returns-then-is_misshapen
-returns c = locate_shape _ _ _ _ _ c.is_misshapen.ensures c.if-is_misshapen.true
+returns-then-is_misshapen : tie.Need-returns-then-is_misshapen
+returns-then-is_misshapen c = locate_shape _ _ _ _ _ c.is_misshapen.ensures c.if-is_misshapen.true
 
-returns_2 : tie.Need-returns-then-starts-at
-returns_2 c =
+returns-then-starts-at : tie.Need-returns-then-starts-at
+returns-then-starts-at c =
     let e = c in
     locate_index _ _ _ _ (shaped _ _ _ e.is_misshapen.ensures e.if-is_misshapen.false) (omega arith)
 
-is-wrong-length-requires : tie.Need-is_wrong_length-requires
-is-wrong-length-requires c κs =
+is_wrong_length-requires : tie.Need-is_wrong_length-requires
+is_wrong_length-requires c κs =
     let e = c in
     let s = shaped _ _ _ e.is_misshapen.ensures e.if-is_misshapen.false in
     omega arith
 
-returns-3 : tie.Need-returns-then-is_wrong_length
-returns-3 c =
+returns-then-is_wrong_length : tie.Need-returns-then-is_wrong_length
+returns-then-is_wrong_length c =
     let e = c in
     let s = shaped _ _ _ e.is_misshapen.ensures e.if-is_misshapen.false in
     locate_length _ _ _ _ s (omega arith) (sym c.is_wrong_length.ensures ∙ c.if-is_wrong_length.true)
 
-returns-4 : tie.Need-returns-then-n-i
-returns-4 c =
+returns-then-n-i : tie.Need-returns-then-n-i
+returns-then-n-i c =
     let w = c in
     let e = w in
     let s = shaped _ _ _ e.is_misshapen.ensures e.if-is_misshapen.false in
     let right = sym w.is_wrong_length.ensures ∙ w.if-is_wrong_length.false in
     locate_place _ _ _ _ s (omega arith) right (outside_far _ _ _ _ (omega arith))
 
-mul-if5 : tie.Need-offset_bounds-starts-at
-mul-if5 c = search rules
+offset_bounds-starts-at : tie.Need-offset_bounds-starts-at
+offset_bounds-starts-at c = search rules
 
-shared-slice-read-if5 : tie.Need-bounds-starts-at
-shared-slice-read-if5 c = search rules
+bounds-starts-at : tie.Need-bounds-starts-at
+bounds-starts-at c = search rules
 
-returns-5 : tie.Need-returns-then-i-starts
-returns-5 c =
+returns-then-i-starts : tie.Need-returns-then-i-starts
+returns-then-i-starts c =
     let w = c in
     let e = w in
     let s = shaped _ _ _ e.is_misshapen.ensures e.if-is_misshapen.false in
     let right = sym w.is_wrong_length.ensures ∙ w.if-is_wrong_length.false in
     locate_place _ _ _ _ s (omega arith) right (outside_low _ _ _ _ (omega arith) (omega arith))
 
-mul-if6 : tie.Need-offset_bounds-lengths-at
-mul-if6 c = search rules
+offset_bounds-lengths-at : tie.Need-offset_bounds-lengths-at
+offset_bounds-lengths-at c = search rules
 
-shared-slice-read-if6 : tie.Need-bounds-lengths-at
-shared-slice-read-if6 c =
+bounds-lengths-at : tie.Need-bounds-lengths-at
+bounds-lengths-at c =
     let e = c in
     let s = shaped _ _ _ e.is_misshapen.ensures e.if-is_misshapen.false in
     omega arith
 
-mul-if6-2 : tie.Need-offset_bounds-starts-at-2
-mul-if6-2 c = search rules
+offset_bounds-starts-at-2 : tie.Need-offset_bounds-starts-at-2
+offset_bounds-starts-at-2 c = search rules
 
-shared-slice-read-if6-2 : tie.Need-bounds-starts-at-2
-shared-slice-read-if6-2 c = search rules
+bounds-starts-at-2 : tie.Need-bounds-starts-at-2
+bounds-starts-at-2 c = search rules
 
-sub-if6 : tie.Need-overflow_sub-i
-sub-if6 c = search rules
+overflow_sub-i : tie.Need-overflow_sub-i
+overflow_sub-i c = search rules
 
-returns-6 : tie.Need-returns-then-lengths-at
-returns-6 c =
+returns-then-lengths-at : tie.Need-returns-then-lengths-at
+returns-then-lengths-at c =
     let w = c in
     let e = w in
     let s = shaped _ _ _ e.is_misshapen.ensures e.if-is_misshapen.false in
@@ -82,8 +82,8 @@ returns-6 c =
 stand-requires : tie.Need-stand-requires
 stand-requires c κs = search rules
 
-returns-7 : tie.Need-returns
-returns-7 c =
+returns : tie.Need-returns
+returns c =
     let w = c in
     let e = w in
     let s = shaped _ _ _ e.is_misshapen.ensures e.if-is_misshapen.false in
@@ -95,20 +95,20 @@ pub locate_spec : {M : Type 1} → statement M
 locate_spec =
     tie.close
     (tie.spec
-    is-misshapen-requires
-    returns
-    returns_2
-    is-wrong-length-requires
-    returns-3
-    returns-4
-    mul-if5
-    shared-slice-read-if5
-    returns-5
-    mul-if6
-    shared-slice-read-if6
-    mul-if6-2
-    shared-slice-read-if6-2
-    sub-if6
-    returns-6
+    is_misshapen-requires
+    returns-then-is_misshapen
+    returns-then-starts-at
+    is_wrong_length-requires
+    returns-then-is_wrong_length
+    returns-then-n-i
+    offset_bounds-starts-at
+    bounds-starts-at
+    returns-then-i-starts
+    offset_bounds-lengths-at
+    bounds-lengths-at
+    offset_bounds-starts-at-2
+    bounds-starts-at-2
+    overflow_sub-i
+    returns-then-lengths-at
     stand-requires
-    returns-7)
+    returns)

@@ -9,49 +9,49 @@ use borrow.Author.Rules.{rules}
 use Rattle.walks.proofs.reaching.walk_from.Statement.{statement}
 use Rattle.walks.proofs.reaching.walk_from.Tie as tie
 
-add-next : tie.Need-overflow_add-next
-add-next c = search rules
+overflow_add-next : tie.Need-overflow_add-next
+overflow_add-next c = search rules
 
-returns : tie.Need-returns-then-starts-next
-returns c =
+returns-then-starts-next : tie.Need-returns-then-starts-next
+returns-then-starts-next c =
     let a = c.args in
     let l = a.starts.now in
     walked_by _ _ _ (omega arith) _ _ (omega (arith, passed_none l a.x a.i (omega arith)))
     (omega (arith, bit_ge (suc a.x) (length l) (omega arith)))
 
-mul-if2 : tie.Need-offset_bounds-starts-next
-mul-if2 c = search rules
+offset_bounds-starts-next : tie.Need-offset_bounds-starts-next
+offset_bounds-starts-next c = search rules
 
-shared-slice-read-if2 : tie.Need-bounds-starts-next
-shared-slice-read-if2 c = search rules
+bounds-starts-next : tie.Need-bounds-starts-next
+bounds-starts-next c = search rules
 
-returns_2 : tie.Need-returns-then-i-starts
-returns_2 c =
+returns-then-i-starts : tie.Need-returns-then-i-starts
+returns-then-i-starts c =
     let a = c.args in
     let l = a.starts.now in
     walked_by _ _ _ (omega arith) _ _ (omega (arith, passed_stop l a.x a.i (omega arith) (omega arith)))
     (omega (arith, bit_lt (suc a.x) (length l) (omega arith)))
 
-add-stretch-length : tie.Need-overflow_add-next-2
-add-stretch-length c = search rules
+overflow_add-next-2 : tie.Need-overflow_add-next-2
+overflow_add-next-2 c = search rules
 
-stretch-length-requires : tie.Need-stretch_length-requires
-stretch-length-requires c κs = search rules
+stretch_length-requires : tie.Need-stretch_length-requires
+stretch_length-requires c κs = search rules
 
-cast-reached : tie.Need-overflow_cast-reached
-cast-reached c = search rules
+overflow_cast-reached : tie.Need-overflow_cast-reached
+overflow_cast-reached c = search rules
 
-add-reached : tie.Need-overflow_add-reached
-add-reached c = search rules
+overflow_add-reached : tie.Need-overflow_add-reached
+overflow_add-reached c = search rules
 
-add-reached-2 : tie.Need-overflow_add-reached-2
-add-reached-2 c = search rules
+overflow_add-reached-2 : tie.Need-overflow_add-reached-2
+overflow_add-reached-2 c = search rules
 
-read-to-requires : tie.Need-read_to-requires
-read-to-requires c κs = search rules
+read_to-requires : tie.Need-read_to-requires
+read_to-requires c κs = search rules
 
-returns-3 : tie.Need-returns
-returns-3 c =
+returns : tie.Need-returns
+returns c =
     let e = c in
     let a = e.args in
     walked_by _ _ _ (omega arith) _ _
@@ -67,15 +67,15 @@ pub walk_from_spec : {M : Type 1} → statement M
 walk_from_spec =
     tie.close
     (tie.spec
-    add-next
-    returns
-    mul-if2
-    shared-slice-read-if2
-    returns_2
-    add-stretch-length
-    stretch-length-requires
-    cast-reached
-    add-reached
-    add-reached-2
-    read-to-requires
-    returns-3)
+    overflow_add-next
+    returns-then-starts-next
+    offset_bounds-starts-next
+    bounds-starts-next
+    returns-then-i-starts
+    overflow_add-next-2
+    stretch_length-requires
+    overflow_cast-reached
+    overflow_add-reached
+    overflow_add-reached-2
+    read_to-requires
+    returns)

@@ -18,27 +18,27 @@ invariant-loop-made n starts images holders lengths x i m place₀ interval₀ c
 abbrev decreases-loop-made : tie.decreases-loop-made
 decreases-loop-made n starts images holders lengths x i m place₀ interval₀ count₀ made₀ place interval count made = m - made
 
-loop-holds : tie.Need-loop-made-init invariant-loop-made decreases-loop-made
-loop-holds c = walking_start _ _ _ _ _ (search rules)
+loop-made-init : tie.Need-loop-made-init invariant-loop-made decreases-loop-made
+loop-made-init c = walking_start _ _ _ _ _ (search rules)
 
 leave-requires : tie.Need-leave-requires invariant-loop-made decreases-loop-made
 leave-requires c κs = c.loop-made.invariant.here
 
-enum-known-r : tie.Need-enum_known-r invariant-loop-made decreases-loop-made
-enum-known-r c = search rules
+enum_known-r : tie.Need-enum_known-r invariant-loop-made decreases-loop-made
+enum_known-r c = search rules
 
-returns : tie.Need-returns-in-Refused invariant-loop-made decreases-loop-made
-returns c =
+returns-in-Refused : tie.Need-returns-in-Refused invariant-loop-made decreases-loop-made
+returns-in-Refused c =
     let a = c in
     let l = a in
     let e = ap moved_says (sym c.in-Refused.is) ∙ a.leave.ensures in
     walking_refused _ _ _ _ _ _ _ l.loop-made.invariant _ _ e (omega arith)
 
-enum-known-next : tie.Need-enum_known-next invariant-loop-made decreases-loop-made
-enum-known-next c = search rules
+enum_known-next : tie.Need-enum_known-next invariant-loop-made decreases-loop-made
+enum_known-next c = search rules
 
-add-count : tie.Need-overflow_add-count invariant-loop-made decreases-loop-made
-add-count c =
+overflow_add-count : tie.Need-overflow_add-count invariant-loop-made decreases-loop-made
+overflow_add-count c =
     let s = c in
     let a = s in
     let l = a in
@@ -46,14 +46,14 @@ add-count c =
     let m = l.ranges.m in
     omega (arith, walking_fits _ _ _ _ _ _ _ l.loop-made.invariant _ e a.loop-made-test.true (omega arith))
 
-add-made : tie.Need-overflow_add-made invariant-loop-made decreases-loop-made
-add-made c = omega arith
+overflow_add-made : tie.Need-overflow_add-made invariant-loop-made decreases-loop-made
+overflow_add-made c = omega arith
 
-loop-less : tie.Need-loop-made-smaller invariant-loop-made decreases-loop-made
-loop-less c = omega arith
+loop-made-smaller : tie.Need-loop-made-smaller invariant-loop-made decreases-loop-made
+loop-made-smaller c = omega arith
 
-loop-again : tie.Need-loop-made-preserved invariant-loop-made decreases-loop-made
-loop-again c =
+loop-made-preserved : tie.Need-loop-made-preserved invariant-loop-made decreases-loop-made
+loop-made-preserved c =
     let s = c in
     let a = s in
     let l = a in
@@ -65,8 +65,8 @@ stand-requires c κs =
     let here = c.loop-made.invariant.here in
     (here.at.entered.index, here.at.low)
 
-returns_2 : tie.Need-returns invariant-loop-made decreases-loop-made
-returns_2 c = ap done c.stand.ensures ∙ walking_end _ _ _ _ _ _ _ c.loop-made.invariant (omega arith)
+returns : tie.Need-returns invariant-loop-made decreases-loop-made
+returns c = ap done c.stand.ensures ∙ walking_end _ _ _ _ _ _ _ c.loop-made.invariant (omega arith)
 
 pub moves_from_spec : {M : Type 1} → statement M
 moves_from_spec =
@@ -74,14 +74,14 @@ moves_from_spec =
     (tie.spec
     invariant-loop-made
     decreases-loop-made
-    loop-holds
+    loop-made-init
     leave-requires
-    enum-known-r
-    returns
-    enum-known-next
-    add-count
-    add-made
-    loop-less
-    loop-again
+    enum_known-r
+    returns-in-Refused
+    enum_known-next
+    overflow_add-count
+    overflow_add-made
+    loop-made-smaller
+    loop-made-preserved
     stand-requires
-    returns_2)
+    returns)
