@@ -5,7 +5,6 @@ use Prim.Native.Nat.{ℕ, ◌*◌, ◌≤◌, ◌<◌}
 use mathlib.Core.Path.{◌≡◌, refl, sym, ap, ◌∙◌}
 use mathlib.Core.List.{List, map}
 use native.Mathlib.Omega.{arith}
-use lib.ListN.{length}
 use Rattle.order.specs.Lists.{All}
 use Rattle.outcomes.specs.Outcome.{done, refused}
 use Rattle.runs.specs.Runs.{Runs, count_of, run_at}
@@ -31,7 +30,7 @@ use Rattle.demands.specs.Calls.{Call, total, count_of_move, count_in, all_moves,
 use Rattle.walks.specs.Plain.{max_count, plain_move}
 use Rattle.walks.proofs.LegalCounts.{count_most}
 use Rattle.demands.specs.PlainWalk.{walk_counts}
-use Rattle.demands.specs.Served.{served, call_of, reply_of, served_trail, Advancing}
+use Rattle.demands.specs.Served.{served, call_of, served_trail, Advancing}
 use Rattle.demands.specs.Demands.{Through, Serves, BalancesFor, Demand3}
 use Rattle.demands.proofs.Demand2.{balanced_few, through_balanced}
 use Rattle.demands.proofs.Serving.{same_replies, turns_served}

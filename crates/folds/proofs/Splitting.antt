@@ -2,15 +2,14 @@
 -- a legal list has a start wherever its function breaks. The other way the values between two starts go up by one, since none of
 -- these places breaks.
 use Prim.Native.Nat.{ℕ, zero, suc, ◌+◌, ◌-◌, ◌≤◌, ◌<◌}
-use mathlib.Core.Path.{◌≡◌, sym, ap, ◌∙◌}
+use mathlib.Core.Path.{◌≡◌, ap}
 use mathlib.Core.Bool.{true}
-use mathlib.Core.Logic.{◌⊎◌, inl, inr, ◌≢◌}
+use mathlib.Core.Logic.{◌≢◌}
 use native.Mathlib.Decide.{ℕ_discrete}
 use native.Mathlib.Omega.{arith}
 use borrow.Author.Tests.{ne_eqb}
-use Rattle.order.proofs.Laws.{lt_or_le, pairwise_at}
 use Rattle.outcomes.specs.Outcome.{done}
-use Rattle.runs.specs.Runs.{Runs, count_of, start_of, image_of, end_of, carry, map_of}
+use Rattle.runs.specs.Runs.{Runs, count_of, start_of, end_of, carry, map_of}
 use Rattle.runs.specs.Legal.{Legal, SplitPermutation}
 use Rattle.runs.specs.Check.{max_runs, check_of}
 use Rattle.runs.proofs.Legality.{Parted, parted, homes, home_one, map_at}

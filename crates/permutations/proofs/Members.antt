@@ -1,6 +1,6 @@
 -- The permutations of n places, as lists of their values: the numbers below n, each once. Every legal list's values are one, and the
 -- list of its maximal runs is legal, has these values and the fewest runs.
-use Prim.Native.Nat.{ℕ, zero, suc, ◌-◌, ◌≤◌, ◌<◌}
+use Prim.Native.Nat.{ℕ, zero, suc, ◌≤◌, ◌<◌}
 use mathlib.Core.Path.{◌≡◌, refl, sym, ap, ◌∙◌, subst}
 use mathlib.Core.Logic.{◌⊎◌, inl, inr, ◌≢◌}
 use mathlib.Core.List.Memᴰ

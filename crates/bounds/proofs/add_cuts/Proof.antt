@@ -1,5 +1,5 @@
 -- `add_cuts` meets its contract. The invariant: the cuts at the degrees below d are added, and the other totals as they were.
-use Prim.Native.Nat.{◌-◌, ◌*◌, ◌<◌}
+use Prim.Native.Nat.{◌-◌, ◌<◌}
 use native.Mathlib.Nat.{le-div_iff_mul-le}
 use native.Mathlib.Omega.{arith}
 use lib.ListN.{length}

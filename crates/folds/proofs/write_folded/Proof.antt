@@ -1,7 +1,6 @@
 -- `write_folded` meets its contract: each turn takes one run more, and writes it if it begins one (proofs/Heads).
 use Prim.Native.Nat.{◌-◌, ◌≤◌}
 use mathlib.Core.Path.{◌≡◌}
-use mathlib.Core.Logic.{⊎_elim}
 use native.Mathlib.Omega.{arith}
 use lib.ListN.{length}
 use Rattle.runs.specs.Runs.{runs}
@@ -75,10 +74,11 @@ loop-x-preserved c =
     let h = c.is_head.ensures in
     let l = c.loop-x-test.true in
     elim c.if-is_head.branch [
-      then-is_head w ↦ heading_next _ _ _ _ _ _ _ a.loop-x.invariant l _ h _ _ _
+      | then-is_head w ↦ heading_next _ _ _ _ _ _ _ a.loop-x.invariant l _ h _ _ _
           w.if-is_head.true w.to_starts-is w.to_images-is w.m-is
-    | else-is_head w ↦ heading_past _ _ _ _ _ _ _ a.loop-x.invariant l _ h _ _ _
-          w.if-is_head.false w.to_starts-is w.to_images-is w.m-is ]
+      | else-is_head w ↦ heading_past _ _ _ _ _ _ _ a.loop-x.invariant l _ h _ _ _
+          w.if-is_head.false w.to_starts-is w.to_images-is w.m-is
+    ]
 
 shape_of-to_starts : tie.Need-shape_of-to_starts invariant-loop-x decreases-loop-x
 shape_of-to_starts c = (lengths c.before).0

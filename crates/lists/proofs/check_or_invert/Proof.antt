@@ -2,7 +2,6 @@
 -- written after them is all of it.
 use mathlib.Core.Path.{◌≡◌, sym, ap, ◌∙◌}
 use mathlib.Core.Bool.{false≢true}
-use borrow.Author.Tests.{not-true, not-false}
 use borrow.Author.Rules.{rules}
 use Rattle.outcomes.specs.Outcome.{done}
 use Rattle.outcomes.specs.Refusal.{checked_says}

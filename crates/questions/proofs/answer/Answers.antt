@@ -1,5 +1,5 @@
 -- `answer` meets its contract: what the records come to, one after the other, stands in proofs/Standings and proofs/Fillings.
-use Rattle.std.proofs.Common.{◌≡◌, ℕ, ◌+◌, ◌<◌, ◌≤◌, ◌^◌, length, List, get_or, set, refl, sym, ap, ◌∙◌, subst, arith, add-one}
+use Rattle.std.proofs.Common.{◌≡◌, ℕ, ◌+◌, ◌<◌, ◌^◌, length, List, get_or, set, refl, sym, ap, ◌∙◌, subst, arith, add-one}
 use Rattle.tables.specs.Tables.{Tables, tables}
 use Rattle.questions.specs.Questions.{Answers}
 use Rattle.questions.specs.Turns.{judged_of, verdict_of, filled_of, Ready, Fillable}
@@ -44,7 +44,7 @@ module _ (n : ℕ) (t : Tables) (qs : List Question) where
     filled_on r e h =
         let f : r ≡ filled_of t.links (get_or qs j blank) v = e ∙ ap (λ (q : Question). filled_of t.links q v) next_is in (
           (λ k. set (so_far k) j (f k)) ∙ set_up (λ q. filled_of t.links q v) j qs h
-          ∙ ap (λ (m : ℕ). up_to (λ q. filled_of t.links q v) m qs) (sym (add-one j)),
+              ∙ ap (λ (m : ℕ). up_to (λ q. filled_of t.links q v) m qs) (sym (add-one j)),
           ap (λ (q : Question). q.interval) f ∙ ap (from_at t.links v qs) (sym (add-one j)),
         )
 

@@ -1,6 +1,5 @@
 -- `first_wrong_length` meets its contract: where no length is wrong the search would come to the end, and else it is made.
 use Rattle.std.proofs.Common.{◌-◌, length, sym, ◌∙◌, arith, rules, ltb-false}
-use borrow.Author.Tests.{not-true}
 use Rattle.outcomes.specs.Search.{first_below}
 use Rattle.outcomes.proofs.Searches.{first_le}
 use Rattle.outcomes.proofs.Searching.{Searched, searched_none, searched_hit, searched_next, searched_end}

@@ -1,6 +1,5 @@
 -- `lowest_overlap` meets its contract: the loop's invariant is `Swept`.
 use Prim.Native.Nat.{◌-◌}
-use mathlib.Core.Logic.{⊎_elim}
 use native.Mathlib.Omega.{arith}
 use lib.ListN.{length}
 use Rattle.runs.specs.Runs.{runs}
@@ -59,8 +58,9 @@ loop-t-preserved c =
     (entry_is _ _ a.requires.1 l.t (omega arith)) c.image_end-end.ensures b.ensures
     c.higher-reached.ensures
     (elim c.if-meets_another.branch [
-      then-meets_another w ↦ lowered _ _ _ _ _ w.if-meets_another.true w.lower-lowest.ensures w.lowest-is
-    | else-meets_another w ↦ kept _ _ _ _ w.if-meets_another.false w.lowest-is ])
+      | then-meets_another w ↦ lowered _ _ _ _ _ w.if-meets_another.true w.lower-lowest.ensures w.lowest-is
+      | else-meets_another w ↦ kept _ _ _ _ w.if-meets_another.false w.lowest-is
+    ])
 
 returns : tie.Need-returns invariant-loop-t decreases-loop-t
 returns c = swept_end _ _ c.requires.0 _ _ _ c.loop-t.invariant (omega arith)
