@@ -40,11 +40,9 @@ fn archives(root: &Path) -> Vec<String> {
 
 /// Proves a crate and what it rests on, compiles its archive, and puts a copy of it into `out`.
 fn build(folder: &Path, out: &Path, name: &str) {
-    let done = Command::new("rt").arg("lib").current_dir(folder).output().expect("rt is on the path");
-    if !done.status.success() {
-        let [told, warned] = [&done.stdout, &done.stderr].map(|said| String::from_utf8_lossy(said));
-        panic!("rt lib in {}: {told}{warned}", folder.display());
-    }
+    // What rt says is told as this script's own words: cargo shows it where the script fails, and with -vv as it comes.
+    let done = Command::new("rt").arg("lib").current_dir(folder).status().expect("rt is on the path");
+    assert!(done.success(), "rt lib makes the archive of {name}");
 
     // A copy, since `rt ci` sets aside what stands in out/, with each function on a boundary of 64 bytes: some processors
     // are slow at jumps that lie across one of 32, and the linker would put a loop there by chance.
