@@ -34,8 +34,12 @@ fn sources(root: &Path) -> Vec<PathBuf> {
 /// The crates of exports, by crates.txt: each archive has the functions of its crate alone, all other symbols are local to it.
 fn archives(root: &Path) -> Vec<String> {
     let crates = fs::read_to_string(root.join("crates.txt")).expect("crates.txt stands in the repository");
-    let heads = crates.lines().filter_map(|line| line.split_once(':')).map(|(head, _)| head);
-    heads.filter_map(|head| head.strip_suffix(" staticlib")).map(str::to_owned).collect()
+    let heads = crates.lines().filter_map(|line| line.split_once(':')).map(|(head, _)| head.split_whitespace());
+    heads
+        .filter_map(|mut words| Some((words.next()?, words.next()?)))
+        .filter(|(_, kind)| *kind == "staticlib")
+        .map(|(name, _)| name.to_owned())
+        .collect()
 }
 
 /// Proves a crate and what it rests on, compiles its archive, and puts a copy of it into `out`.
