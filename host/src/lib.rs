@@ -31,7 +31,7 @@
 //! The library has no heap: a call on a list keeps its tables on the stack of the thread that calls it, and a thread with 128 KiB
 //! is too small for some of them, whatever list is handed in. A stack that is too small ends the process, at once and safely, but
 //! it can't be caught: give a thread enough by `std::thread::Builder::stack_size`. Walks fit anywhere. The times are of lists like
-//! those of `make bench` on the machine of the tables in docs/SPEED.md, and of n they depend little.
+//! those of `make bench` on the machine of the tables in docs/SPEED.md, with an older kit, and of n they depend little.
 //!
 //! | calls | stack, at most | time |
 //! |---|---|---|

@@ -4,8 +4,9 @@
 //! - What has a blank is a command or a piece of code, and what begins with a digit is a number. They are left out.
 //! - What has a `/` is a path: one of the repository's must end so, with its ending or without it. Paths with a `*` and those in
 //!   target/ are left out.
-//! - All else is words of letters, digits, `_`, `-` and `′`. `f..` is a word that begins so, and `..f` one that ends so.
+//! - All else is words of letters, digits, `_`, `-` and `'`. `f..` is a word that begins so, and `..f` one that ends so.
 //! - A word stands in a source outside comments and imports, or is the name of a file or a folder, with its ending or without it.
+//!   What `rt` and `cargo` make, in out/ and target/, is no source.
 //! - The column `where` gives files with commas between them, from the repository's root or from crates/ on, with their endings or
 //!   without them. A folder stands for all its files. A name is looked for in the files of the next such column to its right.
 //! - A row of such a table has at most 250 characters, so that it stays one thought.
@@ -24,7 +25,7 @@ struct Source {
 }
 
 fn words(text: &str) -> impl Iterator<Item = &str> {
-    text.split(|c: char| !c.is_alphanumeric() && !"_-′".contains(c)).filter(|word| word.contains(char::is_alphanumeric))
+    text.split(|c: char| !c.is_alphanumeric() && !"_-'".contains(c)).filter(|word| word.contains(char::is_alphanumeric))
 }
 
 /// What begins a comment in a source; other files have no words but those of their paths.
@@ -148,7 +149,7 @@ fn faults_in(path: &str, document: &str, all: &[&Source]) -> Vec<String> {
 fn files(root: &Path, below: &str) -> Vec<String> {
     let entries = fs::read_dir(root.join(below)).expect("a folder").map(|entry| entry.expect("an entry").file_name());
     let names = entries.map(|name| name.into_string().expect("a name that is text"));
-    let kept = names.filter(|name| !name.starts_with('.') && name != "target");
+    let kept = names.filter(|name| !name.starts_with('.') && name != "target" && name != "out");
     let paths = kept.map(|name| if below.is_empty() { name } else { format!("{below}/{name}") });
     paths.flat_map(|path| if root.join(&path).is_dir() { files(root, &path) } else { vec![path] }).collect()
 }
@@ -170,29 +171,29 @@ fn documents_name_what_there_is() {
 #[test]
 fn wrong_names_are_told() {
     let sources = [
-        Source::new("crates/a/specs/B.antt", "use x.{far-off}\nnear-by : ℕ -- hearsay"),
+        Source::new("crates/a/specs/B.antt", "use x.{far_off}\nnear_by : ℕ -- hearsay"),
         Source::new("crates/c/src/lib.rt", "pub fn walk_on() {} // hearsay"),
     ];
     let all: Vec<&Source> = sources.iter().collect();
     let faults = |line: &str| faults_in("d.md", &format!("| what | where |\n|---|---|\n{line}"), &all);
     for right in
-        ["`near-by` `c::walk_on` `walk_..` `..-by` `a/specs` `B.antt` `7`", "| `near-by` | a/specs/B |", "| `B` | a |"]
+        ["`near_by` `c::walk_on` `walk_..` `.._by` `a/specs` `B.antt` `7`", "| `near_by` | a/specs/B |", "| `B` | a |"]
     {
         assert!(faults(right).is_empty(), "{right}");
     }
     for wrong in [
         "`near`",
-        "`far-off`",
+        "`far_off`",
         "`hearsay`",
         "`on_..`",
         "`a/specs/C`",
         "`",
-        "| `near-by` | c/src |",
+        "| `near_by` | c/src |",
         "| | a/specs/C |",
-        "| `near-by` |",
+        "| `near_by` |",
     ] {
         assert_eq!(faults(wrong).len(), 1, "{wrong}");
     }
-    assert_eq!(faults("| `near-by` | c/src |"), ["d.md:3: no `near-by`"]);
+    assert_eq!(faults("| `near_by` | c/src |"), ["d.md:3: no `near_by`"]);
     assert_eq!(faults(&format!("| {} | a |", "long ".repeat(50))), ["d.md:3: a row that is too long"]);
 }

@@ -23,10 +23,11 @@ fn printed(program: &Path, file: &[u8]) -> String {
 #[test]
 fn listings_of_random_files() {
     let root = Path::new(env!("CARGO_MANIFEST_DIR")).parent().expect("host/ stands in the repository");
-    let built = Command::new("rt").args(["check", "listing"]).current_dir(root).output().expect("rt is on the path");
+    let listing = root.join("crates/listing");
+    let built = Command::new("rt").arg("run").current_dir(&listing).output().expect("rt is on the path");
     let [told, warned] = [&built.stdout, &built.stderr].map(|said| String::from_utf8_lossy(said));
-    assert!(built.status.success(), "rt check listing: {told}{warned}");
-    let program = root.join("target/bin/listing");
+    assert!(built.status.success(), "rt run in crates/listing: {told}{warned}");
+    let program = listing.join("out/listing");
     let r = &mut Random::new(5);
     let mut begun = BTreeSet::new();
     for round in 0..3000 {
