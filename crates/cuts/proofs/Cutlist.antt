@@ -177,7 +177,7 @@ module _ (n : ℕ) (r : Runs) (cuts : List ℕ) (c : Legal n r) (s : Starts n r.
             run_at_lem n (with_cuts n r cuts) hs y v hy a b,
           ) in
           let j : count_below (v + 1) (merged r.starts cuts) - 1 ≡ y = omega arith in
-          let w-is : w ≡ start_of (with_cuts n r cuts) y = f ∙ ap (λ (i : ℕ). get_or (merged r.starts cuts) i 0) j in
+          let w_is : w ≡ start_of (with_cuts n r cuts) y = f ∙ ap (λ (i : ℕ). get_or (merged r.starts cuts) i 0) j in
           let end_is : end ≡ end_of n (with_cuts n r cuts) y = g
           ∙ ap (λ (i : ℕ). get_or (merged r.starts cuts) i n) k in
           let m : image_of (with_cuts n r cuts) y + (v - start_of (with_cuts n r cuts) y) ≡ u =
@@ -191,7 +191,7 @@ module _ (n : ℕ) (r : Runs) (cuts : List ℕ) (c : Legal n r) (s : Starts n r.
             omega (arith, with_legal.within y hy),
             record {
               covers = record { index = y; known = hy; at = p_is; from = omega arith; to = omega arith };
-              piece_at = record { index = y; known = hy; at = p_is; start_is = sym w-is; to_is = to_is };
+              piece_at = record { index = y; known = hy; at = p_is; start_is = sym w_is; to_is = to_is };
             },
           )
 

@@ -208,8 +208,8 @@ module _ (d n : ℕ) (r : Runs) (P Q : ℕ) (c : SweptTo d n r P Q) (x : ℕ) (h
       omega (arith, p.0, p.1, (homes n r c.legal).ending x hx)
 
   -- up to a place T that is an edge, and before which no interval is heavy but for the new start
-  module _ (T : ℕ) (bound : T ≤ n) (edge-T : Edge n (cut_at d n r x) T)
-      (kept-T : (y : ℕ) → y < suc (count_of r) → image_of (cut_at d n r x) y < T → kept n r x (cut_place d n r x) y < 2 * d)
+  module _ (T : ℕ) (bound : T ≤ n) (edge_t : Edge n (cut_at d n r x) T)
+      (kept_t : (y : ℕ) → y < suc (count_of r) → image_of (cut_at d n r x) y < T → kept n r x (cut_place d n r x) y < 2 * d)
     where
       swept_hit : (y : ℕ) → y < count_of (cut_at d n r x) → image_of (cut_at d n r x) y < T
           → lands n (cut_at d n r x) (added d n r x) y ≡ true
@@ -217,7 +217,7 @@ module _ (d n : ℕ) (r : Runs) (P Q : ℕ) (c : SweptTo d n r P Q) (x : ℕ) (h
       swept_hit y hy l e =
           let i = inside_is (image_of (cut_at d n r x) y) (image_end n (cut_at d n r x) y) (added d n r x) e in
           rw (
-            lt-ltb (added d n r x) T (omega (arith, edge-T y hy l)),
+            lt-ltb (added d n r x) T (omega (arith, edge_t y hy l)),
             landing_is n (cut_at d n r x) legal_q (added d n r x) y hy i.0 i.1,
           )
 
@@ -244,7 +244,7 @@ module _ (d n : ℕ) (r : Runs) (P Q : ℕ) (c : SweptTo d n r P Q) (x : ℕ) (h
                 omega arith,
                 edge_image n (cut_at d n r x) legal_q z hz,
               )
-          go (inr l) z = rw (le-ltb (added d n r x) T l) (omega arith, edge-T)
+          go (inr l) z = rw (le-ltb (added d n r x) T l) (omega arith, edge_t)
 
       swept_to : SweptTo d n (cut_at d n r x) (back n (cut_at d n r x) (added d n r x) T) T
       swept_to = record {
@@ -252,18 +252,18 @@ module _ (d n : ℕ) (r : Runs) (P Q : ℕ) (c : SweptTo d n r P Q) (x : ℕ) (h
         ordered = back_edge.0;
         bounded = bound;
         edge_P = back_edge.1;
-        edge_Q = edge-T;
+        edge_Q = edge_t;
         light = λ y hy l e. omega (
           arith,
           weight_cut n r x (cut_place d n r x) y,
           swept_miss y hy l e,
-          kept-T y (known y hy) l,
+          kept_t y (known y hy) l,
         );
         nearly = λ y hy e l. omega (
           arith,
           weight_cut n r x (cut_place d n r x) y,
           bit_le (lands n (cut_at d n r x) (added d n r x) y),
-          kept-T y (known y hy) (omega arith),
+          kept_t y (known y hy) (omega arith),
         );
       }
         where

@@ -13,11 +13,9 @@ use Rattle.outcomes.specs.Outcome.{Outcome, done, refused, Test, test, judge, �
 use Rattle.outcomes.specs.Refusal.{checked_says}
 use Rattle.runs.specs.Runs.{Runs, count_of}
 use Rattle.runs.specs.Check.{list_tests, tests_up_to}
-use Rattle.runs.specs.Written.{written_says}
 use Rattle.runs.proofs.WritesList.{writes_kept}
 use Rattle.lists.specs.Inverse.{inverse_list_of}
 use Rattle.permutations.specs.Next.{next_of, next_says}
-use Rattle.folds.specs.Lent.{fold_of}
 use Rattle.outcomes.proofs.Judging.{done_refused, map_refused}
 use Rattle.tables.specs.Tables.{Tables, size_of, misshapen, wrong_at}
 use Rattle.walks.specs.Move.{find_of, move_of, moves_of}
@@ -153,11 +151,11 @@ moves_wrong n t x s h w m i =
     sym (moves_refused n t 0 m x i 12 x (omega arith) (sym (third_refuses _ _ _ _ _ s (lt-leb _ _ h) w)))
 
 -- what `judge` gives is judged
-judged : {A : Type 0} (order : List ℕ) (ts : List Test) (a : A) → map (λ t. t.number) ts ≡ order → Judged order ts a (judge ts a)
+pub judged : {A : Type 0} (order : List ℕ) (ts : List Test) (a : A) → map (λ t. t.number) ts ≡ order → Judged order ts a (judge ts a)
 judged order ts a e = record { in_order = e; when_done = judge_passes a ts; when_refused = judge_refuses a ts }
 
 pub demand1 : Demand1
-unfolding list_tests tests_up_to count_tests layout_tests header_tests body_tests file_tests inverse_list_of balance_of forecast_of least_degree_of find_of move_of moves_of inverse_of weight_of under_of bookmark_of answers_of next_of fold_of file_of
+unfolding list_tests tests_up_to count_tests layout_tests header_tests body_tests file_tests inverse_list_of balance_of forecast_of least_degree_of find_of move_of moves_of inverse_of weight_of under_of bookmark_of answers_of next_of file_of
 demand1 = record {
   check = λ n r. judged _ _ _ refl;
   inverse_list = λ n r a b. judged _ _ _ refl;
@@ -184,7 +182,6 @@ demand1 = record {
   under_wrong = λ n t x s h w. third_refuses _ _ _ _ _ s (lt-leb _ _ h) w;
   bookmark_wrong = λ n t b s h w. third_refuses _ _ _ _ _ s (lt-leb _ _ h) w;
   next_list = λ n r a b. judged _ _ _ refl;
-  fold = λ n r a b. judged _ _ _ refl;
   file = λ most bytes. judged _ _ _ refl;
   inverse_list_kept = λ n r a b a' b' o c. writes_kept checked_says _ (inverse_list_of n r a b) a b o a' b' c;
   balance_kept = balance_kept;
@@ -192,6 +189,5 @@ demand1 = record {
   least_degree_kept = least_degree_kept;
   bookmark_kept = bookmark_kept;
   next_list_kept = λ n r a b a' b' x c. writes_kept next_says count_of (next_of n r a b) a b x a' b' c;
-  fold_kept = λ n r a b a' b' x c. writes_kept written_says count_of (fold_of n r a b) a b x a' b' c;
   questions_kept = questions_kept;
 }

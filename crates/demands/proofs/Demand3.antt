@@ -77,7 +77,7 @@ module _ (n : ℕ) (r : Runs) (d : ℕ) (c : Legal n r) (k : count_of r ≤ max_
       let replied : (p : ℕ) → p < n → (cs : List Call)
       → map count_in (served n (tables_of n t) p (run_at n t p) cs) ≡ map total (walk_counts n r t p cs) =
       λ p h cs. ap (map count_in) (replies cs p h) ∙ counts_sum n r t cs p in
-      let all-total : (p : ℕ) → p < n → (cs : List Call) → all_counts (served n (tables_of n t) p (run_at n t p) cs) ≤ all_moves cs * b =
+      let all_total : (p : ℕ) → p < n → (cs : List Call) → all_counts (served n (tables_of n t) p (run_at n t p) cs) ≤ all_moves cs * b =
       λ p h cs. rw (replied p h cs, ← counts_length n r t cs p) (all_most b (walk_counts n r t p cs) (each p h cs)) in
       let trails : (p g : ℕ) → p < n → (m : ℕ) → All (Bounded b) (served_trail n (tables_of n t) m (fresh p (run_at n t p) g)) =
       λ p g h m. trail_bounds n b r t (tables_of n t) walks.move walks.inside most small m _ (fresh_stands n b r t p g h) in
@@ -95,12 +95,12 @@ module _ (n : ℕ) (r : Runs) (d : ℕ) (c : Legal n r) (k : count_of r ≤ max_
             calls_most b ms (walk_counts n r t p (map call_of ms))
             (ap (map count_in) (turns_served n (tables_of n t) ms p (run_at n t p) a) ∙ replied p h (map call_of ms))
             (counts_length n r t (map call_of ms) p) (each p h (map call_of ms));
-        call_total = λ p h ms a. rw (turns_served n (tables_of n t) ms p (run_at n t p) a) (all-total p h (map call_of ms));
+        call_total = λ p h ms a. rw (turns_served n (tables_of n t) ms p (run_at n t p) a) (all_total p h (map call_of ms));
         same_replies = λ p h cs. replies cs p h;
         move_counts = λ p h cs. counts_length n r t cs p;
         reply_counts = replied;
         each_move = each;
-        total_of_moves = all-total;
+        total_of_moves = all_total;
         same_trail = λ p g h m. walks.trail m p g h;
         trail_bounds = trails;
         trail_total = λ p g h m.

@@ -7,4 +7,5 @@ pub mod Demand1
 pub mod Demand2
 pub mod Demand3
 pub mod Foretelling
+pub mod FoldDemand
 pub mod FoldedFirst

@@ -91,20 +91,20 @@ fresh_stands n b r t p g h =
 
 -- one move of a bookmark that stands so
 module _ (n : ℕ) (r t : Runs) (τ : Tables)
-    (move-to : (p : ℕ) → p < n → move_of n τ (run_at n t p) p ≡ done (plain_move n r t p)) where
+    (move_to : (p : ℕ) → p < n → move_of n τ (run_at n t p) p ≡ done (plain_move n r t p)) where
   pub mark_goes : (p g m c : ℕ) → p < n → m + 1 < 2 ^ 32 → c + (plain_move n r t p).count < 2 ^ 64
       → marking_of n τ (with_distance g (standing n r t p m c))
       ≡ marking (done (plain_move n r t p)) (standing n r t (map_of n r p) (m + 1) (c + (plain_move n r t p).count))
   unfolding marking_of mark_after plain_move
-  mark_goes p g m c h l w = rw (bookmark_goes n τ (with_distance g (standing n r t p m c)) (plain_move n r t p) (move-to p h) l w)
+  mark_goes p g m c h l w = rw (bookmark_goes n τ (with_distance g (standing n r t p m c)) (plain_move n r t p) (move_to p h) l w)
 
   mark_stays : (p g m c : ℕ) → p < n → 4294967295 ≤ m
       → marking_of n τ (with_distance g (standing n r t p m c)) ≡ marking (refused 13 0) (with_distance g (standing n r t p m c))
   unfolding marking_of mark_after
-  mark_stays p g m c h l = rw (bookmark_overflow n τ (with_distance g (standing n r t p m c)) (plain_move n r t p) (move-to p h) l)
+  mark_stays p g m c h l = rw (bookmark_overflow n τ (with_distance g (standing n r t p m c)) (plain_move n r t p) (move_to p h) l)
 
 module _ (n b : ℕ) (r t : Runs) (τ : Tables)
-    (move-to : (p : ℕ) → p < n → move_of n τ (run_at n t p) p ≡ done (plain_move n r t p))
+    (move_to : (p : ℕ) → p < n → move_of n τ (run_at n t p) p ≡ done (plain_move n r t p))
     (below : (p : ℕ) → p < n → map_of n r p < n)
     (most : (p : ℕ) → p < n → (plain_move n r t p).count ≤ b)
     (small : b ≤ max_intervals) where
@@ -124,12 +124,12 @@ module _ (n b : ℕ) (r t : Runs) (τ : Tables)
           → served_trail n τ (suc k) (standing n r t p m c) ≡ plain_trail n r t (suc k) p m c
       go (inl e) rest =
           let f = sum_next p m c h e w in
-          rw (mark_goes n r t τ move-to p (plain_distance n t p) m c h (omega arith) f.0)
+          rw (mark_goes n r t τ move_to p (plain_distance n t p) m c h (omega arith) f.0)
           (ap (λ (l : List Marking). marking (done (plain_move n r t p)) (standing n r t (map_of n r p) (m + 1) (c + (plain_move n r t p).count)) ∷ l)
           (rest (map_of n r p) (m + 1) (c + (plain_move n r t p).count) (below p h) (omega arith) f.1)
           ∙ sym (plain_goes n r t k p m c e))
       go (inr e) rest =
-          rw (mark_stays n r t τ move-to p (plain_distance n t p) m c h e)
+          rw (mark_stays n r t τ move_to p (plain_distance n t p) m c h e)
           (ap (λ (l : List Marking). marking (refused 13 0) (standing n r t p m c) ∷ l) (rest p m c h l w)
           ∙ sym (plain_overflow n r t k p m c e))
 
@@ -141,7 +141,7 @@ module _ (n b : ℕ) (r t : Runs) (τ : Tables)
       let f = sum_next p 0 0 h (omega arith) (omega arith) in
       let to : (u : ℕ) → marking_of n τ (fresh p (run_at n t p) u)
       ≡ marking (done (plain_move n r t p)) (standing n r t (map_of n r p) (0 + 1) (0 + (plain_move n r t p).count)) =
-      λ u. mark_goes n r t τ move-to p u 0 0 h (omega arith) f.0 in
+      λ u. mark_goes n r t τ move_to p u 0 0 h (omega arith) f.0 in
       ap (λ (w : Marking). w ∷ served_trail n τ k w.bookmark) (to g ∙ sym (to (plain_distance n t p)))
       ∙ same_trail (suc k) p 0 0 h (omega arith) (omega arith)
 
@@ -156,12 +156,12 @@ module _ (n b : ℕ) (r t : Runs) (τ : Tables)
           × Stands n b r t (marking_of n τ (with_distance g (standing n r t p m c))).bookmark
       go p g m c h l w (inl e) =
           let f = sum_next p m c h e w in
-          rw (mark_goes n r t τ move-to p g m c h (omega arith) f.0) (
+          rw (mark_goes n r t τ move_to p g m c h (omega arith) f.0) (
             record { move = most p h; sum = f.1 },
             record { place = map_of n r p; distance = plain_distance n t (map_of n r p); moves = m + 1; count = c + (plain_move n r t p).count; is = refl; inside = below p h; few = omega arith; bounded = f.1 },
           )
       go p g m c h l w (inr e) =
-          rw (mark_stays n r t τ move-to p g m c h e) (
+          rw (mark_stays n r t τ move_to p g m c h e) (
             record { move = omega arith; sum = w },
             record { place = p; distance = g; moves = m; count = c; is = refl; inside = h; few = l; bounded = w },
           )

@@ -29,8 +29,8 @@ find_beyond n r t i h = simp (le-leb _ _ h)
 module _ (n : ℕ) (r t : Runs) (τ : Tables)
     (found_at : (i : ℕ) → i < n → find_of n τ i ≡ done (run_at n t i))
     (not_found : (i : ℕ) → n ≤ i → find_of n τ i ≡ refused 11 i)
-    (move-to : (p : ℕ) → p < n → move_of n τ (run_at n t p) p ≡ done (plain_move n r t p))
-    (moves-to : (m p : ℕ) → p < n → moves_of n τ m (run_at n t p) p ≡ done (plain_moves n r t m p))
+    (move_to : (p : ℕ) → p < n → move_of n τ (run_at n t p) p ≡ done (plain_move n r t p))
+    (moves_to : (m p : ℕ) → p < n → moves_of n τ m (run_at n t p) p ≡ done (plain_moves n r t m p))
     (below : (p : ℕ) → p < n → map_of n r p < n) where
   one_more : (cs : List Call) (p : ℕ) → p < n → ((q : ℕ) → q < n → served n τ q (run_at n t q) cs ≡ plain_walk n r t q cs)
       → served n τ (plain_move n r t p).place (plain_move n r t p).interval cs ≡ plain_walk n r t (plain_move n r t p).place cs
@@ -51,9 +51,9 @@ module _ (n : ℕ) (r t : Runs) (τ : Tables)
           let l = ltb-false i n e in
           rw (not_found i l, find_beyond n r t i l, e) (ap (λ (rs : List Reply). found (refused 11 i) ∷ rs) (rest p h))
   same_replies (move ∷ cs) p h =
-      rw (move-to p h) (ap (λ (rs : List Reply). moved (done (plain_move n r t p)) ∷ rs) (one_more cs p h (same_replies cs)))
+      rw (move_to p h) (ap (λ (rs : List Reply). moved (done (plain_move n r t p)) ∷ rs) (one_more cs p h (same_replies cs)))
   same_replies (moves m ∷ cs) p h =
-      rw (moves-to m p h)
+      rw (moves_to m p h)
       (ap (λ (rs : List Reply). moved (done (plain_moves n r t m p)) ∷ rs)
       (rw (moves_interval n r t m p) (same_replies cs (plain_moves n r t m p).place (moves_below n r t below m p h))))
 

@@ -38,17 +38,17 @@ module _ (n : ℕ) (r t : Runs) (c : Legal n t) (same : (p : ℕ) → p < n → 
 pub through : (n : ℕ) (r t : Runs) → Legal n r → Legal n t → count_of t ≤ max_intervals → ((p : ℕ) → p < n → map_of n t p ≡ map_of n r p)
     → Through n r t
 through n r t l c few same =
-    let move-to : (p : ℕ) → p < n → move_of n (tables_of n t) (run_at n t p) p ≡ done (plain_move n r t p) =
+    let move_to : (p : ℕ) → p < n → move_of n (tables_of n t) (run_at n t p) p ≡ done (plain_move n r t p) =
     λ p h. legal_move n t c few p h ∙ ap done (move_same n r t p (same p h)) in
     let trail : (m p g : ℕ) → p < n → served_trail n (tables_of n t) m (fresh p (run_at n t p) g) ≡ plain_trail n r t m p 0 0 =
-    fresh_trail n max_intervals r t (tables_of n t) move-to (map_below n r l)
-    (λ p h. move_count n (tables_of n t) (run_at n t p) p (plain_move n r t p) (sym (move-to p h))) (omega arith) in
+    fresh_trail n max_intervals r t (tables_of n t) move_to (map_below n r l)
+    (λ p h. move_count n (tables_of n t) (run_at n t p) p (plain_move n r t p) (sym (move_to p h))) (omega arith) in
     record {
       lengths = legal_length n t c;
       find = legal_find n t c few;
-      move = move-to;
+      move = move_to;
       moves = λ m p h. (legal_moves n t c few m p h ∙ ap done (steps_plain n r t c same m p h), moves_place n r t m p);
-      bookmark = mark_goes n r t (tables_of n t) move-to;
+      bookmark = mark_goes n r t (tables_of n t) move_to;
       trail = trail;
       advances = λ p g h ms a. advancing_served n (tables_of n t) ms _ a ∙ trail (length ms) p g h;
       trail_end = λ m p h. trail_end n r t p m h;

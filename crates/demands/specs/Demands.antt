@@ -1,8 +1,7 @@
 -- The three demands, in our words, and what is promised of the forecast beside them. Their proofs are in proofs/, apart from what
 -- they say. That every call stays in bounds and ends is what the checker proves of each function; here stands what its contract's
--- definitions come to. What is promised of legal lists beside them stands in lists/specs/LegalLists, of folds in folds/specs/Fewest,
--- of small lists in permutations/specs/SmallLists, of long files in listings/specs/Listing, and of a fold and then balancing in
--- specs/FoldedFirst.
+-- definitions come to. What is promised of legal lists beside them stands in lists/specs/LegalLists, of small lists in
+-- permutations/specs/SmallLists, and of long files in listings/specs/Listing.
 use Rattle.std.specs.Prelude.{ℕ, suc, ◌+◌, ◌*◌, ◌^◌, ◌≤◌, ◌<◌, ◌≡◌, true, false, ◌↔◌, ◌⊎◌, List, [], ◌∷◌, ◌++◌, map, length, replicate}
 use Rattle.order.specs.Lists.{All, Strict}
 use Rattle.outcomes.specs.Outcome.{done, refused, any_short, Long, over}
@@ -11,14 +10,10 @@ use Rattle.runs.specs.Runs.{Runs, count_of, start_of, run_at, map_of, power_of, 
 use Rattle.runs.specs.Legal.{Legal, DisjointIntervals, IntervalSequence, SplitPermutation}
 use Rattle.runs.specs.Weight.{under, weight}
 use Rattle.runs.specs.Check.{max_runs, check_tests, check_of, write_tests}
-use Rattle.runs.specs.Written.{written_says}
-use Rattle.runs.specs.declared.Written.{Written}
 use Rattle.lists.specs.Inverse.{inverse_runs, inverse_list_of, InverseListed}
 use Rattle.outcomes.specs.declared.Checked.{Checked}
 use Rattle.permutations.specs.Next.{next_tests, next_runs, next_of, next_says, NextListed}
 use Rattle.permutations.specs.declared.Next.{Next}
-use Rattle.folds.specs.Fold.{folded}
-use Rattle.folds.specs.Lent.{fold_of, Folds}
 use Rattle.tables.specs.Tables.{Tables, size_of, links_of, lengths_of, tables_of, max_intervals, all_columns, misshapen, wrong_at, all_lengths}
 use Rattle.tables.specs.Parts.{Measured}
 use Rattle.walks.specs.Move.{moved_says, find_tests, locate_tests, move_tests, found_at, step_of, stay_at, find_of, move_of, moves_of, Stopped, ReadsTo, LiesIn}
@@ -129,9 +124,6 @@ pub record Demand1 : Type 0 where
   -- the next list: its own 17 and 18, and 8 between them
   pub next_list : (n : ℕ) (r : Runs) (a b : List ℕ)
       → Judged (1 ∷ 2 ∷ 3 ∷ 4 ∷ 5 ∷ 6 ∷ 17 ∷ 8 ∷ 18 ∷ []) (next_tests n r a b) (next_runs n r) (next_of n r a b)
-  -- the fold: the tests of the inverse list, 8 with k as there
-  pub fold : (n : ℕ) (r : Runs) (a b : List ℕ)
-      → Judged (1 ∷ 2 ∷ 3 ∷ 4 ∷ 5 ∷ 6 ∷ 8 ∷ []) (write_tests n r (a ∷ b ∷ [])) (folded r) (fold_of n r a b)
   -- a file has an order of its own
   pub file : (most : ℕ) (bytes : List ℕ)
       → Judged (15 ∷ 1 ∷ 2 ∷ 15 ∷ 15 ∷ 15 ∷ 3 ∷ 4 ∷ 5 ∷ 6 ∷ 7 ∷ []) (file_tests most bytes) (header_of bytes) (file_of most bytes)
@@ -151,8 +143,6 @@ pub record Demand1 : Type 0 where
       → (k p : ℕ) → moved_says m ≡ refused k p → left ≡ b
   pub next_list_kept : (n : ℕ) (r : Runs) (a b a' b' : List ℕ) (x : Next) → NextListed n r a b a' b' x
       → (k p : ℕ) → next_says x ≡ refused k p → (a' ≡ a) × (b' ≡ b)
-  pub fold_kept : (n : ℕ) (r : Runs) (a b a' b' : List ℕ) (x : Written) → Folds n r a b a' b' x
-      → (k p : ℕ) → written_says x ≡ refused k p → (a' ≡ a) × (b' ≡ b)
   pub questions_kept : (n : ℕ) (t : Tables) (qs : List Question) (a : Answered) (left : List Question) → Answers n t qs a left
       → (k p : ℕ) → answered_says a ≡ refused k p → left ≡ qs
 

@@ -1,9 +1,8 @@
 -- The keys that are proved about the definitions: one table, one statement. Its rows are written from document 01: the keys
 -- that it marks to be proved, the example's listing, ψ, and both ends of a shift; and from document 02, what its text comes
 -- to for questions together (A.1), the distance (A.2), the next list (A.3), the starts read (A.4), which every move here
--- counts (what questions answer is still the starts passed in finding), how large a list will be (A.5), lengths (A.7), and folds
--- (A.8). On the left stands what is asked of a definition, on the right the numbers that the document gives, or that were worked out
--- from it by hand.
+-- counts (what questions answer is still the starts passed in finding), how large a list will be (A.5), and lengths (A.7). On the
+-- left stands what is asked of a definition, on the right the numbers that the document gives, or that were worked out from it by hand.
 use Rattle.std.specs.Prelude.{ℕ, suc, ◌≡◌, refl, List, [], ◌∷◌, ◌++◌, map, ℤ, pos, negsuc, replicate}
 use Rattle.outcomes.specs.Outcome.{Outcome, done, refused, judge, map_done, and_then, filled}
 use Rattle.runs.specs.Runs.{Runs, runs, count_of, start_of, image_of, shift_of}
@@ -26,8 +25,7 @@ use Rattle.plans.specs.Working.{planned_of, cleared_by}
 use Rattle.balance.specs.Lent.{lent, balance_of, filled_tables}
 use Rattle.forecasts.specs.Sizing.{forecast_of}
 use Rattle.forecasts.specs.Seeking.{least_degree_of}
-use Rattle.folds.specs.Fold.{begins, heads, folded, breaks, maximal_runs}
-use Rattle.folds.specs.Lent.{fold_of}
+use Rattle.folds.specs.Fold.{breaks, maximal_runs}
 use Rattle.permutations.specs.Values.{values_of}
 use Rattle.permutations.specs.Next.{last_ascent, last_above, changed, successor, falls, next_runs, next_of}
 use Rattle.permutations.specs.Every.{lists_from}
@@ -83,15 +81,11 @@ answered_row n t ps = found_row (answers_of n t ps)
 abbrev pub left_row : ℕ → Tables → List ℕ → List ℕ
 left_row n t ps = records_row (records_after (filled_in t.links) (answers_of n t ps) (map asked ps))
 
--- the run count of the list that a call comes to, and both lent tables after it; so for the next list and the fold
-abbrev pub written_row : Outcome Runs → List ℕ → List ℕ → List ℕ
-written_row o a b = row_from (λ q. count_of q ∷ []) o ++ (filled (λ q. q.starts) o a ++ filled (λ q. q.images) o b)
-
+-- the next list's run count, and both lent tables after the call
 abbrev pub next_row : ℕ → Runs → List ℕ → List ℕ → List ℕ
-next_row n r a b = written_row (next_of n r a b) a b
-
-abbrev pub fold_row : ℕ → Runs → List ℕ → List ℕ → List ℕ
-fold_row n r a b = written_row (fold_of n r a b) a b
+next_row n r a b =
+    let o = next_of n r a b in
+    row_from (λ q. count_of q ∷ []) o ++ (filled (λ q. q.starts) o a ++ filled (λ q. q.images) o b)
 
 abbrev pub nines : ℕ → List ℕ
 nines k = replicate k 9
@@ -350,22 +344,8 @@ keys =
     -- at d 64 B and K are both 5: the two refusals look alike, and only that by K clears the working table
     (balance_row 16 example 64 5 5 5 4 6 is 8 ∷ 5 ∷ (nines 19 ++ zeros 5 1)) ∷
     (balance_row 16 example 64 5 5 5 4 4 is 8 ∷ 5 ∷ nines 23) ∷
-    -- folds: the example, which is its own; its balanced list; the identity in four runs, and a table of 3 for it, though 1 would do;
-    -- two chains; ψ, whose runs at 22 and 25 follow on; the most places; and 6 before 8
-    (fold_row 16 example (nines 5) (nines 5) is 0 ∷ 5 ∷ (example.starts ++ example.images)) ∷
-    (fold_row 16 listed_tables.links.list (nines 6) (nines 7) is 0 ∷ 5 ∷ (example.starts ++ (9 ∷ example.images) ++ (9 ∷ 9 ∷ []))) ∷
-    (fold_row 4 (runs (0 ∷ 1 ∷ 2 ∷ 3 ∷ []) (0 ∷ 1 ∷ 2 ∷ 3 ∷ [])) (nines 4) (nines 4) is 0 ∷ 1 ∷ 0 ∷ 9 ∷ 9 ∷ 9 ∷ 0 ∷ 9 ∷ 9 ∷ 9 ∷ []) ∷
-    (fold_row 4 (runs (0 ∷ 1 ∷ 2 ∷ 3 ∷ []) (0 ∷ 1 ∷ 2 ∷ 3 ∷ [])) (nines 4) (nines 3) is 8 ∷ 4 ∷ nines 7) ∷
-    (fold_row 6 (runs (0 ∷ 1 ∷ 2 ∷ 3 ∷ 5 ∷ []) (4 ∷ 5 ∷ 0 ∷ 1 ∷ 3 ∷ [])) (nines 5) (nines 5) is
-    0 ∷ 2 ∷ 0 ∷ 2 ∷ 9 ∷ 9 ∷ 9 ∷ 4 ∷ 0 ∷ 9 ∷ 9 ∷ 9 ∷ []) ∷
-    (fold_row 45 psi (nines 13) (nines 13) is
-    0 ∷ 12 ∷ 0 ∷ 1 ∷ 5 ∷ 6 ∷ 12 ∷ 17 ∷ 19 ∷ 22 ∷ 32 ∷ 34 ∷ 42 ∷ 43 ∷ 9 ∷
-    11 ∷ 28 ∷ 2 ∷ 22 ∷ 32 ∷ 38 ∷ 42 ∷ 12 ∷ 0 ∷ 3 ∷ 37 ∷ 40 ∷ 9 ∷ []) ∷
-    (fold_row 4294967295 (runs (0 ∷ 1 ∷ 4294967294 ∷ []) (1 ∷ 2 ∷ 0 ∷ [])) (nines 3) (nines 3) is
-    0 ∷ 2 ∷ 0 ∷ 4294967294 ∷ 9 ∷ 1 ∷ 0 ∷ 9 ∷ []) ∷
-    (fold_row 4 (halves (0 ∷ 1 ∷ [])) [] [] is 6 ∷ 0 ∷ []) ∷
     []
 
 pub keys_hold : map computed keys ≡ map given keys
-unfolding judge map_done and_then unmatched unordered out_of_range overlap overlaps list_tests tests_up_to misshapen mismatch outside unheld broken passed found_at unfindable starts_read walk_count step_to step_of find_of move_of onwards moves_of plain_move plain_moves sends source_of inverse_of unplaced under_first under_count weight_of under_of overflows bookmark_of mark_after marking_of served_trail falls_at unfindable_at broken_at answers_of filled_in records_after cutting balanced filled breaks maximal_runs values_of last_ascent last_above changed successor falls next_runs next_of lists_from planned_of cleared_by forecast_of least_degree_of balance_of filled_tables begins heads folded fold_of
+unfolding judge map_done and_then unmatched unordered out_of_range overlap overlaps list_tests tests_up_to misshapen mismatch outside unheld broken passed found_at unfindable starts_read walk_count step_to step_of find_of move_of onwards moves_of plain_move plain_moves sends source_of inverse_of unplaced under_first under_count weight_of under_of overflows bookmark_of mark_after marking_of served_trail falls_at unfindable_at broken_at answers_of filled_in records_after cutting balanced filled breaks maximal_runs values_of last_ascent last_above changed successor falls next_runs next_of lists_from planned_of cleared_by forecast_of least_degree_of balance_of filled_tables
 keys_hold = refl

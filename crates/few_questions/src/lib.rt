@@ -1,8 +1,6 @@
 // Questions together for a program that has few of them: it hands its records over and gets them back, by value.
 //
-// A function that lends a slice of records is proved by a walk of its code by hand. This crate has one, so that the
-// programs above need none. An array has a fixed number of records: a count says how many of them are asked about.
-// specs/Few says what becomes of each.
+// An array has a fixed number of records: a count says how many of them are asked about. specs/Few says what becomes of each.
 
 #![tactic(auto)]
 
@@ -37,7 +35,7 @@ pub fn answer_few(
     lend(n, starts, images, holders, lengths, questions, count)
 }
 
-// Lends the first `count` records. This is the one that is proved by hand, so that it has no branch.
+// Lends the first `count` records.
 fn lend(
     n: u32,
     starts: &[u32],

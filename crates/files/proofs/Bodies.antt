@@ -71,10 +71,10 @@ module _ (most : ℕ) (bytes : List ℕ) (h : Header) (l : Laid most bytes h) (f
 
   list_is : check_of h.n r ≡ judge (list_tests (word_of bytes 0) (runs_of bytes)) (tt {0})
   list_is =
-      let n-is : h.n ≡ word_of bytes 0 = ap (λ (g : Header). g.n) l.same in
-      let r-is : r ≡ runs_of bytes = e ∙ ap (λ (g : Header). runs_at g.k bytes) l.same in
+      let n_is : h.n ≡ word_of bytes 0 = ap (λ (g : Header). g.n) l.same in
+      let r_is : r ≡ runs_of bytes = e ∙ ap (λ (g : Header). runs_at g.k bytes) l.same in
       checks_rest h.n r l.places (omega (arith, l.some, counts.0)) (counts.0 ∙ sym counts.1) (omega (arith, l.few, counts.0))
-      ∙ rw (n-is, r-is)
+      ∙ rw (n_is, r_is)
 
   pub body_is : listed_of h r ≡ body_of bytes
   unfolding body_of body_tests listed_of degree_of

@@ -42,8 +42,7 @@ pub enum Answered {
 
 // Fills the records in, or refuses them all.
 //
-// Both loops are here, and without branches, because a loop over lent records is proved by a walk of the code by hand, and
-// the slice is opened once for both. What is done with a record stands in `judging` and in `filling`.
+// Both loops over the lent records are here. What is done with a record stands in `judging` and in `filling`.
 pub fn answer(
     n: u32,
     starts: &[u32],

@@ -1,5 +1,4 @@
--- The laws of the tests, on any tables and on those of a legal list; and what walks by hand share.
+-- The laws of the tests, on any tables and on those of a legal list.
 pub mod Passing
 pub mod Lengths
 pub mod LegalShape
-pub mod Held

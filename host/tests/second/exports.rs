@@ -7,7 +7,7 @@ use crate::random::{damage, damaged, legal, list_of, List, Random};
 use crate::refusals::{numbers, on_list, on_questions, on_tables, wide};
 use std::collections::BTreeMap;
 use zibewoka::exports::{
-    self, BalanceAnswer, DegreeAnswer, ForecastAnswer, IntervalAnswer, ListAnswer, MoveAnswer, MovesAnswer,
+    self, BalanceAnswer, DegreeAnswer, ForecastAnswer, IntervalAnswer, ListAnswer, MoveAnswer, MovesAnswer, NextAnswer,
     QuestionsAnswer, RunsAnswer, UnderAnswer, WeightAnswer,
 };
 use zibewoka::LentTable::{Holders, Images, Lengths, Starts, Working};
@@ -250,9 +250,23 @@ impl Given {
 
     /// The next list, as the library leaves it in the lent tables.
     fn next_list(&mut self, r: &mut Random, list: &List, counts: [usize; 2]) -> Option<List> {
-        let wanted = second::next_list(list.n, &list.starts, &list.images, counts);
-        self.next_list.add(number_of(&wanted));
-        written(r, list, counts, wanted, exports::next_list, zibewoka::next_list)
+        let List { n, starts, images } = list;
+        let wanted = second::next_list(*n, starts, images, counts);
+        let (before, after) = lent_pair(r, counts, &wanted);
+        let [mut s, mut i] = before.clone();
+        let answer = exports::next_list(*n, starts, images, &mut s, &mut i);
+        let wanted = wanted.map(|(to_starts, _)| to_starts.len() as u32);
+        let (number, place) = wanted.err().unwrap_or((0, 0));
+        assert_eq!(answer, NextAnswer { number, place, runs: wanted.unwrap_or(0) });
+        assert!([s, i] == after, "the lent tables after the next list");
+        let mut lent = before;
+        let [s, i] = &mut lent;
+        let safe = zibewoka::next_list(*n, starts, images, s, i);
+        assert_eq!(on_list(safe, list, &[(Starts, counts[0]), (Images, counts[1])]), wide(wanted));
+        assert!(lent == after, "the same through the wrapper");
+        self.next_list.add(number);
+        let [starts, images] = lent.map(|table| table[..answer.runs as usize].to_vec());
+        safe.ok().map(|_| List { n: *n, starts, images })
     }
 
     fn find(&mut self, n: u32, t: &Tables, i: u32) {
