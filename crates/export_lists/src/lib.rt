@@ -28,6 +28,7 @@ pub extern "C" fn zibewoka_check(n: u32, starts: &[u32], images: &[u32]) -> List
 }
 
 // Writes the inverse list to two lent tables.
+#[tactic(auto, using(crate::proofs::Answering::list_answer_map))]
 #[unsafe(no_mangle)]
 pub extern "C" fn zibewoka_inverse_list(
     n: u32,

@@ -16,6 +16,7 @@ use order::wide;
 pub const MAX_INTERVALS: usize = 32768;
 
 // Test 9.
+#[tactic(auto, unfolding(crate::specs::Tables::misshapen))]
 pub fn is_misshapen(
     n: u32,
     starts: &[u32],
