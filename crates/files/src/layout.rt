@@ -10,6 +10,7 @@ use super::{FileChecked, Header};
 use outcomes::{Checked, Refusal};
 
 // Whether the file has its k starts and k images where they belong, and nothing more.
+#[tactic(auto, unfolding(crate::specs::Parts::layout_of, crate::specs::File::layout_tests, outcomes::specs::Outcome::judge))]
 fn is_laid(file: &[u8], k: u32) -> Checked
     requires { (20 ≤ length file.now) × (k ≤ max_runs) }
     ensures { checked_says result ≡ layout_of k file.now }

@@ -3,7 +3,6 @@ pub mod Turning
 pub mod Standings
 pub mod Clearing
 pub mod Fillings
-pub mod Handing
 pub mod Agreeing
 pub mod Passing
 pub mod LegalQuestions
