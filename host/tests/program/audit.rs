@@ -173,6 +173,8 @@ fn odd_things_in_a_folder() {
         "6 lists: 2 accepted, 1 refused, 3 not read; 2 other files left out".to_owned(),
     ];
     let ended = call(&["audit", name]);
+    // `rt ci` takes no checkout with links in it, wherever they stand.
+    fs::remove_dir_all(&folder).expect("the folder goes");
     assert_eq!(ended.out.lines().collect::<Vec<_>>(), wanted);
     assert_eq!((ended.status, &ended.err[..]), (2, ""));
 }
