@@ -1,10 +1,8 @@
 -- The number and the place of each refusal (document 01, the table of numbers; 17 and 18: document 02, A.3; 19: A.5).
-use Rattle.std.specs.Prelude.{ℕ}
+use Rattle.std.specs.Prelude.{ℕ, Result, Ok, Err}
 use Rattle.outcomes.specs.Outcome.{Outcome, done, refused}
 use Rattle.outcomes.specs.declared.Refusal.{Refusal}
 use Rattle.outcomes.specs.declared.Refusal.TheVariants.{ListShape, TooManyRuns, FirstStart, StartOrder, ImageRange, ImageOverlap, Degree, ShortTable, TableShape, IntervalIndex, PlaceRange, BrokenInterval, CounterLimit, NoPreimage, FileHeader, TooManyPlaces, LastPermutation, NoDegreeFits}
-use Rattle.outcomes.specs.declared.Checked.{Checked}
-use Rattle.outcomes.specs.declared.Checked.TheVariants.{Accepted, Refused}
 
 -- The trade's words: 1 empty, 2 crowded, 3 late, 4 disorder, 5 overrun, 6 clash, 7 degree, 8 short, 9 misfit,
 -- 10 stranger, 11 astray, 12 torn, 13 spent, 14 unlanded, 15 header, 17 size, 18 last, 19 unfit. 16, whose place may pass 32
@@ -53,7 +51,7 @@ place_of (NoDegreeFits e) = e
 abbrev pub refusal_says : {A : Type 0} → Refusal → Outcome A
 refusal_says r = refused (number_of r) (place_of r)
 
--- the outcome that each answer about a list is
-abbrev pub checked_says : Checked → Outcome (Unit {0})
-checked_says Accepted = done tt
-checked_says (Refused r) = refusal_says r
+-- the outcome that each answer is: its result, or its refusal
+abbrev pub says : {A : Type 0} → Result A Refusal → Outcome A
+says (Ok a) = done a
+says (Err r) = refusal_says r

@@ -1,5 +1,5 @@
 -- Searches over indexes and lists that the definitions share. None recurses on a place.
-use Rattle.std.specs.Prelude.{ℕ, zero, suc, Bool, true, false, List, [], ◌∷◌, ◌++◌, take, drop, ltb}
+use Rattle.std.specs.Prelude.{ℕ, zero, suc, Bool, true, false, Option, Some, None, List, [], ◌∷◌, ◌++◌, take, drop, ltb}
 use Rattle.outcomes.specs.Outcome.{◌then◌else◌}
 
 -- the lowest of x, x + 1, .. x + k - 1 that has the property, or x + k
@@ -14,6 +14,10 @@ first_below p k = first_from p k 0
 -- whether an index below k has the property
 abbrev pub any_below : (ℕ → Bool) → ℕ → Bool
 any_below p k = ltb (first_below p k) k
+
+-- the lowest index below k that has the property, if there is one
+abbrev pub lowest_below : (ℕ → Bool) → ℕ → Option ℕ
+lowest_below p k = any_below p k then Some (first_below p k) else None
 
 -- the elements that have the property
 abbrev pub keep : (ℕ → Bool) → List ℕ → List ℕ

@@ -1,7 +1,7 @@
 // What a call comes to: it is worked on, or refused with one of the paper's numbers and a place.
 //
-// An operation is defined as a list of tests and a result (specs/Outcome); its answer is an enum of its own, and a
-// definition beside that says in the paper's numbers what each case is.
+// An operation is defined as a list of tests and a result (specs/Outcome); its answer is a `Result` with a refusal as its error, and
+// `says` (specs/Refusal) gives it in the paper's numbers.
 
 #![tactic(auto)]
 
@@ -86,13 +86,6 @@ impl Refusal {
     }
 }
 
-// What becomes of a run list that is handed in.
-#[derive(Clone, Copy)]
-pub enum Checked {
-    Accepted,
-    Refused(Refusal),
-}
-
 // The highest degree.
 pub const MOST_DEGREE: u32 = 64;
 
@@ -100,8 +93,5 @@ pub const MOST_DEGREE: u32 = 64;
 pub fn is_degree(d: u32) -> bool
     ensures { result ≡ not (no_degree d) }
 {
-    if d < 2 {
-        return false;
-    }
-    d <= MOST_DEGREE
+    (2..=MOST_DEGREE).contains(&d)
 }

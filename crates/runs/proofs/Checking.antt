@@ -16,7 +16,7 @@ use Rattle.runs.specs.Check.{unmatched, unordered, out_of_range, overlaps, list_
 use Rattle.outcomes.specs.Refusal.{refusal_says}
 use Rattle.runs.specs.Parts.{Lasting, OrderChecked}
 use Rattle.outcomes.specs.declared.Refusal.{Refusal}
-use Rattle.outcomes.specs.declared.Checked.TheVariants.{Refused}
+use Rattle.std.specs.Prelude.{Err}
 use Rattle.outcomes.proofs.Judging.{done_refused}
 use Rattle.outcomes.proofs.Searches.{any_false}
 use Rattle.runs.proofs.Legality.{end_next, end_last}
@@ -157,5 +157,5 @@ module _ (most n : ℕ) (r : Runs) where
 
 -- a refusal leaves no order to speak of
 pub refused_into : (most n : ℕ) (r : Runs) (order : List ℕ) (x : Refusal) → refusal_says x ≡ check_up_to most n r
-    → OrderChecked most n r order (Refused x)
+    → OrderChecked most n r order (Err x)
 refused_into most n r order x e = record { says = e; ordered = λ d. absurd (done_refused tt _ _ (sym (e ∙ d))) }

@@ -1,6 +1,6 @@
 -- Test 6 along the order by image: a run shares a place with another if and only if it begins before the latest end so
 -- far, or the next one begins before it ends. `Swept` is what a loop that goes by that knows.
-use Prim.Native.Nat.{ℕ, suc, ◌+◌, ◌≤◌, ◌<◌}
+use Prim.Native.Nat.{ℕ, suc, ◌+◌, ◌≤◌, ◌<◌, max, min}
 use mathlib.Core.Path.{◌≡◌, sym, ap, ◌∙◌, subst}
 use mathlib.Core.Bool.{Bool, true, false, false≢true}
 use mathlib.Core.Logic.{◌⊎◌, inl, inr}
@@ -35,8 +35,19 @@ abbrev pub Lowered : Bool → ℕ → ℕ → ℕ → Type 0
 Lowered true a x c = (c ≤ a) × (c ≤ x) × ((c ≡ a) ⊎ (c ≡ x))
 Lowered false a x c = c ≡ a
 
-pub lowered : (b : Bool) (a x c d : ℕ) → b ≡ true → (d ≤ a) × (d ≤ x) × ((d ≡ a) ⊎ (d ≡ x)) → c ≡ d → Lowered b a x c
-lowered b a x c d e h q = rw (e, q) h
+pub later : (a b c : ℕ) → c ≡ max a b → Later a b c
+later a b c e = go (lt_or_le a b)
+  where
+    go : (a < b) ⊎ (b ≤ a) → Later a b c
+    go (inl h) = (omega arith, omega arith, inr (omega arith))
+    go (inr h) = (omega arith, omega arith, inl (omega arith))
+
+pub lowered : (b : Bool) (a x c d : ℕ) → b ≡ true → d ≡ min a x → c ≡ d → Lowered b a x c
+lowered b a x c d e h q = rw e (go (lt_or_le a x))
+  where
+    go : (a < x) ⊎ (x ≤ a) → Lowered true a x c
+    go (inl l) = (omega arith, omega arith, inl (omega arith))
+    go (inr l) = (omega arith, omega arith, inr (omega arith))
 
 pub kept : (b : Bool) (a x c : ℕ) → b ≡ false → c ≡ a → Lowered b a x c
 kept b a x c e q = rw e q

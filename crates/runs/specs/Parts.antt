@@ -1,16 +1,16 @@
 -- What the parts of a check ask and promise, `check_order` among them, which crates of our own call.
-use Rattle.std.specs.Prelude.{ℕ, suc, ◌≤◌, ◌<◌, ◌≡◌, Bool, ◌&&◌, ◌||◌, List, length, get_or, take, ltb}
+use Rattle.std.specs.Prelude.{ℕ, suc, ◌≤◌, ◌<◌, ◌≡◌, Bool, ◌&&◌, ◌||◌, List, length, get_or, take, ltb, Option, Result}
 use Rattle.order.specs.Order.{order_of}
 use Rattle.outcomes.specs.Outcome.{done}
-use Rattle.outcomes.specs.Refusal.{checked_says}
-use Rattle.outcomes.specs.Search.{first_below}
+use Rattle.outcomes.specs.Refusal.{says as Refusal·says}
+use Rattle.outcomes.specs.Search.{lowest_below}
 use Rattle.runs.specs.Runs.{Runs, count_of, image_of}
 use Rattle.runs.specs.Check.{overlaps, check_up_to}
-use Rattle.outcomes.specs.declared.Checked.{Checked}
+use Rattle.outcomes.specs.declared.Refusal.{Refusal}
 
--- the lowest run with the property, or the number of runs
-abbrev pub lowest_of : (Runs → ℕ → Bool) → Runs → ℕ
-lowest_of p r = first_below (p r) (count_of r)
+-- the lowest run with the property, if there is one
+abbrev pub lowest_in : (Runs → ℕ → Bool) → Runs → Option ℕ
+lowest_in p r = lowest_below (p r) (count_of r)
 
 -- the run at j in the order by image
 abbrev pub ranked : Runs → ℕ → ℕ
@@ -40,12 +40,12 @@ unfoldable pub meets : Runs → ℕ → ℕ → ℕ → Bool
 meets r t reached end =
     ltb (image_of r (ranked r t)) reached || (ltb (suc t) (count_of r) && ltb (image_of r (ranked r (suc t))) end)
 
--- the lowest run that shares a place, and the order it was found by
-pub record OverlapFound (n : ℕ) (r : Runs) (order : List ℕ) (x : ℕ) : Type 0 where
-  pub lowest : x ≡ lowest_of (overlaps n) r
+-- the lowest run that shares a place, if one does, and the order it was found by
+pub record OverlapFound (n : ℕ) (r : Runs) (order : List ℕ) (answer : Option ℕ) : Type 0 where
+  pub lowest : answer ≡ lowest_in (overlaps n) r
   pub ordered : Ordered r order
 
 -- the answer of a check, and the order that it leaves of a list that it accepts
-pub record OrderChecked (most n : ℕ) (r : Runs) (order : List ℕ) (answer : Checked) : Type 0 where
-  pub says : checked_says answer ≡ check_up_to most n r
+pub record OrderChecked (most n : ℕ) (r : Runs) (order : List ℕ) (answer : Result (Unit {0}) Refusal) : Type 0 where
+  pub says : Refusal·says answer ≡ check_up_to most n r
   pub ordered : check_up_to most n r ≡ done tt → Ordered r order

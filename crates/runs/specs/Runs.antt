@@ -2,6 +2,7 @@
 use Rattle.std.specs.Prelude.{ℕ, zero, suc, ◌+◌, ◌-◌, ◌<◌, ◌≡◌, Bool, ◌&&◌, List, length, get_or, ltb, leb, ℤ}
 use Rattle.std.proofs.Math.IntN.{sub_ℕ}
 use Rattle.outcomes.specs.Search.{first_below}
+use Rattle.runs.specs.declared.RunList.{RunList}
 
 -- the starts and the images of the runs; n goes beside them
 pub record Runs : Type 0 where
@@ -10,6 +11,10 @@ pub record Runs : Type 0 where
 
 abbrev pub runs : List ℕ → List ℕ → Runs
 runs s i = record { starts = s; images = i }
+
+-- the runs of a list that a caller lends
+abbrev pub runs_in : RunList → Runs
+runs_in l = runs l.starts.now l.images.now
 
 -- k, the number of runs
 abbrev pub count_of : Runs → ℕ

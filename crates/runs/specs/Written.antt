@@ -1,10 +1,7 @@
--- A call that writes a list to two lent tables, and the answer of such a call that gives the list's run count.
+-- A call that writes a list to two lent tables.
 use Rattle.std.specs.Prelude.{ℕ, ◌≡◌, List, [], ◌∷◌}
-use Rattle.outcomes.specs.Outcome.{Outcome, done, short_test, judge, map_done, filled}
-use Rattle.outcomes.specs.Refusal.{refusal_says}
+use Rattle.outcomes.specs.Outcome.{Outcome, short_test, judge, map_done, filled}
 use Rattle.runs.specs.Runs.{Runs}
-use Rattle.runs.specs.declared.Written.{Written}
-use Rattle.runs.specs.declared.Written.TheVariants.{RunCount, Refused}
 
 -- The answer says what the call comes to, with `result` of the list in place of the list; and at exit both tables have the list over
 -- their first entries, or after a refusal what they had.
@@ -13,11 +10,6 @@ pub record WritesList {A B : Type 0} (said : B → Outcome A) (result : Runs →
   pub says : said answer ≡ map_done result o
   pub starts_at_exit : starts' ≡ filled (λ q. q.starts) o starts
   pub images_at_exit : images' ≡ filled (λ q. q.images) o images
-
--- what each answer says: a run count, or the number and the place of a refusal
-abbrev pub written_says : Written → Outcome ℕ
-written_says (RunCount k) = done k
-written_says (Refused x) = refusal_says x
 
 -- test 8 by itself: the list q where both tables have at least k entries, and else 8 with k
 unfoldable pub if_room : ℕ → Runs → List ℕ → List ℕ → Outcome Runs

@@ -4,6 +4,7 @@ use Rattle.std.specs.Prelude.{ℕ, suc, ◌+◌, ◌-◌, Bool, false, not, ◌|
 use Rattle.outcomes.specs.Outcome.{Test, test}
 use Rattle.runs.specs.Runs.{Runs, runs, count_of, start_of, image_of, run_at, carry}
 use Rattle.runs.specs.Check.{lowest}
+use Rattle.tables.specs.declared.MoveTable.{MoveTable}
 
 -- what a walk follows: starts, images and holders
 pub record Links : Type 0 where
@@ -20,6 +21,13 @@ pub record Tables : Type 0 where
 
 abbrev pub tables : List ℕ → List ℕ → List ℕ → List ℕ → Tables
 tables s i h l = record { links = links s i h; lengths = l }
+
+-- the tables that a caller lends, and their links
+abbrev pub tables_in : MoveTable → Tables
+tables_in t = tables t.starts.now t.images.now t.holders.now t.lengths.now
+
+abbrev pub links_in : MoveTable → Links
+links_in t = links t.starts.now t.images.now t.holders.now
 
 -- the links of a list: an interval's holder is the index of the interval that has its image
 abbrev pub links_of : ℕ → Runs → Links

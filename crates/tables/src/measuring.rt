@@ -8,7 +8,7 @@ ghost use Rattle.tables.specs.Tables.{mismatch, wrong_length};
 pub(crate) fn differs(start: u32, end: u32, length: u32) -> bool
     ensures { result ≡ mismatch start end length }
 {
-    (end <= start) | (std::num::wrapping_sub_u32(end, start) != length)
+    (end <= start) | (end.wrapping_sub(start) != length)
 }
 
 // Whether one of all lengths is wrong. Each turn does the same whatever it sees, so that the compiler can make several at a time;
@@ -20,10 +20,8 @@ pub(crate) fn is_any_wrong(n: u32, starts: &[u32], lengths: &[u32]) -> bool
 {
     let last = starts.len() - 1;
     let mut right = true;
-    let mut x = 0;
-    while x < last {
-        right = right & !differs(starts[x], starts[x + 1], lengths[x]);
-        x += 1;
+    for x in 0..last {
+        right &= !differs(starts[x], starts[x + 1], lengths[x]);
     }
     !right | differs(starts[last], n, lengths[last])
 }

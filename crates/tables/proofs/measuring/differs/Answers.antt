@@ -1,11 +1,13 @@
--- `differs` meets its contract: a difference that does not wrap is the length exactly where start and length make the end.
-use Rattle.std.proofs.Common.{◌≡◌, ℕ, ◌+◌, ◌%◌, ◌^◌, ◌<◌, ◌≤◌, Bool, true, false, not, ◌||◌, eqb, leb, ◌⊎◌, sym, refl, inl, inr, arith, rules, eqb-true, le-leb}
+-- A difference that does not wrap is the length exactly where start and length make the end.
+use Rattle.std.proofs.Common.{◌≡◌, ℕ, ◌+◌, ◌-◌, ◌%◌, ◌^◌, ◌<◌, ◌≤◌, Bool, true, false, not, ◌||◌, eqb, leb, ◌⊎◌, sym, refl, inl, inr, arith, eqb-true, le-leb}
 use borrow.Author.Tests.{lt-leb, eqb-false}
 use Rattle.order.proofs.Laws.{lt_or_le}
 use Rattle.tables.specs.Tables.{mismatch}
 use Rattle.tables.proofs.Passing.{mismatch_empty, mismatch_end, matching}
-use Rattle.tables.proofs.measuring.differs.Statement.{statement}
-use Rattle.tables.proofs.measuring.differs.Tie as tie
+use Rattle.tables.proofs.measuring.differs.Goals as goal
+
+wrapped : (s e : ℕ) → s < 2 ^ 32 → e < 2 ^ 32 → ((e + (2 ^ 32 - s)) % 2 ^ 32 + s) % 2 ^ 32 ≡ e
+wrapped s e a b = omega arith
 
 module _ (s e l d : ℕ) (a : s < 2 ^ 32) (b : e < 2 ^ 32) (c : d < 2 ^ 32) (q : (d + s) % 2 ^ 32 ≡ e) where
   difference : (leb e s || not (eqb d l)) ≡ mismatch s e l
@@ -26,13 +28,5 @@ module _ (s e l d : ℕ) (a : s < 2 ^ 32) (b : e < 2 ^ 32) (c : d < 2 ^ 32) (q :
           empty (inl m) = sym (mismatch_end s e l (λ g. omega arith))
           empty (inr m) = sym (mismatch_empty s e l (omega arith))
 
-wrapping_sub_u32-requires : tie.Need-wrapping_sub_u32-requires
-wrapping_sub_u32-requires c κs = search rules
-
-returns : tie.Need-returns
-returns c =
-    let a = c.args in
-    difference a.start a.end a.length _ (omega arith) (omega arith) (omega arith) c.wrapping_sub_u32.ensures
-
-pub differs_spec : {M : Type 1} → statement M
-differs_spec = tie.close (tie.spec wrapping_sub_u32-requires returns)
+pub returns : goal.returns
+returns c = let a = c.args in difference a.start a.end a.length ((a.end + (2 ^ 32 - a.start)) % 2 ^ 32) c.ranges.start.fits c.ranges.end.fits (omega arith) (wrapped a.start a.end c.ranges.start.fits c.ranges.end.fits)
