@@ -3,3 +3,4 @@ pub mod Judging
 pub mod Searches
 pub mod Searching
 pub mod Degrees
+pub mod Refusing

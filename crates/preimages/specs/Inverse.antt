@@ -1,17 +1,10 @@
 -- Inverse (document 01, "Walking", with the lengths of document 02, A.7), on any tables.
 use Rattle.std.specs.Prelude.{ℕ, Bool, not, ◌&&◌, List, [], ◌∷◌, ltb, leb}
 use Rattle.outcomes.specs.Outcome.{Outcome, done, Test, test, judge}
-use Rattle.outcomes.specs.Refusal.{refusal_says}
 use Rattle.outcomes.specs.Search.{first_below, any_below}
 use Rattle.runs.specs.Runs.{image_of, carry_back}
 use Rattle.tables.specs.Tables.{Tables, size_of, end_at, shape_test, all_lengths}
 use Rattle.preimages.specs.declared.Source.{Source}
-use Rattle.preimages.specs.declared.Inverted.{Inverted}
-use Rattle.preimages.specs.declared.Inverted.TheVariants.{From, Refused}
-
-abbrev pub inverted_says : Inverted → Outcome Source
-inverted_says (From s) = done s
-inverted_says (Refused r) = refusal_says r
 
 -- whether x sends a place to j: its image does not begin above j, and the place that j would come from is below its end
 unfoldable pub sends : Tables → ℕ → ℕ → Bool

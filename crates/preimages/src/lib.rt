@@ -6,12 +6,14 @@
 #![tactic(auto)]
 
 ghost use Rattle.std.specs.Prelude.{◌≡◌, ◌<◌, length};
-ghost use Rattle.outcomes.specs.Search.{first_below};
-ghost use Rattle.tables.specs.Tables.{tables};
-ghost use Rattle.preimages.specs.Inverse.{inverted_says, inverse_of};
+ghost use Rattle.outcomes.specs.Refusal.{says};
+ghost use Rattle.outcomes.specs.Search.{lowest_below};
+ghost use Rattle.tables.specs.Tables.{tables_in};
+ghost use Rattle.preimages.specs.Inverse.{inverse_of};
 ghost use Rattle.preimages.specs.Parts.{image_has};
 
 use outcomes::Refusal;
+use tables::MoveTable;
 
 // A place and the interval that has it.
 #[derive(Clone, Copy)]
@@ -20,68 +22,48 @@ pub struct Source {
     pub interval: u32,
 }
 
-#[derive(Clone, Copy)]
-pub enum Inverted {
-    From(Source),
-    Refused(Refusal),
-}
-
 // Whether interval x sends a place to j. The place that j would come from is as far above x's start as j is above its image, so
 // that it is below x's end where that distance is below the length: no start is read, and there is no sum to overflow.
-fn is_source(images: &[u32], lengths: &[u32], x: usize, j: u32) -> bool
-    requires { (x < length images.now) × (x < length lengths.now) }
-    ensures { result ≡ image_has images.now lengths.now j x }
+#[tactic(auto, unfolding(crate::specs::Parts::image_has))]
+fn is_source(table: MoveTable<'_>, x: usize, j: u32) -> bool
+    requires { (x < length table.images.now) × (x < length table.lengths.now) }
+    ensures { result ≡ image_has table.entry.images.now table.entry.lengths.now j x }
 {
-    let image = images[x];
-    if j < image {
-        return false;
-    }
-    j - image < lengths[x]
+    let image = table.images[x];
+    image <= j && j - image < table.lengths[x]
 }
 
-// The lowest interval that sends a place to j, or their number.
-fn first_source(images: &[u32], lengths: &[u32], j: u32) -> usize
-    requires { length lengths.now ≡ length images.now }
-    ensures { result ≡ first_below (image_has images.now lengths.now j) (length images.now) }
+// The lowest interval that sends a place to j.
+fn first_source(table: MoveTable<'_>, j: u32) -> Option<usize>
+    requires { length table.lengths.now ≡ length table.images.now }
+    ensures { result ≡ lowest_below (image_has table.entry.images.now table.entry.lengths.now j) (length table.entry.images.now) }
 {
-    let mut x: usize = 0;
-    while x < images.len() {
-        if is_source(images, lengths, x, j) {
-            return x;
+    for x in 0..table.images.len() {
+        if is_source(table, x, j) {
+            return Some(x);
         }
-        x += 1;
     }
-    x
+    None
 }
 
 // The place that j is reached from, and its interval.
-pub fn inverse(
-    n: u32,
-    starts: &[u32],
-    images: &[u32],
-    holders: &[u32],
-    lengths: &[u32],
-    j: u32,
-) -> Inverted
-    ensures { inverted_says result ≡ inverse_of n
-        (tables starts.now images.now holders.now lengths.now) j }
+pub fn inverse(table: MoveTable<'_>, j: u32) -> Result<Source, Refusal>
+    ensures { says result ≡ inverse_of table.entry.n (tables_in table.entry) j }
 {
-    if tables::is_misshapen(n, starts, images, holders, lengths) {
-        return Inverted::Refused(Refusal::TableShape);
+    if table.is_misshapen() {
+        return Err(Refusal::TableShape);
     }
-    let wrong = tables::first_wrong_length(n, starts, lengths);
-    if wrong < starts.len() {
-        return Inverted::Refused(Refusal::BrokenInterval(wrong as u32));
+    if let Some(x) = table.first_wrong_length() {
+        return Err(Refusal::BrokenInterval(x as u32));
     }
-    if n <= j {
-        return Inverted::Refused(Refusal::PlaceRange(j));
+    if table.n <= j {
+        return Err(Refusal::PlaceRange(j));
     }
-    let x = first_source(images, lengths, j);
-    if starts.len() <= x {
-        return Inverted::Refused(Refusal::NoPreimage(j));
-    }
-    Inverted::From(Source {
-        place: starts[x] + (j - images[x]),
+    let Some(x) = first_source(table, j) else {
+        return Err(Refusal::NoPreimage(j));
+    };
+    Ok(Source {
+        place: table.starts[x] + (j - table.images[x]),
         interval: x as u32,
     })
 }

@@ -2,23 +2,10 @@
 -- A.7). On the tables of a legal list they are those of the list (proofs/LegalWeights).
 use Rattle.std.specs.Prelude.{ℕ, ◌+◌, Bool, ◌||◌, List, [], ◌∷◌, get_or, take, drop, ltb, eqb}
 use Rattle.outcomes.specs.Outcome.{Outcome, done, refused, Test, test, judge, ◌then◌else◌}
-use Rattle.outcomes.specs.Refusal.{refusal_says}
 use Rattle.order.specs.Lists.{leading}
 use Rattle.runs.specs.Runs.{start_of, image_of}
 use Rattle.tables.specs.Tables.{Links, Tables, holder_of, unheld, shape_test, index_test, length_test}
-use Rattle.weights.specs.declared.Weighed.{Weighed}
-use Rattle.weights.specs.declared.Weighed.TheVariants.{Weight, Refused}
 use Rattle.weights.specs.declared.Stretch.{Stretch}
-use Rattle.weights.specs.declared.Stretched.{Stretched}
-use Rattle.weights.specs.declared.Stretched.TheVariants.{At, Refused as NotStretched}
-
-abbrev pub weighed_says : Weighed → Outcome ℕ
-weighed_says (Weight w) = done w
-weighed_says (Refused r) = refusal_says r
-
-abbrev pub stretched_says : Stretched → Outcome Stretch
-stretched_says (At s) = done s
-stretched_says (NotStretched r) = refusal_says r
 
 -- the end of x's image as it is read: the image plus x's length
 abbrev pub image_end_at : Tables → ℕ → ℕ
