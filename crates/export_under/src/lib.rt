@@ -7,12 +7,15 @@
 
 #![tactic(auto)]
 
-mod answers;
-
 ghost use Rattle.std.specs.Prelude.{◌≡◌};
+ghost use Rattle.outcomes.specs.Refusal.{says};
 ghost use Rattle.tables.specs.Tables.{tables};
 ghost use Rattle.weights.specs.Under.{under_of};
 ghost use Rattle.export_under.specs.Answers.{under_answer};
+
+use outcomes::Refusal;
+use tables::MoveTable;
+use weights::Stretch;
 
 // The answer: the starts are so many entries of the table of starts, from the first on. Its place is 0 where it is done.
 #[repr(C)]
@@ -22,6 +25,27 @@ pub struct UnderAnswer {
     pub place: u32,
     pub first: u32,
     pub count: u32,
+}
+
+impl From<Result<Stretch, Refusal>> for UnderAnswer {
+    ghost from_gives = { λ answer r. r ≡ under_answer (says answer) };
+
+    fn from(answer: Result<Stretch, Refusal>) -> UnderAnswer {
+        match answer {
+            Ok(stretch) => UnderAnswer {
+                number: 0,
+                place: 0,
+                first: stretch.first,
+                count: stretch.count,
+            },
+            Err(refusal) => UnderAnswer {
+                number: refusal.number(),
+                place: refusal.place(),
+                first: 0,
+                count: 0,
+            },
+        }
+    }
 }
 
 // Where the starts under an interval's image stand in the table of starts, and how many they are.
@@ -36,5 +60,12 @@ pub extern "C" fn zibewoka_starts_under(
 ) -> UnderAnswer
     ensures { result ≡ under_answer (under_of n (tables starts.now images.now holders.now lengths.now) interval) }
 {
-    answers::of_under(weights::under(n, starts, images, holders, lengths, interval))
+    let table = MoveTable {
+        n,
+        starts,
+        images,
+        holders,
+        lengths,
+    };
+    UnderAnswer::from(weights::under(table, interval))
 }

@@ -12,6 +12,8 @@ ghost use Rattle.preimages.specs.Inverse.{inverse_of};
 ghost use Rattle.weights.specs.Under.{weight_of};
 ghost use Rattle.export_walks.specs.Answers.{find_answer, move_answer, moves_answer, inverse_answer, weight_answer};
 
+use tables::MoveTable;
+
 // The answer of find and inverse. Find's place is the one asked about, inverse's the one that it was reached from.
 #[repr(C)]
 #[derive(Clone, Copy)]
@@ -64,8 +66,14 @@ pub extern "C" fn zibewoka_find(
 ) -> IntervalAnswer
     ensures { result ≡ find_answer place (find_of n (tables starts.now images.now holders.now lengths.now) place) }
 {
-    let found = walks::find(n, starts, images, holders, lengths, place);
-    answers::of_find(found, place)
+    let table = MoveTable {
+        n,
+        starts,
+        images,
+        holders,
+        lengths,
+    };
+    answers::of_find(walks::find(table, place), place)
 }
 
 // One move from a place of an interval.
@@ -81,9 +89,14 @@ pub extern "C" fn zibewoka_move(
 ) -> MoveAnswer
     ensures { result ≡ move_answer (move_of n (tables starts.now images.now holders.now lengths.now) interval place) }
 {
-    let wide = answers::of_moves(walks::move_query(
-        n, starts, images, holders, lengths, interval, place,
-    ));
+    let table = MoveTable {
+        n,
+        starts,
+        images,
+        holders,
+        lengths,
+    };
+    let wide = MovesAnswer::from(walks::move_query(table, interval, place));
     MoveAnswer {
         number: wide.number,
         place: wide.place,
@@ -107,9 +120,14 @@ pub extern "C" fn zibewoka_moves(
 ) -> MovesAnswer
     ensures { result ≡ moves_answer (moves_of n (tables starts.now images.now holders.now lengths.now) m interval place) }
 {
-    answers::of_moves(walks::repeated_moves(
-        n, starts, images, holders, lengths, interval, place, m,
-    ))
+    let table = MoveTable {
+        n,
+        starts,
+        images,
+        holders,
+        lengths,
+    };
+    MovesAnswer::from(walks::repeated_moves(table, interval, place, m))
 }
 
 // The place that a place is reached from, and its interval.
@@ -124,7 +142,14 @@ pub extern "C" fn zibewoka_inverse(
 ) -> IntervalAnswer
     ensures { result ≡ inverse_answer (inverse_of n (tables starts.now images.now holders.now lengths.now) place) }
 {
-    answers::of_inverse(preimages::inverse(n, starts, images, holders, lengths, place))
+    let table = MoveTable {
+        n,
+        starts,
+        images,
+        holders,
+        lengths,
+    };
+    IntervalAnswer::from(preimages::inverse(table, place))
 }
 
 // How many starts lie under an interval's image.
@@ -139,5 +164,12 @@ pub extern "C" fn zibewoka_weight(
 ) -> WeightAnswer
     ensures { result ≡ weight_answer (weight_of n (tables starts.now images.now holders.now lengths.now) interval) }
 {
-    answers::of_weight(weights::weight(n, starts, images, holders, lengths, interval))
+    let table = MoveTable {
+        n,
+        starts,
+        images,
+        holders,
+        lengths,
+    };
+    WeightAnswer::from(weights::weight(table, interval))
 }
