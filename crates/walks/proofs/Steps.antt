@@ -8,17 +8,17 @@ use native.Mathlib.Omega.{arith}
 use lib.ListN.{get_or}
 use lib.Dec.{leb, ltb}
 use borrow.Author.Tests.{lt-ltb, le-ltb, le-leb, lt-leb, leb-false, ltb-false}
-use Rattle.outcomes.specs.Outcome.{done, refused, judge, and_then}
+use Rattle.outcomes.specs.Outcome.{done, refused, judge, map_done, and_then}
 use Rattle.outcomes.specs.Search.{first_below}
 use Rattle.runs.specs.Runs.{start_of, carry}
 use Rattle.tables.specs.Tables.{Links, Tables, size_of, holder_of, end_at, wrong_at, misshapen, outside, broken, shape_test, index_test, length_test, place_test, broken_test}
 use Rattle.order.proofs.Laws.{or_false}
 use Rattle.walks.specs.Move.{walked_to, stand_at, step_to, stay_at, found_at, unfindable, find_of, step_of, move_of, moves_of, locate_tests}
 use Rattle.tables.specs.Parts.{Shaped, Measured, Located, Stands}
-use Rattle.walks.specs.Parts.{advance_of, leave_of, Starting, Movable}
+use Rattle.walks.specs.Parts.{locate_of, advance_of, leave_of, Starting, Movable}
 use Rattle.walks.specs.declared.reaching.Walked.{Walked}
 use Rattle.walks.specs.declared.Step.{Step}
-use Rattle.outcomes.proofs.Judging.{judge_append, judge_first}
+use Rattle.outcomes.proofs.Judging.{judge_append, judge_map, judge_first}
 use Rattle.tables.proofs.Passing.{shaped, matching_is, inside, inside_is, whole_is, held_is}
 use Rattle.walks.proofs.Reached.{reached_index, reached_low}
 
@@ -78,24 +78,6 @@ module _ (n : ℕ) (t : Tables) (i : ℕ) where
       find_at b x e = simp (s.fits, right, b, e)
 
 module _ (n : ℕ) (t : Tables) (x i : ℕ) where
-  -- the tests before 12 of a move
-  pub locate_shape : (b : Bool) → b ≡ misshapen n t → b ≡ true → refused 9 0 ≡ moves_of n t 0 x i
-  unfolding moves_of judge
-  locate_shape b q e = simp (sym q ∙ e)
-
-  pub locate_index : Shaped n t → size_of t.links ≤ x → refused 10 x ≡ moves_of n t 0 x i
-  unfolding moves_of judge
-  locate_index s h = simp (s.fits, le-leb _ _ h)
-
-  pub locate_length : Shaped n t → x < size_of t.links → wrong_at n t x ≡ true → refused 12 x ≡ moves_of n t 0 x i
-  unfolding moves_of judge
-  locate_length s h w = simp (s.fits, lt-leb _ _ h, w)
-
-  pub locate_place : Shaped n t → x < size_of t.links → wrong_at n t x ≡ false → outside n t x i ≡ true
-      → refused 11 i ≡ moves_of n t 0 x i
-  unfolding moves_of judge
-  locate_place s h w o = simp (s.fits, lt-leb _ _ h, w, o)
-
   -- where the place lies in x by the starts, and the length is right, it does not lie outside
   inside_by : Starting n t x i → outside n t x i ≡ false
   inside_by l =
@@ -114,6 +96,19 @@ module _ (n : ℕ) (t : Tables) (x i : ℕ) where
       let w = judge_first (length_test n t x) _ _ s g.1 in
       let h = judge_first (place_test n t x i) _ _ s w.1 in
       starting n t x i (shaped n t _ refl f.0) (leb-false _ _ g.0) w.0 (inside_is n t x i h.0)
+
+  -- the tests alone tell as much
+  moves_tests : moves_of n t 0 x i ≡ map_done (λ _. stay_at t.links.list.starts x i) (locate_of n t x i)
+  unfolding moves_of
+  moves_tests = judge_map (locate_tests n t x i) tt (stay_at t.links.list.starts x i)
+
+  pub tests_refused : (k p : ℕ) → refused k p ≡ locate_of n t x i → refused k p ≡ moves_of n t 0 x i
+  unfolding map_done
+  tests_refused k p e = rw (moves_tests, ← e)
+
+  pub tests_passed : done tt ≡ locate_of n t x i → Starting n t x i
+  unfolding map_done
+  tests_passed e = located (stay_at t.links.list.starts x i) (rw (moves_tests, ← e))
 
   -- a move is these, and what is left
   pub move_is : move_of n t x i ≡ and_then (moves_of n t 0 x i) (λ _. advance_of n t.links x i)

@@ -1,26 +1,14 @@
 -- Find, move and repeated move (document 01, "Walking"), on any tables, with the distance of document 02, A.2, its count of the
 -- starts read, A.4, and its tests of lengths, A.7.
-use Rattle.std.specs.Prelude.{ℕ, zero, suc, ◌+◌, ◌-◌, ◌≤◌, ◌<◌, ◌≡◌, Bool, ◌||◌, List, [], ◌∷◌, drop, get_or, ltb, leb}
+use Rattle.std.specs.Prelude.{ℕ, zero, suc, ◌+◌, ◌-◌, ◌≤◌, ◌<◌, ◌≡◌, Bool, ◌||◌, Result, List, [], ◌∷◌, drop, get_or, ltb, leb}
 use Rattle.outcomes.specs.Outcome.{Outcome, done, refused, Test, test, judge, map_done, and_then, ◌then◌else◌}
-use Rattle.outcomes.specs.Refusal.{refusal_says}
+use Rattle.outcomes.specs.Refusal.{says}
 use Rattle.order.specs.Lists.{leading, bit}
 use Rattle.runs.specs.Runs.{start_of, length_of, distance_in, carry}
+use Rattle.outcomes.specs.declared.Refusal.{Refusal}
 use Rattle.tables.specs.Tables.{Links, Tables, size_of, holder_of, shape_test, index_test, length_test, all_lengths, place_test, broken_test}
 use Rattle.walks.specs.declared.Step.{Step}
 use Rattle.walks.specs.declared.reaching.Walked.{Walked}
-use Rattle.walks.specs.declared.Found.{Found}
-use Rattle.walks.specs.declared.Found.TheVariants.{At, Refused as NotFound}
-use Rattle.walks.specs.declared.Moved.{Moved}
-use Rattle.walks.specs.declared.Moved.TheVariants.{To, Refused as NotMoved}
-
--- the outcome that each answer is
-abbrev pub found_says : Found → Outcome ℕ
-found_says (At x) = done x
-found_says (NotFound r) = refusal_says r
-
-abbrev pub moved_says : Moved → Outcome Step
-moved_says (To s) = done s
-moved_says (NotMoved r) = refusal_says r
 
 -- A walk from interval h goes on to the next one while there is one that does not start above j: the starts passed.
 unfoldable pub passed : List ℕ → ℕ → ℕ → ℕ
@@ -102,14 +90,14 @@ moves_of n t zero x i = judge (locate_tests n t x i) (stay_at t.links.list.start
 moves_of n t (suc m) x i = and_then (moves_of n t m x i) (onwards n t)
 
 -- what `find`, `move_query` and `repeated_moves` promise of their answers
-abbrev pub Finds : ℕ → Tables → ℕ → Found → Type 0
-Finds n t i r = found_says r ≡ find_of n t i
+abbrev pub Finds : ℕ → Tables → ℕ → Result ℕ Refusal → Type 0
+Finds n t i r = says r ≡ find_of n t i
 
-abbrev pub MovesOnce : ℕ → Tables → ℕ → ℕ → Moved → Type 0
-MovesOnce n t x i r = moved_says r ≡ move_of n t x i
+abbrev pub MovesOnce : ℕ → Tables → ℕ → ℕ → Result Step Refusal → Type 0
+MovesOnce n t x i r = says r ≡ move_of n t x i
 
-abbrev pub MovesOften : ℕ → Tables → ℕ → ℕ → ℕ → Moved → Type 0
-MovesOften n t m x i r = moved_says r ≡ moves_of n t m x i
+abbrev pub MovesOften : ℕ → Tables → ℕ → ℕ → ℕ → Result Step Refusal → Type 0
+MovesOften n t m x i r = says r ≡ moves_of n t m x i
 
 -- Where a repeated move stopped on the way: after fewer moves than it was asked for, it stood in an interval that it
 -- could not leave. It gives 12 and that interval, and no part of what it had walked.

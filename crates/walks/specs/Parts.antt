@@ -4,8 +4,12 @@ use Rattle.outcomes.specs.Outcome.{Outcome, judge}
 use Rattle.runs.specs.Runs.{start_of, carry}
 use Rattle.tables.specs.Tables.{Links, Tables, size_of, max_intervals, unheld, wrong_at, length_test, broken_test}
 use Rattle.tables.specs.Parts.{Entered, Stands}
-use Rattle.walks.specs.Move.{step_of}
+use Rattle.walks.specs.Move.{locate_tests, step_of}
 use Rattle.walks.specs.declared.Step.{Step}
+
+-- the tests before that, which a move begins with, and no step
+abbrev pub locate_of : ℕ → Tables → ℕ → ℕ → Outcome (Unit {0})
+locate_of n t x i = judge (locate_tests n t x i) tt
 
 -- 12 and the step, from a place that lies in its interval
 unfoldable pub advance_of : ℕ → Links → ℕ → ℕ → Outcome Step

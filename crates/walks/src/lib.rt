@@ -11,11 +11,12 @@ mod reaching;
 mod walk;
 
 ghost use Rattle.std.specs.Prelude.{◌≡◌, ◌+◌, ◌≤◌, ◌<◌, length};
-ghost use Rattle.tables.specs.Tables.{links, tables, max_intervals};
+ghost use Rattle.tables.specs.Tables.{links_in, tables_in, max_intervals};
 ghost use Rattle.walks.specs.Move.{passed, unfindable, step_of, Finds, MovesOnce, MovesOften};
 ghost use Rattle.walks.specs.Parts.{Movable};
 
 use outcomes::Refusal;
+use tables::MoveTable;
 
 // Where a move or a repeated move ends: the place, the interval that has it and the place's distance from the interval's
 // start; and how many interval starts it read, which is how many it compared with the places that it reached.
@@ -27,89 +28,46 @@ pub struct Step {
     pub count: u64,
 }
 
-#[derive(Clone, Copy)]
-pub enum Found {
-    At(u32),
-    Refused(Refusal),
-}
-
-#[derive(Clone, Copy)]
-pub enum Moved {
-    To(Step),
-    Refused(Refusal),
-}
-
 // The interval that a walk from the first one reaches for place i. Where all lengths are right the starts rise, so that a search
 // leads there too.
-pub fn find(
-    n: u32,
-    starts: &[u32],
-    images: &[u32],
-    holders: &[u32],
-    lengths: &[u32],
-    i: u32,
-) -> Found
-    ensures { Finds n (tables starts.now images.now holders.now lengths.now) i result }
+pub fn find(table: MoveTable<'_>, i: u32) -> Result<u32, Refusal>
+    ensures { Finds table.entry.n (tables_in table.entry) i result }
 {
-    if tables::is_misshapen(n, starts, images, holders, lengths) {
-        return Found::Refused(Refusal::TableShape);
+    if table.is_misshapen() {
+        return Err(Refusal::TableShape);
     }
-    let wrong = tables::first_wrong_length(n, starts, lengths);
-    if wrong < starts.len() {
-        return Found::Refused(Refusal::BrokenInterval(wrong as u32));
+    if let Some(x) = table.first_wrong_length() {
+        return Err(Refusal::BrokenInterval(x as u32));
     }
-    if is_unfindable(n, starts, i) {
-        return Found::Refused(Refusal::PlaceRange(i));
+    if is_unfindable(table, i) {
+        return Err(Refusal::PlaceRange(i));
     }
-    Found::At((searching::count_below(starts, i + 1) - 1) as u32)
+    Ok((searching::count_below(table.starts, i + 1) - 1) as u32)
 }
 
 // One move from place i of interval x.
-pub fn move_query(
-    n: u32,
-    starts: &[u32],
-    images: &[u32],
-    holders: &[u32],
-    lengths: &[u32],
-    x: u32,
-    i: u32,
-) -> Moved
-    ensures { MovesOnce n (tables starts.now images.now holders.now lengths.now) x i result }
+pub fn move_query(table: MoveTable<'_>, x: u32, i: u32) -> Result<Step, Refusal>
+    ensures { MovesOnce table.entry.n (tables_in table.entry) x i result }
 {
-    match locating::locate(n, starts, images, holders, lengths, x, i) {
-        Moved::Refused(r) => Moved::Refused(r),
-        Moved::To(_) => walk::advance(n, starts, images, holders, x, i),
-    }
+    locating::locate(table, x, i)?;
+    walk::advance(table, x, i)
 }
 
 // m moves from place i of interval x, with the sum of the counts.
-pub fn repeated_moves(
-    n: u32,
-    starts: &[u32],
-    images: &[u32],
-    holders: &[u32],
-    lengths: &[u32],
-    x: u32,
-    i: u32,
-    m: u32,
-) -> Moved
-    ensures { MovesOften n (tables starts.now images.now holders.now lengths.now) m x i result }
+pub fn repeated_moves(table: MoveTable<'_>, x: u32, i: u32, m: u32) -> Result<Step, Refusal>
+    ensures { MovesOften table.entry.n (tables_in table.entry) m x i result }
 {
-    match locating::locate(n, starts, images, holders, lengths, x, i) {
-        Moved::Refused(r) => Moved::Refused(r),
-        Moved::To(_) => walk::moves_from(n, starts, images, holders, lengths, x, i, m),
-    }
+    locating::locate(table, x, i)?;
+    walk::moves_from(table, x, i, m)
 }
 
 // Test 11 of find, for our own crates.
-pub fn is_unfindable(n: u32, starts: &[u32], i: u32) -> bool
-    requires { 0 < length starts.now }
-    ensures { result ≡ unfindable n starts.now i }
+#[tactic(auto, unfolding(crate::specs::Move::unfindable))]
+pub fn is_unfindable(table: MoveTable<'_>, i: u32) -> bool
+    requires { 0 < length table.starts.now }
+    ensures { result ≡ unfindable table.entry.n table.entry.starts.now i }
 {
-    if n <= i {
-        return true;
-    }
-    i < starts[0]
+    table.n <= i || i < table.starts[0]
 }
 
 // The interval that a walk from interval x for place i reaches, for our own crates.
@@ -117,17 +75,16 @@ pub fn reach_from(starts: &[u32], x: u32, i: u32) -> u32
     requires { (x < length starts.now) × (length starts.now ≤ max_intervals) }
     ensures { result ≡ x + passed starts.now x i }
 {
-    let walked = reaching::walk_from(starts, x, i);
-    walked.interval
+    reaching::walk_from(starts, x, i).interval
 }
 
 // The step from place i of interval x where no test refuses it, for our own crates.
-pub fn step_from(starts: &[u32], images: &[u32], holders: &[u32], x: u32, i: u32) -> Step
-    requires { Movable (links starts.now images.now holders.now) x i }
-    ensures { result ≡ step_of (links starts.now images.now holders.now) x i }
+pub fn step_from(table: MoveTable<'_>, x: u32, i: u32) -> Step
+    requires { Movable (links_in table) x i }
+    ensures { result ≡ step_of (links_in table.entry) x i }
 {
     let at = x as usize;
-    let j = images[at] + (i - starts[at]);
-    let walked = reaching::walk_from(starts, holders[at], j);
-    locating::stand(starts, walked.interval, j, walked.count)
+    let j = table.images[at] + (i - table.starts[at]);
+    let walked = reaching::walk_from(table.starts, table.holders[at], j);
+    locating::stand(table.starts, walked.interval, j, walked.count)
 }

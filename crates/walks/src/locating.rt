@@ -1,10 +1,13 @@
 // The tests that a move begins with, and the step that stands at a place.
 ghost use Rattle.std.specs.Prelude.{◌≡◌, ◌≤◌, ◌<◌, length, get_or};
-ghost use Rattle.tables.specs.Tables.{tables};
-ghost use Rattle.walks.specs.Move.{moved_says, moves_of, stand_at};
+ghost use Rattle.outcomes.specs.Refusal.{says};
+ghost use Rattle.tables.specs.Tables.{outside, tables_in};
+ghost use Rattle.walks.specs.Move.{stand_at};
+ghost use Rattle.walks.specs.Parts.{locate_of};
 
-use super::{Moved, Step};
+use super::Step;
 use outcomes::Refusal;
+use tables::MoveTable;
 
 // Standing at place i of interval x, after walks of this count.
 pub(crate) fn stand(starts: &[u32], x: u32, i: u32, count: u64) -> Step
@@ -19,36 +22,32 @@ pub(crate) fn stand(starts: &[u32], x: u32, i: u32, count: u64) -> Step
     }
 }
 
-// Tests 9, 10, 12 of the length of x, and 11, and no move.
-pub(crate) fn locate(
-    n: u32,
-    starts: &[u32],
-    images: &[u32],
-    holders: &[u32],
-    lengths: &[u32],
-    x: u32,
-    i: u32,
-) -> Moved
-    ensures { moved_says result ≡ moves_of n (tables starts.now images.now holders.now lengths.now) 0 x i }
+// Test 11, of a place that is handed in with interval x.
+#[tactic(auto, unfolding(tables::specs::Tables::outside))]
+fn is_outside(table: MoveTable<'_>, x: usize, i: u32) -> bool
+    requires { (x < length table.starts.now) × (x < length table.lengths.now) }
+    ensures { result ≡ outside table.entry.n (tables_in table.entry) x i }
 {
-    if tables::is_misshapen(n, starts, images, holders, lengths) {
-        return Moved::Refused(Refusal::TableShape);
+    table.n <= i || i < table.starts[x] || table.lengths[x] <= i - table.starts[x]
+}
+
+// Tests 9, 10, 12 of the length of x, and 11, and no move.
+#[tactic(auto, unfolding(outcomes::specs::Outcome::judge))]
+pub(crate) fn locate(table: MoveTable<'_>, x: u32, i: u32) -> Result<(), Refusal>
+    ensures { says result ≡ locate_of table.entry.n (tables_in table.entry) x i }
+{
+    if table.is_misshapen() {
+        return Err(Refusal::TableShape);
     }
     let at = x as usize;
-    if starts.len() <= at {
-        return Moved::Refused(Refusal::IntervalIndex(x));
+    if table.starts.len() <= at {
+        return Err(Refusal::IntervalIndex(x));
     }
-    if tables::is_wrong_length(n, starts, lengths, at) {
-        return Moved::Refused(Refusal::BrokenInterval(x));
+    if table.is_wrong_length(at) {
+        return Err(Refusal::BrokenInterval(x));
     }
-    if n <= i {
-        return Moved::Refused(Refusal::PlaceRange(i)); // not below n
+    if is_outside(table, at, i) {
+        return Err(Refusal::PlaceRange(i));
     }
-    if i < starts[at] {
-        return Moved::Refused(Refusal::PlaceRange(i)); // below x's start
-    }
-    if lengths[at] <= i - starts[at] {
-        return Moved::Refused(Refusal::PlaceRange(i)); // not below x's end
-    }
-    Moved::To(stand(starts, x, i, 0))
+    Ok(())
 }

@@ -45,7 +45,7 @@ fn read_to(intervals: usize, from: u32, reached: u32) -> u64
     requires { (from ≤ reached) × (reached < intervals) × (intervals ≤ max_intervals) }
     ensures { result ≡ read_to intervals from reached }
 {
-    let past = (reached - from) as u64;
+    let past = u64::from(reached - from);
     if reached as usize + 1 < intervals {
         past + 1
     } else {
