@@ -1,6 +1,6 @@
 -- Inverse (document 01, "Walking", with the lengths of document 02, A.7), on any tables.
 use Rattle.std.specs.Prelude.{ℕ, Bool, not, ◌&&◌, List, [], ◌∷◌, ltb, leb}
-use Rattle.outcomes.specs.Outcome.{Outcome, done, Test, test, judge}
+use Rattle.outcomes.specs.Outcome.{Outcome, Test, test, judge}
 use Rattle.outcomes.specs.Search.{first_below, any_below}
 use Rattle.runs.specs.Runs.{image_of, carry_back}
 use Rattle.tables.specs.Tables.{Tables, size_of, end_at, shape_test, all_lengths}

@@ -9,10 +9,10 @@ pub returns-then-is_wrong_length : goal.returns-then-is_wrong_length
 returns-then-is_wrong_length c =
     elim c.then-is_wrong_length.branch [
       | then-is_wrong_length-via-then-is_wrong_length w ↦
-      size_mismatch _ _ _ (sym c.is_wrong_length.ensures ∙ w.if-is_wrong_length.true)
+          size_mismatch _ _ _ (sym c.is_wrong_length.ensures ∙ w.if-is_wrong_length.true)
       | then-is_wrong_length-via-else-is_wrong_length+then-is_unheld w ↦
-      size_broken _ _ _ (sym c.is_wrong_length.ensures ∙ w.if-is_wrong_length.false)
-      (unplaced_unheld _ _ _ (sym w.is_unheld.ensures ∙ w.if-is_unheld.true))
+          size_broken _ _ _ (sym c.is_wrong_length.ensures ∙ w.if-is_wrong_length.false)
+          (unplaced_unheld _ _ _ (sym w.is_unheld.ensures ∙ w.if-is_unheld.true))
     ]
 
 pub returns-then-from-image_end : goal.returns-then-from-image_end
