@@ -1,6 +1,10 @@
 -- Demand 1. The order of conditions of each operation is read off its definition; what `judge` gives is proved once for
 -- all of them; and a refusal leaves what was lent, since `filled`, `filled_tables`, `cleared_by`, `mark_after` and `records_after` do.
 use Prim.Native.Nat.{ℕ, zero, suc, ◌<◌, suc-le-suc}
+use Rattle.std.specs.Prelude.{Result}
+use Rattle.outcomes.specs.Refusal.{says}
+use Rattle.outcomes.specs.declared.Refusal.{Refusal}
+use Rattle.questions.specs.declared.Unanswered.{Unanswered}
 use mathlib.Core.Path.{◌≡◌, refl, sym, ap, ◌∙◌}
 use mathlib.Core.Bool.{Bool, true, false}
 use mathlib.Core.Logic.{inl, inr}
@@ -10,12 +14,11 @@ use native.Mathlib.Omega.{arith}
 use borrow.Author.Tests.{lt-leb}
 use lib.ListN.{length}
 use Rattle.outcomes.specs.Outcome.{Outcome, done, refused, Test, test, judge, ◌then◌else◌}
-use Rattle.outcomes.specs.Refusal.{checked_says}
 use Rattle.runs.specs.Runs.{Runs, count_of}
 use Rattle.runs.specs.Check.{list_tests, tests_up_to}
 use Rattle.runs.proofs.WritesList.{writes_kept}
 use Rattle.lists.specs.Inverse.{inverse_list_of}
-use Rattle.permutations.specs.Next.{next_of, next_says}
+use Rattle.permutations.specs.Next.{next_of}
 use Rattle.outcomes.proofs.Judging.{done_refused, map_refused}
 use Rattle.tables.specs.Tables.{Tables, size_of, misshapen, wrong_at}
 use Rattle.walks.specs.Move.{find_of, move_of, moves_of}
@@ -27,9 +30,7 @@ use Rattle.bookmarks.specs.Bookmark.{bookmark_of}
 use Rattle.bookmarks.proofs.Marks.{bookmark_kept}
 use Rattle.questions.specs.Questions.{answered_says, answers_of, filled_in, records_after, Answers}
 use Rattle.questions.specs.declared.Question.{Question}
-use Rattle.questions.specs.declared.Answered.{Answered}
-use Rattle.balance.specs.Lent.{Lent, balanced_says, interval_count, balance_of, Balances}
-use Rattle.balance.specs.declared.Balanced.{Balanced}
+use Rattle.balance.specs.Lent.{Lent, interval_count, balance_of, Balances}
 use Rattle.balance.proofs.Outcomes.{fill_refused, balance_passed, balance_refused}
 use Rattle.balance.proofs.Heads.{tables_kept}
 use Rattle.cuts.specs.Balance.{size_at}
@@ -37,10 +38,8 @@ use Rattle.plans.specs.Working.{planned_of}
 use Rattle.plans.specs.Plan.{sought_of}
 use Rattle.plans.proofs.Outcomes.{sought_refused, fitting_refused}
 use Rattle.plans.proofs.Clearing.{working_kept, working_cleared}
-use Rattle.forecasts.specs.Sizing.{forecasted_says, forecast_of, Forecasts}
-use Rattle.forecasts.specs.Seeking.{sought_says, least_degree_of, Seeks}
-use Rattle.forecasts.specs.declared.Forecasted.{Forecasted}
-use Rattle.forecasts.specs.declared.Sought.{Sought}
+use Rattle.forecasts.specs.Sizing.{forecast_of, Forecasts}
+use Rattle.forecasts.specs.Seeking.{least_degree_of, Seeks}
 use Rattle.forecasts.proofs.Outcomes.{forecast_planned, degree_sought}
 use Rattle.files.specs.File.{count_tests, layout_tests, header_tests, body_tests, file_tests, file_of}
 use Rattle.demands.specs.Judged.{NoneOf, RefusedBy, Judged}
@@ -86,8 +85,8 @@ module _ {A : Type 0} (a : A) where
       go false q e rest = refused_first t ts k p q (rest e)
 
 -- balancing: a refusal goes through to the four tables, and to the working table unless the plan's tests pass
-balance_kept : (n : ℕ) (r : Runs) (d : ℕ) (entry exit : Lent) (o : Balanced) → Balances n r d entry exit o
-    → (k p : ℕ) → balanced_says o ≡ refused k p
+balance_kept : (n : ℕ) (r : Runs) (d : ℕ) (entry exit : Lent) (o : Result ℕ Refusal) → Balances n r d entry exit o
+    → (k p : ℕ) → says o ≡ refused k p
     → (exit.tables ≡ entry.tables) × KeptUnless 8 (size_at n r d) n r d entry.working exit.working k p
 balance_kept n r d entry exit o c k p e =
     (c.written ∙ tables_kept _ k p entry.tables q, go (planned_of n r d (length entry.working)) refl)
@@ -107,15 +106,15 @@ balance_kept n r d entry exit o c k p e =
         inr (f, s.0, s.1, c.working ∙ working_cleared n r d entry.working f)
 
 -- the forecast: each refusal is by the plan's tests
-forecast_kept : (n : ℕ) (r : Runs) (d : ℕ) (entry exit : List ℕ) (o : Forecasted) → Forecasts n r d entry exit o
-    → (k p : ℕ) → forecasted_says o ≡ refused k p → exit ≡ entry
+forecast_kept : (n : ℕ) (r : Runs) (d : ℕ) (entry exit : List ℕ) (o : Result BalancedSize Refusal) → Forecasts n r d entry exit o
+    → (k p : ℕ) → says o ≡ refused k p → exit ≡ entry
 forecast_kept n r d entry exit o c k p e =
     c.working ∙ working_kept n r d entry k p
     (map_refused _ _ k p (sym (forecast_planned n r d entry (length entry)) ∙ sym c.says ∙ e))
 
 -- the search: so is each but 19
-least_degree_kept : (n : ℕ) (r : Runs) (entries : ℕ) (entry exit : List ℕ) (o : Sought) → Seeks n r entries entry exit o
-    → (k p : ℕ) → sought_says o ≡ refused k p → KeptUnless 19 entries n r 2 entry exit k p
+least_degree_kept : (n : ℕ) (r : Runs) (entries : ℕ) (entry exit : List ℕ) (o : Result LeastDegree Refusal) → Seeks n r entries entry exit o
+    → (k p : ℕ) → says o ≡ refused k p → KeptUnless 19 entries n r 2 entry exit k p
 least_degree_kept n r entries entry exit o c k p e = go (planned_of n r 2 (length entry)) refl
   where
     q : sought_of n r entries 2 (length entry) ≡ refused k p
@@ -127,7 +126,7 @@ least_degree_kept n r entries entry exit o c k p e = go (planned_of n r 2 (lengt
     go (done _) f = let s = fitting_refused n r entries 2 (length entry) k p f q in
         inr (f, s.0, s.1, c.working ∙ working_cleared n r 2 entry f)
 
-questions_kept : (n : ℕ) (t : Tables) (qs : List Question) (a : Answered) (left : List Question) → Answers n t qs a left
+questions_kept : (n : ℕ) (t : Tables) (qs : List Question) (a : Result ℕ Unanswered) (left : List Question) → Answers n t qs a left
     → (k p : ℕ) → answered_says a ≡ refused k p → left ≡ qs
 unfolding records_after
 questions_kept n t qs a left w k p e =
@@ -183,11 +182,11 @@ demand1 = record {
   bookmark_wrong = λ n t b s h w. third_refuses _ _ _ _ _ s (lt-leb _ _ h) w;
   next_list = λ n r a b. judged _ _ _ refl;
   file = λ most bytes. judged _ _ _ refl;
-  inverse_list_kept = λ n r a b a' b' o c. writes_kept checked_says _ (inverse_list_of n r a b) a b o a' b' c;
+  inverse_list_kept = λ n r a b a' b' o c. writes_kept says _ (inverse_list_of n r a b) a b o a' b' c;
   balance_kept = balance_kept;
   forecast_kept = forecast_kept;
   least_degree_kept = least_degree_kept;
   bookmark_kept = bookmark_kept;
-  next_list_kept = λ n r a b a' b' x c. writes_kept next_says count_of (next_of n r a b) a b x a' b' c;
+  next_list_kept = λ n r a b a' b' x c. writes_kept says count_of (next_of n r a b) a b x a' b' c;
   questions_kept = questions_kept;
 }

@@ -2,6 +2,9 @@
 -- single calls are the plain walk's, so whole lists of calls are (Serving, Marking); and since no interval is heavy, no
 -- move reads more than 2d starts (Counting).
 use Prim.Native.Nat.{ℕ, ◌*◌, ◌≤◌, ◌<◌}
+use Rattle.std.specs.Prelude.{Result}
+use Rattle.outcomes.specs.Refusal.{says}
+use Rattle.questions.specs.declared.Unanswered.{Unanswered}
 use mathlib.Core.Path.{◌≡◌, refl, sym, ap, ◌∙◌}
 use mathlib.Core.List.{List, map}
 use native.Mathlib.Omega.{arith}
@@ -17,10 +20,9 @@ use Rattle.bookmarks.specs.declared.Marked.{Marked}
 use Rattle.questions.specs.Questions.{answered_says, places_of, records_after, Answers}
 use Rattle.questions.specs.Plain.{plain_answers, plain_question}
 use Rattle.questions.specs.declared.Question.{Question}
-use Rattle.questions.specs.declared.Answered.{Answered}
 use Rattle.questions.proofs.LegalQuestions.{plain_counts}
 use Rattle.walks.proofs.LegalTables.{legal_find_beyond}
-use Rattle.walks.specs.Move.{moved_says, find_of}
+use Rattle.walks.specs.Move.{find_of}
 use Rattle.cuts.specs.Balance.{balanced}
 use Rattle.balance.proofs.Heads.{answer_is, head_is}
 use Rattle.balance.specs.Lent.{Room}
@@ -54,12 +56,12 @@ module _ (n : ℕ) (r : Runs) (d : ℕ) (c : Legal n r) (k : count_of r ≤ max_
   small = omega arith
 
   -- questions together: what the contract says, by the plain walk
-  told : (qs : List Question) (a : Answered) (left : List Question) → Answers n (tables_of n t) qs a left
+  told : (qs : List Question) (a : Result ℕ Unanswered) (left : List Question) → Answers n (tables_of n t) qs a left
       → (answered_says a ≡ plain_answers n t (places_of qs))
       × (left ≡ records_after (plain_question n r t) (plain_answers n t (places_of qs)) qs)
   told qs a left w = (w.says ∙ walks.questions (places_of qs), w.records ∙ walks.records qs)
 
-  told_most : (qs : List Question) (a : Answered) (left : List Question) → Answers n (tables_of n t) qs a left
+  told_most : (qs : List Question) (a : Result ℕ Unanswered) (left : List Question) → Answers n (tables_of n t) qs a left
       → (c : ℕ) → answered_says a ≡ done c → All (λ q. q.count ≤ max_count d) left
   unfolding records_after
   told_most qs a left w c e =
@@ -113,7 +115,7 @@ module _ (n : ℕ) (r : Runs) (d : ℕ) (c : Legal n r) (k : count_of r ≤ max_
         same_advances = walks.advances;
         advance_bounds = advanced;
         advance_total = λ p g h ms a.
-            counts_total (λ m. Bounded b (marked_says m)) (λ m. count_of_move (moved_says m.moved)) b (λ m k. k.move) ms (advanced p g h ms a);
+            counts_total (λ m. Bounded b (marked_says m)) (λ m. count_of_move (says m.moved)) b (λ m k. k.move) ms (advanced p g h ms a);
         same_questions = told;
         question_bounds = told_most;
         question_total = λ qs a left w c e. counts_total (λ q. q.count ≤ b) (λ q. q.count) b (λ q k. k) left (told_most qs a left w c e);

@@ -1,5 +1,8 @@
 -- A fold and then balancing: the list that `fold` left is the fold, and where `balance` answers, demand 3 holds for it.
 use Prim.Native.Nat.{ℕ, ◌≤◌}
+use Rattle.std.specs.Prelude.{Result}
+use Rattle.outcomes.specs.Refusal.{says}
+use Rattle.outcomes.specs.declared.Refusal.{Refusal}
 use mathlib.Core.Path.{◌≡◌, refl, sym, ap, ◌∙◌, subst}
 use native.Mathlib.Omega.{arith}
 use lib.ListN.{take}
@@ -13,8 +16,7 @@ use Rattle.folds.specs.Fold.{folded}
 use Rattle.folds.specs.Fewest.{FewestOf}
 use Rattle.folds.proofs.Fewest.{fewest_runs}
 use Rattle.cuts.specs.Balance.{bound_of}
-use Rattle.balance.specs.Lent.{Lent, lent_columns, first_of, balanced_says, balance_of, interval_count}
-use Rattle.balance.specs.declared.Balanced.{Balanced}
+use Rattle.balance.specs.Lent.{Lent, lent_columns, first_of, balance_of, interval_count}
 use Rattle.balance.proofs.Outcomes.{balance_room}
 use Rattle.demands.specs.FoldedFirst.{BothCalls, FoldedFirst}
 use Rattle.demands.proofs.Demand3.{demand3}
@@ -25,7 +27,7 @@ unfolding map_done
 was_done f (done a) b e = (a, refl)
 was_done f (refused k p) b e = absurd (done_refused b k p (sym e))
 
-module _ (n : ℕ) (r : Runs) (k d : ℕ) (entry exit : Lent) (answer : Balanced) (c : BothCalls n r k d entry exit answer) where
+module _ (n : ℕ) (r : Runs) (k d : ℕ) (entry exit : Lent) (answer : Result ℕ Refusal) (c : BothCalls n r k d entry exit answer) where
   -- the list that `fold` left
   abbrev left : Runs
   left = runs (take k c.to_starts') (take k c.to_images')
@@ -43,7 +45,7 @@ module _ (n : ℕ) (r : Runs) (k d : ℕ) (entry exit : Lent) (answer : Balanced
   fewest : FewestOf n r k
   fewest = subst (FewestOf n r) (ap count_of (sym written.1) ∙ written.2) (fewest_runs.fewest n r written.0)
 
-  module _ (m : ℕ) (z : balanced_says answer ≡ done m) where
+  module _ (m : ℕ) (z : says answer ≡ done m) where
     bounded : (m ≤ bound_of d k) × SamePermutation n (first_of m exit).links.list r
     bounded =
         let t = was_done interval_count (balance_of n left d entry) m (sym c.balances.says ∙ z) in

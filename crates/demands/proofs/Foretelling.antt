@@ -1,5 +1,8 @@
 -- The forecast and the search for a degree are right: their definitions and that of balancing speak of one K.
 use Prim.Native.Nat.{ℕ, ◌+◌, ◌≤◌, ◌<◌}
+use Rattle.std.specs.Prelude.{Result}
+use Rattle.outcomes.specs.Refusal.{says}
+use Rattle.outcomes.specs.declared.Refusal.{Refusal}
 use mathlib.Core.Path.{◌≡◌, refl, sym, ap, ◌∙◌}
 use mathlib.Core.Bool.{true}
 use mathlib.Core.Logic.{◌⊎◌, inl, inr}
@@ -20,9 +23,8 @@ use Rattle.plans.specs.Fitting.{fits, least_from}
 use Rattle.plans.specs.Working.{working_size, planned_of}
 use Rattle.plans.specs.Plan.{sought_of}
 use Rattle.plans.proofs.Outcomes.{planned_passed, planned_list, planned_sizes, planned_done, planned_number, sought_refused, sought_passed, sought_done, sought_none, fitting_refused}
-use Rattle.balance.specs.Lent.{Lent, balanced_says, interval_count, Balances}
+use Rattle.balance.specs.Lent.{Lent, interval_count, Balances}
 use Rattle.balance.specs.Parts.{fill_of}
-use Rattle.balance.specs.declared.Balanced.{Balanced}
 use Rattle.balance.proofs.Outcomes.{balance_passed, fill_short, fill_done}
 use Rattle.forecasts.specs.Sizing.{forecast_at, forecast_of}
 use Rattle.forecasts.specs.Seeking.{least_at, least_degree_of}
@@ -46,17 +48,17 @@ module _ (n : ℕ) (r : Runs) (d room : ℕ) (f : BalancedSize) (e : forecast_of
       let m = balanced_cuts d n (planned_sizes n r d room told.0).0 r (planned_list n r d room told.0).0 in
       rw (← told.1) (omega (arith, m.counted))
 
-  module _ (entry exit : Lent) (answer : Balanced) (b : Balances n r d entry exit answer)
+  module _ (entry exit : Lent) (answer : Result ℕ Refusal) (b : Balances n r d entry exit answer)
       (h : working_size d (count_of r) ≤ length entry.working) where
     -- whether tables are short for K is whether they are for what was forecast
     short_is : any_short (size_at n r d) (all_columns entry.tables) ≡ any_short f.intervals (all_columns entry.tables)
     short_is = ap (λ (g : BalancedSize). any_short g.intervals (all_columns entry.tables)) told.1
 
-    says : balanced_says answer ≡ map_done interval_count (fill_of (size_at n r d) (tables_of n (balanced d n r)) entry.tables)
+    says : says answer ≡ map_done interval_count (fill_of (size_at n r d) (tables_of n (balanced d n r)) entry.tables)
     says = b.says ∙ ap (map_done interval_count) (balance_passed n r d entry (planned (length entry.working) h))
 
-    told_balancing : (Long f.intervals (all_columns entry.tables) → balanced_says answer ≡ done f.intervals)
-        × (any_short f.intervals (all_columns entry.tables) ≡ true → balanced_says answer ≡ refused 8 f.intervals)
+    told_balancing : (Long f.intervals (all_columns entry.tables) → says answer ≡ done f.intervals)
+        × (any_short f.intervals (all_columns entry.tables) ≡ true → says answer ≡ refused 8 f.intervals)
     unfolding map_done
     told_balancing = (
       λ l. says

@@ -1,6 +1,9 @@
 -- A whole list of calls is served as the plain walk answers it, if each single call is (the section's hypotheses): by
 -- induction over the calls, since each leaves the place and the interval that has it.
 use Prim.Native.Nat.{ℕ, ◌≤◌, ◌<◌}
+use Rattle.std.specs.Prelude.{Result}
+use Rattle.outcomes.specs.Refusal.{says}
+use Rattle.outcomes.specs.declared.Refusal.{Refusal}
 use mathlib.Core.Path.{◌≡◌, refl, ap, ◌∙◌}
 use mathlib.Core.Bool.{Bool, true, false}
 use mathlib.Core.List.{List, [], ◌∷◌, map}
@@ -9,8 +12,7 @@ use borrow.Author.Tests.{ltb-true, ltb-false, lt-leb, le-leb}
 use Rattle.outcomes.specs.Outcome.{Outcome, done, refused, judge}
 use Rattle.runs.specs.Runs.{Runs, run_at, map_of}
 use Rattle.tables.specs.Tables.{Tables}
-use Rattle.walks.specs.Move.{found_says, moved_says, find_of, move_of, moves_of}
-use Rattle.walks.specs.declared.Moved.{Moved}
+use Rattle.walks.specs.Move.{find_of, move_of, moves_of}
 use Rattle.walks.specs.declared.Step.{Step}
 use Rattle.demands.specs.Calls.{Call, find, move, moves, Reply, found, moved}
 use Rattle.walks.specs.Plain.{plain_move, plain_moves}
@@ -58,12 +60,12 @@ module _ (n : ℕ) (r t : Runs) (τ : Tables)
       (rw (moves_interval n r t m p) (same_replies cs (plain_moves n r t m p).place (moves_below n r t below m p h))))
 
 -- a move, or a repeated one, with the calls after it
-moved_next : (n : ℕ) (t : Tables) (p x : ℕ) (a : Moved) (ms : List Made)
-    → map reply_of ms ≡ served n t (place_after (moved_says a) p) (interval_after (moved_says a) x) (map call_of ms)
-    → {o : Outcome Step} → moved_says a ≡ o
-    → moved (moved_says a) ∷ map reply_of ms ≡ moved o ∷ served n t (place_after o p) (interval_after o x) (map call_of ms)
+moved_next : (n : ℕ) (t : Tables) (p x : ℕ) (a : Result Step Refusal) (ms : List Made)
+    → map reply_of ms ≡ served n t (place_after (says a) p) (interval_after (says a) x) (map call_of ms)
+    → {o : Outcome Step} → says a ≡ o
+    → moved (says a) ∷ map reply_of ms ≡ moved o ∷ served n t (place_after o p) (interval_after o x) (map call_of ms)
 moved_next n t p x a ms rest e =
-    ap (λ (l : List Reply). moved (moved_says a) ∷ l) rest
+    ap (λ (l : List Reply). moved (says a) ∷ l) rest
     ∙ ap (λ (o : Outcome Step). moved o ∷ served n t (place_after o p) (interval_after o x) (map call_of ms)) e
 
 -- calls that meet their contracts are the calls served
@@ -72,7 +74,7 @@ pub turns_served : (n : ℕ) (t : Tables) (ms : List Made) (p x : ℕ) → InTur
 unfolding served
 turns_served n t [] p x c = refl
 turns_served n t (find_made i a ∷ ms) p x c =
-    ap (λ (l : List Reply). found (found_says a) ∷ l) (turns_served n t ms _ _ c.1)
+    ap (λ (l : List Reply). found (says a) ∷ l) (turns_served n t ms _ _ c.1)
     ∙ ap (λ (o : Outcome ℕ). found o ∷ served n t (place_found o i p) (interval_found o x) (map call_of ms)) c.0
 turns_served n t (move_made a ∷ ms) p x c = moved_next n t p x a ms (turns_served n t ms _ _ c.1) c.0
 turns_served n t (moves_made m a ∷ ms) p x c = moved_next n t p x a ms (turns_served n t ms _ _ c.1) c.0

@@ -3,25 +3,25 @@
 -- definitions come to. What is promised of legal lists beside them stands in lists/specs/LegalLists, of small lists in
 -- permutations/specs/SmallLists, and of long files in listings/specs/Listing.
 use Rattle.std.specs.Prelude.{ℕ, suc, ◌+◌, ◌*◌, ◌^◌, ◌≤◌, ◌<◌, ◌≡◌, true, false, ◌↔◌, ◌⊎◌, List, [], ◌∷◌, ◌++◌, map, length, replicate}
+use Rattle.std.specs.Prelude.{Result}
+use Rattle.outcomes.specs.Refusal.{says}
+use Rattle.outcomes.specs.declared.Refusal.{Refusal}
+use Rattle.questions.specs.declared.Unanswered.{Unanswered}
 use Rattle.order.specs.Lists.{All, Strict}
 use Rattle.outcomes.specs.Outcome.{done, refused, any_short, Long, over}
-use Rattle.outcomes.specs.Refusal.{checked_says}
 use Rattle.runs.specs.Runs.{Runs, count_of, start_of, run_at, map_of, power_of, carry_back}
 use Rattle.runs.specs.Legal.{Legal, DisjointIntervals, IntervalSequence, SplitPermutation}
 use Rattle.runs.specs.Weight.{under, weight}
 use Rattle.runs.specs.Check.{max_runs, check_tests, check_of, write_tests}
 use Rattle.lists.specs.Inverse.{inverse_runs, inverse_list_of, InverseListed}
-use Rattle.outcomes.specs.declared.Checked.{Checked}
-use Rattle.permutations.specs.Next.{next_tests, next_runs, next_of, next_says, NextListed}
-use Rattle.permutations.specs.declared.Next.{Next}
+use Rattle.permutations.specs.Next.{next_tests, next_runs, next_of, NextListed}
 use Rattle.tables.specs.Tables.{Tables, size_of, links_of, lengths_of, tables_of, max_intervals, all_columns, misshapen, wrong_at, all_lengths}
 use Rattle.tables.specs.Parts.{Measured}
-use Rattle.walks.specs.Move.{moved_says, find_tests, locate_tests, move_tests, found_at, step_of, stay_at, find_of, move_of, moves_of, Stopped, ReadsTo, LiesIn}
+use Rattle.walks.specs.Move.{find_tests, locate_tests, move_tests, found_at, step_of, stay_at, find_of, move_of, moves_of, Stopped, ReadsTo, LiesIn}
 use Rattle.preimages.specs.Inverse.{source_of, inverse_tests, inverse_of}
 use Rattle.weights.specs.Under.{under_tests, under_count, weight_of, under_at, under_of, starts_under_of}
 use Rattle.walks.specs.Linked.{linked_find, linked_move, linked_moves}
 use Rattle.walks.specs.declared.Step.{Step}
-use Rattle.walks.specs.declared.Moved.{Moved}
 use Rattle.bookmarks.specs.Bookmark.{bookmark_tests, bookmark_of, fresh, with_distance, Advances, marking, marked_says, marking_of}
 use Rattle.bookmarks.specs.declared.Bookmark.{Bookmark}
 use Rattle.bookmarks.specs.declared.Marked.{Marked}
@@ -29,17 +29,13 @@ use Rattle.questions.specs.Questions.{answered_says, places_of, place_at, questi
 use Rattle.questions.specs.Agree.{Agrees, OnePass}
 use Rattle.questions.specs.Plain.{plain_answers, plain_question}
 use Rattle.questions.specs.declared.Question.{Question}
-use Rattle.questions.specs.declared.Answered.{Answered}
 use Rattle.cuts.specs.Balance.{cutting, balanced, bound_of, size_at}
 use Rattle.plans.specs.Working.{working_size, plan_tests, planned_of}
-use Rattle.balance.specs.Lent.{Lent, lent_columns, Room, first_of, balanced_says, balance_tests, balance_of, Balances}
-use Rattle.balance.specs.declared.Balanced.{Balanced}
-use Rattle.forecasts.specs.Sizing.{forecasted_says, forecast_at, forecast_of, Forecasts}
+use Rattle.balance.specs.Lent.{Lent, lent_columns, Room, first_of, balance_tests, balance_of, Balances}
+use Rattle.forecasts.specs.Sizing.{forecast_at, forecast_of, Forecasts}
 use Rattle.forecasts.specs.declared.BalancedSize.{BalancedSize}
-use Rattle.forecasts.specs.declared.Forecasted.{Forecasted}
-use Rattle.forecasts.specs.Seeking.{sought_says, least_at, degree_tests, least_degree_of, Seeks}
+use Rattle.forecasts.specs.Seeking.{least_at, degree_tests, least_degree_of, Seeks}
 use Rattle.forecasts.specs.declared.LeastDegree.{LeastDegree}
-use Rattle.forecasts.specs.declared.Sought.{Sought}
 use Rattle.files.specs.Words.{header_of}
 use Rattle.files.specs.File.{file_tests, file_of}
 use Rattle.files.specs.Right.{RightFile}
@@ -128,22 +124,22 @@ pub record Demand1 : Type 0 where
   pub file : (most : ℕ) (bytes : List ℕ)
       → Judged (15 ∷ 1 ∷ 2 ∷ 15 ∷ 15 ∷ 15 ∷ 3 ∷ 4 ∷ 5 ∷ 6 ∷ 7 ∷ []) (file_tests most bytes) (header_of bytes) (file_of most bytes)
   -- what is lent, after a refusal
-  pub inverse_list_kept : (n : ℕ) (r : Runs) (a b a' b' : List ℕ) (o : Checked) → InverseListed n r a b a' b' o
-      → (k p : ℕ) → checked_says o ≡ refused k p → (a' ≡ a) × (b' ≡ b)
+  pub inverse_list_kept : (n : ℕ) (r : Runs) (a b a' b' : List ℕ) (o : Result (Unit {0}) Refusal) → InverseListed n r a b a' b' o
+      → (k p : ℕ) → says o ≡ refused k p → (a' ≡ a) × (b' ≡ b)
   -- of balancing: the four tables, always; the working table unless the refusal is 8 with K
-  pub balance_kept : (n : ℕ) (r : Runs) (d : ℕ) (entry exit : Lent) (o : Balanced) → Balances n r d entry exit o
-      → (k p : ℕ) → balanced_says o ≡ refused k p
+  pub balance_kept : (n : ℕ) (r : Runs) (d : ℕ) (entry exit : Lent) (o : Result ℕ Refusal) → Balances n r d entry exit o
+      → (k p : ℕ) → says o ≡ refused k p
       → (exit.tables ≡ entry.tables) × KeptUnless 8 (size_at n r d) n r d entry.working exit.working k p
-  pub forecast_kept : (n : ℕ) (r : Runs) (d : ℕ) (entry exit : List ℕ) (o : Forecasted) → Forecasts n r d entry exit o
-      → (k p : ℕ) → forecasted_says o ≡ refused k p → exit ≡ entry
+  pub forecast_kept : (n : ℕ) (r : Runs) (d : ℕ) (entry exit : List ℕ) (o : Result BalancedSize Refusal) → Forecasts n r d entry exit o
+      → (k p : ℕ) → says o ≡ refused k p → exit ≡ entry
   -- of the search, whose working table is that of degree 2: the same unless it is 19
-  pub least_degree_kept : (n : ℕ) (r : Runs) (entries : ℕ) (entry exit : List ℕ) (o : Sought) → Seeks n r entries entry exit o
-      → (k p : ℕ) → sought_says o ≡ refused k p → KeptUnless 19 entries n r 2 entry exit k p
-  pub bookmark_kept : (n : ℕ) (t : Tables) (b : Bookmark) (m : Moved) (left : Bookmark) → Advances n t b m left
-      → (k p : ℕ) → moved_says m ≡ refused k p → left ≡ b
-  pub next_list_kept : (n : ℕ) (r : Runs) (a b a' b' : List ℕ) (x : Next) → NextListed n r a b a' b' x
-      → (k p : ℕ) → next_says x ≡ refused k p → (a' ≡ a) × (b' ≡ b)
-  pub questions_kept : (n : ℕ) (t : Tables) (qs : List Question) (a : Answered) (left : List Question) → Answers n t qs a left
+  pub least_degree_kept : (n : ℕ) (r : Runs) (entries : ℕ) (entry exit : List ℕ) (o : Result LeastDegree Refusal) → Seeks n r entries entry exit o
+      → (k p : ℕ) → says o ≡ refused k p → KeptUnless 19 entries n r 2 entry exit k p
+  pub bookmark_kept : (n : ℕ) (t : Tables) (b : Bookmark) (m : Result Step Refusal) (left : Bookmark) → Advances n t b m left
+      → (k p : ℕ) → says m ≡ refused k p → left ≡ b
+  pub next_list_kept : (n : ℕ) (r : Runs) (a b a' b' : List ℕ) (x : Result ℕ Refusal) → NextListed n r a b a' b' x
+      → (k p : ℕ) → says x ≡ refused k p → (a' ≡ a) × (b' ≡ b)
+  pub questions_kept : (n : ℕ) (t : Tables) (qs : List Question) (a : Result ℕ Unanswered) (left : List Question) → Answers n t qs a left
       → (k p : ℕ) → answered_says a ≡ refused k p → left ≡ qs
 
 -- DEMAND 2. The lists that are accepted are the disjoint interval sequences, as Nishimoto and Tabei define them, of at most
@@ -207,10 +203,10 @@ pub record Demand2 : Type 0 where
   -- more unless that interval is the table's last. So it is for a bookmark, which adds it to its own, and for a question's record; a
   -- repeated move's is the sum (`onwards`).
   pub move_reads : (n : ℕ) (t : Tables) (x i : ℕ) (s : Step) → move_of n t x i ≡ done s → ReadsTo t.links x s.interval s.count
-  pub bookmark_reads : (n : ℕ) (t : Tables) (b : Bookmark) (m : Moved) (left : Bookmark) → Advances n t b m left
-      → (s : Step) → moved_says m ≡ done s
+  pub bookmark_reads : (n : ℕ) (t : Tables) (b : Bookmark) (m : Result Step Refusal) (left : Bookmark) → Advances n t b m left
+      → (s : Step) → says m ≡ done s
       → ReadsTo t.links b.interval s.interval s.count × (left.count ≡ b.count + s.count)
-  pub questions_read : (n : ℕ) (t : Tables) (qs : List Question) (a : Answered) (left : List Question) → Answers n t qs a left
+  pub questions_read : (n : ℕ) (t : Tables) (qs : List Question) (a : Result ℕ Unanswered) (left : List Question) → Answers n t qs a left
       → (c : ℕ) → answered_says a ≡ done c → All (λ q. ReadsTo t.links q.interval q.to_interval q.count) left
   -- The distance that a call answers, on any tables: the interval reached is one of the table's, its start is not above the place
   -- reached, the difference is exact, and it is below the interval's length as the starts tell it. A bookmark holds the same from
@@ -219,10 +215,10 @@ pub record Demand2 : Type 0 where
       → LiesIn n t.links s.interval s.place s.distance
   pub moves_distance : (n : ℕ) (t : Tables) (m x i : ℕ) (s : Step) → moves_of n t m x i ≡ done s
       → LiesIn n t.links s.interval s.place s.distance
-  pub bookmark_distance : (n : ℕ) (t : Tables) (b : Bookmark) (m : Moved) (left : Bookmark) → Advances n t b m left
-      → (s : Step) → moved_says m ≡ done s
+  pub bookmark_distance : (n : ℕ) (t : Tables) (b : Bookmark) (m : Result Step Refusal) (left : Bookmark) → Advances n t b m left
+      → (s : Step) → says m ≡ done s
       → LiesIn n t.links s.interval s.place s.distance × LiesIn n t.links left.interval left.place left.distance
-  pub questions_distance : (n : ℕ) (t : Tables) (qs : List Question) (a : Answered) (left : List Question) → Answers n t qs a left
+  pub questions_distance : (n : ℕ) (t : Tables) (qs : List Question) (a : Result ℕ Unanswered) (left : List Question) → Answers n t qs a left
       → (c : ℕ) → answered_says a ≡ done c → All (λ q. LiesIn n t.links q.to_interval q.to_place q.distance) left
   -- the one that a bookmark held before is not read, on any tables: with any other the answer is the same, and where the move is
   -- made, so is the bookmark that it leaves
@@ -230,20 +226,20 @@ pub record Demand2 : Type 0 where
   pub distance_forgotten : (n : ℕ) (t : Tables) (b : Bookmark) (g : ℕ) (s : Step) → bookmark_of n t b ≡ done s
       → marking_of n t (with_distance g b) ≡ marking_of n t b
   -- questions that are answered together, on any tables: each record agrees with find and move done alone
-  pub questions_agree : (n : ℕ) (t : Tables) (qs : List Question) (a : Answered) (left : List Question) → Answers n t qs a left
+  pub questions_agree : (n : ℕ) (t : Tables) (qs : List Question) (a : Result ℕ Unanswered) (left : List Question) → Answers n t qs a left
       → (c : ℕ) → answered_says a ≡ done c → All (Agrees n t) left
   -- where they are refused with 11, so is find alone for the place given, which is a record's; where with 12, so is find alone for
   -- every place, by the lengths, or a move alone from a record's place and the interval given, which find gives for it
-  pub questions_unfound : (n : ℕ) (t : Tables) (qs : List Question) (a : Answered) (left : List Question) → Answers n t qs a left
+  pub questions_unfound : (n : ℕ) (t : Tables) (qs : List Question) (a : Result ℕ Unanswered) (left : List Question) → Answers n t qs a left
       → (p : ℕ) → answered_says a ≡ refused 11 p
       → (j : ℕ) × (j < length (places_of qs)) × (place_at (places_of qs) j ≡ p) × (find_of n t p ≡ refused 11 p)
-  pub questions_unmoved : (n : ℕ) (t : Tables) (qs : List Question) (a : Answered) (left : List Question) → Answers n t qs a left
+  pub questions_unmoved : (n : ℕ) (t : Tables) (qs : List Question) (a : Result ℕ Unanswered) (left : List Question) → Answers n t qs a left
       → (x : ℕ) → answered_says a ≡ refused 12 x
       → ((i : ℕ) → find_of n t i ≡ refused 12 x)
       ⊎ ((j : ℕ) × (j < length (places_of qs)) × (find_of n t (place_at (places_of qs) j) ≡ done x)
       × (move_of n t x (place_at (places_of qs) j) ≡ refused 12 x))
   -- where they are answered, one pass over the places finds each record's interval and counts the answer, the last one's
-  pub questions_pass : (n : ℕ) (t : Tables) (qs : List Question) (a : Answered) (left : List Question) → Answers n t qs a left
+  pub questions_pass : (n : ℕ) (t : Tables) (qs : List Question) (a : Result ℕ Unanswered) (left : List Question) → Answers n t qs a left
       → (c : ℕ) → answered_says a ≡ done c → OnePass t.links (places_of qs) left c
   -- Lengths, on any tables of matched counts. Where all are right the starts rise and lie below n, and find and repeated moves are
   -- those through the first three columns; so is a move where that of its interval, if there is one, is right.
@@ -307,24 +303,24 @@ pub record Serves (n : ℕ) (r t : Runs) (d : ℕ) (τ : Tables) : Type 0 where
   pub advance_bounds : (p g : ℕ) → p < n → (ms : List Marked) → Advancing n τ (fresh p (run_at n t p) g) ms
       → All (λ m. Bounded (max_count d) (marked_says m)) ms
   pub advance_total : (p g : ℕ) → p < n → (ms : List Marked) → Advancing n τ (fresh p (run_at n t p) g) ms
-      → total (map (λ m. count_of_move (moved_says m.moved)) ms) ≤ length ms * max_count d
+      → total (map (λ m. count_of_move (says m.moved)) ms) ≤ length ms * max_count d
   -- Questions together, over the contract of `answer` and for any records: the answer, and each record as the plain walk's find
   -- and move would fill it in. Where they are answered, the count of each record, and all of them together.
-  pub same_questions : (qs : List Question) (a : Answered) (left : List Question) → Answers n τ qs a left
+  pub same_questions : (qs : List Question) (a : Result ℕ Unanswered) (left : List Question) → Answers n τ qs a left
       → (answered_says a ≡ plain_answers n t (places_of qs))
       × (left ≡ records_after (plain_question n r t) (plain_answers n t (places_of qs)) qs)
-  pub question_bounds : (qs : List Question) (a : Answered) (left : List Question) → Answers n τ qs a left
+  pub question_bounds : (qs : List Question) (a : Result ℕ Unanswered) (left : List Question) → Answers n τ qs a left
       → (c : ℕ) → answered_says a ≡ done c → All (λ q. q.count ≤ max_count d) left
-  pub question_total : (qs : List Question) (a : Answered) (left : List Question) → Answers n τ qs a left
+  pub question_total : (qs : List Question) (a : Result ℕ Unanswered) (left : List Question) → Answers n τ qs a left
       → (c : ℕ) → answered_says a ≡ done c → total (map (λ q. q.count) left) ≤ length left * max_count d
 
 -- balancing into lent tables with this much room, and what is promised of the tables that it fills
 abbrev pub BalancesFor : (ℕ → Runs → ℕ → Lent → Type 0) → Type 0
 BalancesFor Enough =
-    (n : ℕ) (r : Runs) (d : ℕ) (entry exit : Lent) (answer : Balanced)
+    (n : ℕ) (r : Runs) (d : ℕ) (entry exit : Lent) (answer : Result ℕ Refusal)
     → Balances n r d entry exit answer
     → check_of n r ≡ done tt → 2 ≤ d → d ≤ 64 → Enough n r d entry
-    → (k : ℕ) × (balanced_says answer ≡ done k) × (k ≤ bound_of d (count_of r)) × Serves n r (balanced d n r) d (first_of k exit)
+    → (k : ℕ) × (says answer ≡ done k) × (k ≤ bound_of d (count_of r)) × Serves n r (balanced d n r) d (first_of k exit)
 
 -- K entries are enough; and so are B in all that is lent, which is document 01's own form
 abbrev pub Demand3 : Type 0
@@ -340,10 +336,10 @@ pub record Foretold : Type 0 where
   pub cuts : (n : ℕ) (r : Runs) (d room : ℕ) (f : BalancedSize) → forecast_of n r d room ≡ done f → f.intervals ≡ count_of r + f.cuts
   -- balancing with a working table of B entries, into tables of as many as were forecast, or of which one has fewer
   pub balancing : (n : ℕ) (r : Runs) (d room : ℕ) (f : BalancedSize) → forecast_of n r d room ≡ done f
-      → (entry exit : Lent) (answer : Balanced) → Balances n r d entry exit answer
+      → (entry exit : Lent) (answer : Result ℕ Refusal) → Balances n r d entry exit answer
       → working_size d (count_of r) ≤ length entry.working
-      → (Long f.intervals (all_columns entry.tables) → balanced_says answer ≡ done f.intervals)
-      × (any_short f.intervals (all_columns entry.tables) ≡ true → balanced_says answer ≡ refused 8 f.intervals)
+      → (Long f.intervals (all_columns entry.tables) → says answer ≡ done f.intervals)
+      × (any_short f.intervals (all_columns entry.tables) ≡ true → says answer ≡ refused 8 f.intervals)
   pub least : (n : ℕ) (r : Runs) (entries room : ℕ) (a : LeastDegree) → least_degree_of n r entries room ≡ done a
       → (2 ≤ a.degree) × (a.degree ≤ 64) × (a.intervals ≡ size_at n r a.degree) × (a.intervals ≤ entries)
       × ((e : ℕ) → 2 ≤ e → e < a.degree → entries < size_at n r e)

@@ -1,10 +1,11 @@
 -- The same calls served by tables, each from where the one before left off.
 use Rattle.std.specs.Prelude.{ℕ, zero, suc, List, [], ◌∷◌}
+use Rattle.std.specs.Prelude.{Result}
+use Rattle.outcomes.specs.Refusal.{says}
+use Rattle.outcomes.specs.declared.Refusal.{Refusal}
 use Rattle.outcomes.specs.Outcome.{Outcome, done, refused}
 use Rattle.tables.specs.Tables.{Tables}
-use Rattle.walks.specs.Move.{found_says, moved_says, find_of, move_of, moves_of, Finds, MovesOnce, MovesOften}
-use Rattle.walks.specs.declared.Found.{Found}
-use Rattle.walks.specs.declared.Moved.{Moved}
+use Rattle.walks.specs.Move.{find_of, move_of, moves_of, Finds, MovesOnce, MovesOften}
 use Rattle.bookmarks.specs.Bookmark.{Advances, Marking, marking_of}
 use Rattle.walks.specs.declared.Step.{Step}
 use Rattle.bookmarks.specs.declared.Bookmark.{Bookmark}
@@ -31,9 +32,9 @@ interval_found (refused k q) x = x
 
 -- A call with the answer that it gave.
 pub data Made : Type 0 where
-  find_made : ℕ → Found → Made
-  move_made : Moved → Made
-  moves_made : ℕ → Moved → Made
+  find_made : ℕ → Result ℕ Refusal → Made
+  move_made : Result Step Refusal → Made
+  moves_made : ℕ → Result Step Refusal → Made
 
 abbrev pub call_of : Made → Call
 call_of (find_made i a) = find i
@@ -42,9 +43,9 @@ call_of (moves_made m a) = moves m
 
 -- the answer in the paper's numbers
 abbrev pub reply_of : Made → Reply
-reply_of (find_made i a) = found (found_says a)
-reply_of (move_made a) = moved (moved_says a)
-reply_of (moves_made m a) = moved (moved_says a)
+reply_of (find_made i a) = found (says a)
+reply_of (move_made a) = moved (says a)
+reply_of (moves_made m a) = moved (says a)
 
 module _ (n : ℕ) (t : Tables) where
   unfoldable pub served : ℕ → ℕ → List Call → List Reply
@@ -61,11 +62,11 @@ module _ (n : ℕ) (t : Tables) where
   abbrev pub InTurn : ℕ → ℕ → List Made → Type 0
   InTurn p x [] = Unit {0}
   InTurn p x (find_made i a ∷ ms) =
-      Finds n t i a × InTurn (place_found (found_says a) i p) (interval_found (found_says a) x) ms
+      Finds n t i a × InTurn (place_found (says a) i p) (interval_found (says a) x) ms
   InTurn p x (move_made a ∷ ms) =
-      MovesOnce n t x p a × InTurn (place_after (moved_says a) p) (interval_after (moved_says a) x) ms
+      MovesOnce n t x p a × InTurn (place_after (says a) p) (interval_after (says a) x) ms
   InTurn p x (moves_made m a ∷ ms) =
-      MovesOften n t m x p a × InTurn (place_after (moved_says a) p) (interval_after (moved_says a) x) ms
+      MovesOften n t m x p a × InTurn (place_after (says a) p) (interval_after (says a) x) ms
 
   -- the moves of a bookmark stand in a list of their own: k of them
   unfoldable pub served_trail : ℕ → Bookmark → List Marking

@@ -16,11 +16,11 @@ use Rattle.outcomes.proofs.Degrees.{degree_in}
 use Rattle.runs.proofs.Accepted.{accepted_legal}
 use Rattle.tables.specs.Tables.{Tables, tables_of}
 use Rattle.cuts.specs.Balance.{balanced, bound_of}
-use Rattle.balance.specs.Lent.{Lent, lent_columns, Room, first_of, balanced_says, balance_of, interval_count, Balances}
+use Rattle.std.specs.Prelude.{Result, Ok, Err}
+use Rattle.outcomes.specs.Refusal.{says}
+use Rattle.balance.specs.Lent.{Lent, lent_columns, Room, first_of, balance_of, interval_count, Balances}
 use Rattle.plans.proofs.Outcomes.{sized_degree, planned_refused, planned_accepted}
 use Rattle.balance.proofs.Outcomes.{balance_refused, balance_done, room_in_bound}
-use Rattle.balance.specs.declared.Balanced.{Balanced}
-use Rattle.balance.specs.declared.Balanced.TheVariants.{Intervals, Refused}
 use Rattle.cuts.proofs.Balancing.{balanced_legal, balanced_cuts}
 use Rattle.balance.proofs.Heads.{head_is, head_room}
 use Rattle.files.specs.Parts.{degree_of, listed_of}
@@ -64,22 +64,22 @@ module _ (h : Header) (r : Runs) (few : count_of r ≤ max_listed) (entry : Lent
       go (done _) a = degrees a (no_degree h.d) refl
       go (refused k p) a = balance_refused h.n r h.d entry k p (sym (planned_refused h.n r h.d _ k p (sym a)))
 
-  module _ (exit : Lent) (answer : Balanced) (b : Balances h.n r h.d entry exit answer) where
-    says : balanced_says answer ≡ map_done (λ g. interval_count goal) (listed_of h r)
+  module _ (exit : Lent) (answer : Result ℕ Refusal) (b : Balances h.n r h.d entry exit answer) where
+    told : says answer ≡ map_done (λ g. interval_count goal) (listed_of h r)
     unfolding map_done
-    says = b.says ∙ ap (map_done interval_count) balance_listed ∙ go (listed_of h r)
+    told = b.says ∙ ap (map_done interval_count) balance_listed ∙ go (listed_of h r)
       where
         go : (o : Outcome Header) → map_done interval_count (map_done (λ g. goal) o) ≡ map_done (λ g. interval_count goal) o
         go (done g) = refl
         go (refused k p) = refl
 
     -- a refusal
-    refused_text : (f : Refusal) → answer ≡ Refused f → list_text r (listed_of h r) ≡ answer_text h answer exit.tables.links.list
+    refused_text : (f : Refusal) → answer ≡ Err f → list_text r (listed_of h r) ≡ answer_text h answer exit.tables.links.list
     unfolding map_done list_text answer_text
-    refused_text f q = rw q (go (listed_of h r) (sym (ap balanced_says q) ∙ says))
+    refused_text f q = rw q (go (listed_of h r) (sym (ap says q) ∙ told))
       where
         go : (o : Outcome Header) → refused (number_of f) (place_of f) ≡ map_done (λ g. interval_count goal) o
-            → list_text r o ≡ answer_text h (Refused f) exit.tables.links.list
+            → list_text r o ≡ answer_text h (Err f) exit.tables.links.list
         go (done g) z = absurd (done_refused (interval_count goal) (number_of f) (place_of f) (sym z))
         go (refused k p) z =
             let u : k ≡ number_of f = cc in
@@ -87,10 +87,10 @@ module _ (h : Header) (r : Runs) (few : count_of r ≤ max_listed) (entry : Lent
             rw (u, v)
 
     -- an answer of k intervals: the tests have passed
-    module _ (k : ℕ) (q : answer ≡ Intervals k) where
+    module _ (k : ℕ) (q : answer ≡ Ok k) where
       passed : (listed_of h r ≡ done h) × (k ≡ count_of (balanced h.d h.n r))
       unfolding map_done
-      passed = go (listed_of h r) refl (sym (ap balanced_says q) ∙ says)
+      passed = go (listed_of h r) refl (sym (ap says q) ∙ told)
         where
           go : (o : Outcome Header) → listed_of h r ≡ o → done k ≡ map_done (λ g. interval_count goal) o
               → (listed_of h r ≡ done h) × (k ≡ count_of (balanced h.d h.n r))
@@ -121,11 +121,11 @@ module _ (h : Header) (r : Runs) (few : count_of r ≤ max_listed) (entry : Lent
     text_is : list_text r (listed_of h r) ≡ answer_text h answer exit.tables.links.list
     text_is = go answer refl
       where
-        go : (a : Balanced) → answer ≡ a → list_text r (listed_of h r) ≡ answer_text h answer exit.tables.links.list
-        go (Intervals k) q = table_text_lem k q
-        go (Refused f) q = refused_text f q
+        go : (a : Result ℕ Refusal) → answer ≡ a → list_text r (listed_of h r) ≡ answer_text h answer exit.tables.links.list
+        go (Ok k) q = table_text_lem k q
+        go (Err f) q = refused_text f q
 
-module _ (h : Header) (r : Runs) (few : count_of r ≤ max_listed) (entry exit : Lent) (answer : Balanced)
+module _ (h : Header) (r : Runs) (few : count_of r ≤ max_listed) (entry exit : Lent) (answer : Result ℕ Refusal)
     (b : Balances h.n r h.d entry exit answer) (s : Long max_tabled (lent_columns entry)) where
   pub answered : Answered h.n answer exit.tables
   answered k q = (heads h r few entry s exit answer b k q).0

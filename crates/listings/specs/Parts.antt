@@ -1,12 +1,11 @@
 -- What the parts of `list_file` ask and promise.
-use Rattle.std.specs.Prelude.{ℕ, ◌≤◌, ◌≡◌, List, take}
+use Rattle.std.specs.Prelude.{ℕ, ◌≤◌, ◌≡◌, List, take, Result, Ok, Err}
 use Rattle.runs.specs.Runs.{Runs, runs}
 use Rattle.runs.specs.Legal.{Legal}
 use Rattle.outcomes.specs.Outcome.{Long}
 use Rattle.outcomes.specs.Refusal.{number_of, place_of}
 use Rattle.tables.specs.Tables.{Tables, tables_of, size_of, all_columns, each_column}
-use Rattle.balance.specs.declared.Balanced.{Balanced}
-use Rattle.balance.specs.declared.Balanced.TheVariants.{Intervals, Refused}
+use Rattle.outcomes.specs.declared.Refusal.{Refusal}
 use Rattle.text.specs.Text.{refusal_text}
 use Rattle.files.specs.declared.Header.{Header}
 use Rattle.listings.specs.Listing.{table_text}
@@ -33,9 +32,9 @@ pub record Listed (n : ℕ) (t : Tables) : Type 0 where
   pub few : size_of t.links ≤ max_tabled
 
 -- what an answer of balancing makes the text, with the first tables as it left them
-unfoldable pub answer_text : Header → Balanced → Runs → List ℕ
-answer_text h (Intervals k) t = table_text h (runs (take k t.starts) (take k t.images))
-answer_text h (Refused r) t = refusal_text (number_of r) (place_of r)
+unfoldable pub answer_text : Header → Result ℕ Refusal → Runs → List ℕ
+answer_text h (Ok k) t = table_text h (runs (take k t.starts) (take k t.images))
+answer_text h (Err r) t = refusal_text (number_of r) (place_of r)
 
 -- the first k entries of tables are to be listed
 pub record Tabled (n k : ℕ) (t : Tables) : Type 0 where
@@ -43,5 +42,5 @@ pub record Tabled (n k : ℕ) (t : Tables) : Type 0 where
   pub listed : Listed n (each_column (take k) t)
 
 -- and these are they, where balancing answered k intervals
-abbrev pub Answered : ℕ → Balanced → Tables → Type 0
-Answered n answer t = (k : ℕ) → answer ≡ Intervals k → Tabled n k t
+abbrev pub Answered : ℕ → Result ℕ Refusal → Tables → Type 0
+Answered n answer t = (k : ℕ) → answer ≡ Ok k → Tabled n k t

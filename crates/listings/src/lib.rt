@@ -10,8 +10,8 @@ mod table;
 ghost use Rattle.std.specs.Prelude.{◌≡◌, ◌≤◌, length, ltb};
 ghost use Rattle.outcomes.specs.Outcome.{◌then◌else◌};
 ghost use Rattle.outcomes.specs.Refusal.{number_of, place_of};
-ghost use Rattle.runs.specs.Runs.{runs};
-ghost use Rattle.tables.specs.Tables.{tables};
+ghost use Rattle.runs.specs.Runs.{runs, runs_in};
+ghost use Rattle.tables.specs.Tables.{tables_in};
 ghost use Rattle.text.specs.Text.{refusal_text};
 ghost use Rattle.text.specs.Page.{Wrote};
 ghost use Rattle.files.specs.Words.{runs_of};
@@ -19,10 +19,11 @@ ghost use Rattle.files.specs.Parts.{Laid, ListRoom, listed_of, body_of};
 ghost use Rattle.listings.specs.Listing.{max_listed, list_text, listing_of, FileListed};
 ghost use Rattle.listings.specs.Parts.{max_text, Answered, answer_text};
 
-use balance::Balanced;
-use files::{FileChecked, Header};
+use files::Header;
 use outcomes::Refusal;
+use runs::RunList;
 use table::table;
+use tables::MoveTable;
 
 // The most runs that are listed.
 pub const MAX_LISTED: usize = 1024;
@@ -45,55 +46,43 @@ fn refusal_line(page: &mut [u8], r: Refusal) -> usize
 }
 
 // Writes what balancing answered: the listing of the tables that it filled, or its refusal.
-fn answer_text(
-    page: &mut [u8],
-    h: Header,
-    answer: Balanced,
-    starts: &[u32],
-    images: &[u32],
-    holders: &[u32],
-    lengths: &[u32],
-) -> usize
-    requires { Answered h.n answer (tables starts.now images.now holders.now lengths.now)
-        × (max_text ≤ length page.old) }
-    ensures { Wrote page.old 0 (answer_text h answer (runs starts.now images.now)) page.new result }
+fn answer_text(page: &mut [u8], h: Header, answer: Result<u32, Refusal>, lent: MoveTable<'_>) -> usize
+    requires { Answered h.n answer (tables_in lent) × (lent.n ≡ h.n) × (max_text ≤ length page.old) }
+    ensures { Wrote page.old 0 (answer_text h answer (runs lent.entry.starts.now lent.entry.images.now)) page.new result }
 {
     match answer {
-        Balanced::Refused(r) => refusal_line(page, r),
-        Balanced::Intervals(k) => table(page, h, k, starts, images, holders, lengths),
+        Err(r) => refusal_line(page, r),
+        Ok(k) => table(page, h, k, lent),
     }
 }
 
 // Balances a list, and writes its listing or the refusal: tests 1 to 7, for 8 cannot apply to so few runs.
-fn list_runs(page: &mut [u8], h: Header, starts: &[u32], images: &[u32]) -> usize
-    requires { (length starts.now ≤ max_listed) × (max_text ≤ length page.old) }
-    ensures { Wrote page.old 0 (list_text (runs starts.now images.now) (listed_of h (runs starts.now images.now))) page.new result }
+fn list_runs(page: &mut [u8], h: Header, list: RunList<'_>) -> usize
+    requires { (length list.starts.now ≤ max_listed) × (list.n ≡ h.n) × (max_text ≤ length page.old) }
+    ensures { Wrote page.old 0 (list_text (runs_in list.entry) (listed_of h (runs_in list.entry))) page.new result }
 {
-    let mut to_starts: [u32; MAX_TABLED] = [0; MAX_TABLED];
-    let mut to_images: [u32; MAX_TABLED] = [0; MAX_TABLED];
-    let mut to_holders: [u32; MAX_TABLED] = [0; MAX_TABLED];
-    let mut to_lengths: [u32; MAX_TABLED] = [0; MAX_TABLED];
-    let mut working: [u32; MAX_TABLED] = [0; MAX_TABLED];
+    let mut starts = [0; MAX_TABLED];
+    let mut images = [0; MAX_TABLED];
+    let mut holders = [0; MAX_TABLED];
+    let mut lengths = [0; MAX_TABLED];
+    let mut working = [0; MAX_TABLED];
     let answer = balance::balance(
-        h.n,
-        starts,
-        images,
+        list,
         h.d,
-        &mut to_starts,
-        &mut to_images,
-        &mut to_holders,
-        &mut to_lengths,
+        &mut starts,
+        &mut images,
+        &mut holders,
+        &mut lengths,
         &mut working,
     );
-    answer_text(
-        page,
-        h,
-        answer,
-        &to_starts,
-        &to_images,
-        &to_holders,
-        &to_lengths,
-    )
+    let lent = MoveTable {
+        n: h.n,
+        starts: &starts,
+        images: &images,
+        holders: &holders,
+        lengths: &lengths,
+    };
+    answer_text(page, h, answer, lent)
 }
 
 // Reads the list of a file whose header is right, and writes its listing or the refusal, with room for the list.
@@ -108,7 +97,12 @@ fn list_read(
     ensures { Wrote page.old 0 (list_text (runs_of file.now) (body_of file.now)) page.new result }
 {
     files::read_list(file, h.k as usize, starts, images);
-    list_runs(page, h, starts, images)
+    let list = RunList {
+        n: h.n,
+        starts,
+        images,
+    };
+    list_runs(page, h, list)
 }
 
 // The same, with room of its own.
@@ -117,8 +111,8 @@ fn list_body(page: &mut [u8], file: &[u8], h: Header) -> usize
     ensures { Wrote page.old 0 (list_text (runs_of file.now) (body_of file.now)) page.new result }
 {
     let k = h.k as usize;
-    let mut starts: [u32; MAX_LISTED] = [0; MAX_LISTED];
-    let mut images: [u32; MAX_LISTED] = [0; MAX_LISTED];
+    let mut starts = [0; MAX_LISTED];
+    let mut images = [0; MAX_LISTED];
     list_read(page, file, h, &mut starts[..k], &mut images[..k])
 }
 
@@ -128,8 +122,8 @@ fn listing(page: &mut [u8], file: &[u8]) -> usize
     ensures { Wrote page.old 0 (listing_of file.now) page.new result }
 {
     match files::read_header(file, MAX_LISTED) {
-        FileChecked::Refused(r) => refusal_line(page, r),
-        FileChecked::Read(h) => list_body(page, file, h),
+        Err(r) => refusal_line(page, r),
+        Ok(h) => list_body(page, file, h),
     }
 }
 
@@ -137,10 +131,7 @@ fn listing(page: &mut [u8], file: &[u8]) -> usize
 fn fitting(count: usize, room: usize) -> usize
     ensures { result ≡ (ltb room count then 0 else count) }
 {
-    if room < count {
-        return 0;
-    }
-    count
+    if room < count { 0 } else { count }
 }
 
 // Writes the listing by way of a page, so that a text that is too short is left alone.
@@ -158,6 +149,6 @@ fn list_by(page: &mut [u8], file: &[u8], text: &mut [u8]) -> usize
 pub fn list_file(file: &[u8], text: &mut [u8]) -> usize
     ensures { FileListed file.now text.old text.new result }
 {
-    let mut page: [u8; MAX_TEXT] = [0; MAX_TEXT];
+    let mut page = [0; MAX_TEXT];
     list_by(&mut page, file, text)
 }
