@@ -6,6 +6,9 @@ use mathlib.Core.List.{List}
 use native.Mathlib.Numerals.{add-one}
 use native.Mathlib.Omega.{arith}
 use lib.ListN.{get_or}
+use lib.Dec.{ltb}
+use mir.Val.{bool_byte}
+use borrow.Author.Tests.{lt-ltb, le-ltb}
 use Rattle.order.specs.Lists.{count_below}
 use Rattle.order.proofs.Laws.{lt_or_le, at_all, strict_sorted, strict_length, count_le_length, count_lt, count_gt}
 use Rattle.runs.specs.Legal.{Legal}
@@ -26,6 +29,20 @@ module _ (starts : List ℕ) (p top : ℕ) (w : NotBelow starts p top) where
         omega (arith, w.held),
         record { sorted = w.sorted; held = w.held; above = omega (arith, w.held); known = omega (arith, w.known) },
       )
+
+  -- so much is subtracted: 1 where the run at `top` starts above the place, else 0
+  pub not_below_less : (r : ℕ) → r ≡ bool_byte (ltb p (get_or starts top 0)) → (r ≤ top) × NotBelow starts p (top - r)
+  not_below_less r e = go (lt_or_le p (get_or starts top 0))
+    where
+      go : (p < get_or starts top 0) ⊎ (get_or starts top 0 ≤ p) → (r ≤ top) × NotBelow starts p (top - r)
+      go (inl h) =
+          let one : r ≡ 1 = e ∙ ap bool_byte (lt-ltb p (get_or starts top 0) h) in
+          let before = not_below_lower h in
+          (omega (arith, before.0), rw one before.1)
+      go (inr h) =
+          let none : r ≡ 0 = e ∙ ap bool_byte (le-ltb p (get_or starts top 0) h) in
+          let same : top - r ≡ top = omega arith in
+          (omega arith, rw same w)
 
   -- and one that does not is
   pub not_below_found : get_or starts top 0 ≤ p → top + 1 ≡ count_below (p + 1) starts

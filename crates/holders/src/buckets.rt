@@ -1,5 +1,5 @@
 // The buckets: which one a place lies in, and the last run of each.
-ghost use Rattle.std.specs.Prelude.{◌≡◌, ℕ, ◌*◌, ◌≤◌, ◌<◌, length};
+ghost use Rattle.std.specs.Prelude.{◌≡◌, ◌*◌, ◌≤◌, ◌<◌, length};
 ghost use Rattle.holders.specs.Buckets.{bucket_of, Scaled, Tops};
 ghost use Rattle.holders.specs.Parts.{Roomy, Bucketed, Noted, Raised};
 
@@ -8,7 +8,7 @@ fn scale_of(n: u32, size: usize) -> u64
     requires { (0 < size) × (size ≤ n) }
     ensures { Scaled n size result }
 {
-    size as u64 * 4294967296 / n as u64
+    size as u64 * 4294967296 / u64::from(n)
 }
 
 // The bucket of place `p`.
@@ -16,7 +16,7 @@ pub(crate) fn bucket_of(scale: u64, p: u32) -> usize
     requires { p * scale < 18446744073709551616 }
     ensures { result ≡ bucket_of scale p }
 {
-    (p as u64 * scale / 4294967296) as usize
+    (u64::from(p) * scale / 4294967296) as usize
 }
 
 // Notes each run in the bucket of its start, over those before it, and 0 where none starts.
@@ -26,20 +26,10 @@ fn note_runs(starts: &[u32], scale: u64, tops: &mut [u32])
     ensures { Noted (length starts.now) scale starts.now tops.new
         (length starts.now) }
 {
-    order::clear(tops, tops.len());
-    let mut x = 0;
-    while x < starts.len() {
-        let b = bucket_of(scale, starts[x]);
-        tops[b] = x as u32;
-        x += 1;
+    tops.fill(0);
+    for (x, start) in starts.iter().enumerate() {
+        tops[bucket_of(scale, *start)] = x as u32;
     }
-}
-
-// The larger of two numbers.
-fn larger(a: u32, b: u32) -> u32
-    ensures { (a ≤ result) × (b ≤ result) × ((k : ℕ) → a < k → b < k → result < k) }
-{
-    if a < b { b } else { a }
 }
 
 // Raises each entry to the largest up to it.
@@ -47,11 +37,9 @@ fn raise(tops: &mut [u32])
     ensures { Raised tops.old tops.new }
 {
     let mut most = 0;
-    let mut b = 0;
-    while b < tops.len() {
-        most = larger(most, tops[b]);
-        tops[b] = most;
-        b += 1;
+    for top in tops.iter_mut() {
+        most = most.max(*top);
+        *top = most;
     }
 }
 

@@ -17,16 +17,17 @@ ghost use Rattle.runs.specs.Runs.{runs, run_at};
 ghost use Rattle.holders.specs.Buckets.{Tops};
 ghost use Rattle.holders.specs.Parts.{NotBelow};
 
-// The run before `top` where that one starts above `p`, else `top`. The compiler subtracts what it compares and does not jump,
-// since a processor could not foresee where to.
+// The run before `top` where that one starts above `p`, else `top`. It subtracts what it compares and does not jump, since a
+// processor could not foresee where to.
 fn lower(starts: &[u32], p: u32, top: usize) -> usize
     requires { NotBelow starts.now p top }
     ensures { NotBelow starts.now p result }
 {
-    if p < starts[top] { top - 1 } else { top }
+    top - usize::from(p < starts[top])
 }
 
 // The run that has place `p`, which is not above `top`.
+#[tactic(auto, using(crate::proofs::Holding::not_below_found))]
 fn holder_up_to(starts: &[u32], p: u32, top: usize) -> usize
     requires { NotBelow starts.now p top × (p < 4294967295) }
     ensures { result + 1 ≡ count_below (p + 1) starts.now }
@@ -48,12 +49,9 @@ fn write_by_tops(n: u32, starts: &[u32], images: &[u32], scale: u64, tops: &[u32
         (map (run_at n (runs starts.now images.now)) images.now)
         to.old }
 {
-    let mut x = 0;
-    while x < images.len() {
-        let p = images[x];
-        let top = tops[buckets::bucket_of(scale, p)];
-        to[x] = holder_up_to(starts, p, top as usize) as u32;
-        x += 1;
+    for (x, p) in images.iter().enumerate() {
+        let top = tops[buckets::bucket_of(scale, *p)];
+        to[x] = holder_up_to(starts, *p, top as usize) as u32;
     }
 }
 

@@ -366,3 +366,6 @@ module _ (n : ℕ) (S C : List ℕ) (c : Starts n S C) where
         count_mono t t' S (place_rises m h),
         count_mono t t' C (place_rises m h),
       )
+
+-- what the two next entries at a mark tell
+pub ruleset marks = (merged_length, at_start, at_cut, next_start, next_cut)

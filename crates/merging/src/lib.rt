@@ -25,16 +25,18 @@ pub struct Stepped {
 }
 
 // The entry after the mark, or `n`.
+#[tactic(auto, using(crate::proofs::Merged::marks))]
 pub fn entry_at(n: u32, starts: &[u32], cuts: &[u32], mark: Mark) -> u32
     requires { Starts n starts.now cuts.now × At n starts.now cuts.now mark (mark.starts + mark.cuts) }
     ensures { result ≡ get_or (merged starts.now cuts.now) (mark.starts + mark.cuts) n }
 {
     let s = entry_or(starts, mark.starts, n);
     let u = entry_or(cuts, mark.cuts, n);
-    if u < s { u } else { s }
+    s.min(u)
 }
 
 // That entry, and the mark after it where there is one: both at once, since each asks which of the two comes first.
+#[tactic(auto, using(crate::proofs::Merged::marks))]
 pub fn step(n: u32, starts: &[u32], cuts: &[u32], mark: Mark) -> Stepped
     requires { Starts n starts.now cuts.now × At n starts.now cuts.now mark (mark.starts + mark.cuts) }
     ensures { Follows n starts.now cuts.now mark result }
@@ -42,21 +44,19 @@ pub fn step(n: u32, starts: &[u32], cuts: &[u32], mark: Mark) -> Stepped
     let s = entry_or(starts, mark.starts, n);
     let u = entry_or(cuts, mark.cuts, n);
     if u < s {
-        let behind = Mark {
-            starts: mark.starts,
-            cuts: mark.cuts + 1,
-        };
         return Stepped {
             entry: u,
-            mark: behind,
+            mark: Mark {
+                cuts: mark.cuts + 1,
+                ..mark
+            },
         };
     }
-    let behind = Mark {
-        starts: mark.starts + 1,
-        cuts: mark.cuts,
-    };
     Stepped {
         entry: s,
-        mark: behind,
+        mark: Mark {
+            starts: mark.starts + 1,
+            ..mark
+        },
     }
 }

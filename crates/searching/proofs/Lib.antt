@@ -1,2 +1,3 @@
--- How a search narrows.
+-- How a search narrows, and what an insertion moves.
 mod Narrowing
+mod Moving

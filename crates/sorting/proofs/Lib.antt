@@ -1,5 +1,4 @@
 -- What the proofs of the sorts do.
-mod Gathering
 mod Monotone
 mod Ranks
 mod Digits

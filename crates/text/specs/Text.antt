@@ -1,6 +1,6 @@
 -- Numbers and lines as ASCII text: every number is decimal, and one space parts two fields (document 01, "The file and
 -- the listing").
-use Rattle.std.specs.Prelude.{ℕ, zero, suc, ◌+◌, ◌/◌, ◌%◌, Bool, true, false, List, [], ◌∷◌, ◌++◌, ltb, ℤ, pos, negsuc}
+use Rattle.std.specs.Prelude.{ℕ, zero, suc, ◌+◌, ◌/◌, ◌%◌, true, false, List, [], ◌∷◌, ◌++◌, ltb, ℤ, pos, negsuc}
 
 -- the last `places` or fewer digits of a number, with no 0 in front but that of 0 itself
 abbrev pub digits : ℕ → ℕ → List ℕ
@@ -12,10 +12,6 @@ unfoldable pub decimal : ℕ → List ℕ
 decimal v = digits 20 v
 
 -- an integer, below 0 with its sign in front
-abbrev pub negative : ℤ → Bool
-negative (pos v) = false
-negative (negsuc v) = true
-
 unfoldable pub signed : ℤ → List ℕ
 signed (pos v) = decimal v
 signed (negsuc v) = 45 ∷ decimal (suc v)

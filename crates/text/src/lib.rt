@@ -18,7 +18,7 @@ pub fn field(page: &mut [u8], at: usize, v: u32, after: u8) -> usize
     requires { Fits page.old at (Text·decimal v ++ (after ∷ [])) }
     ensures { Wrote page.old at (Text·decimal v ++ (after ∷ [])) page.new result }
 {
-    let next = decimal(page, at, v as u64);
+    let next = decimal(page, at, u64::from(v));
     put(page, next, after)
 }
 
@@ -36,7 +36,7 @@ pub fn pair(page: &mut [u8], at: usize, v: u32, w: u32, after: u8) -> usize
     requires { Fits page.old at (pair_text v w after) }
     ensures { Wrote page.old at (pair_text v w after) page.new result }
 {
-    let next = field(page, at, v, 32);
+    let next = field(page, at, v, b' ');
     field(page, next, w, after)
 }
 
@@ -56,5 +56,5 @@ pub fn refusal(page: &mut [u8], number: u32, place: u32) -> usize
     ensures { Wrote page.old 0 (refusal_text number place) page.new result }
 {
     let next = copy(b"refused ", page);
-    pair(page, next, number, place, 10)
+    pair(page, next, number, place, b'\n')
 }
