@@ -1,22 +1,23 @@
 -- A file is accepted if and only if it is right: its header, its list and its degree.
 use Prim.Native.Nat.{ℕ}
+use Rattle.std.specs.Prelude.{Result, Ok, Err}
 use mathlib.Core.Path.{◌≡◌, refl, sym, ap, ◌∙◌}
 use mathlib.Core.Logic.{◌↔◌}
 use mathlib.Core.List.{List}
 use native.Mathlib.Omega.{arith}
 use lib.ListN.{length}
 use Rattle.outcomes.specs.Outcome.{Outcome, done, refused, and_then}
+use Rattle.outcomes.specs.Refusal.{says}
+use Rattle.outcomes.specs.declared.Refusal.{Refusal}
 use Rattle.runs.specs.Runs.{count_of}
 use Rattle.runs.specs.Check.{max_runs}
 use Rattle.outcomes.proofs.Judging.{done_refused}
 use Rattle.runs.proofs.Sequences.{accepted_sequence, sequence_accepted}
 use Rattle.files.specs.Words.{word_of, header_of, runs_of}
-use Rattle.files.specs.File.{file_of, file_says}
+use Rattle.files.specs.File.{file_of}
 use Rattle.files.specs.Right.{RightHeader, RightFile}
 use Rattle.files.specs.Parts.{heading_of, listed_of, body_of}
 use Rattle.files.specs.declared.Header.{Header}
-use Rattle.files.specs.declared.FileChecked.{FileChecked}
-use Rattle.files.specs.declared.FileChecked.TheVariants.{Read, Refused}
 use Rattle.files.proofs.Reading.{runs_count}
 use Rattle.files.proofs.Heading.{heading_right, heading_laid, right_heading}
 use Rattle.files.proofs.Bodies.{degree_right, listed_checked, listed_done, body_is, file_is, file_read}
@@ -70,9 +71,9 @@ module _ (bytes : List ℕ) where
   file_accepted h = (accepted_right h, λ r. sym (right_accepted r.1) ∙ ap done (sym r.0))
 
   -- the same of the answer that `check_file` promises
-  pub answer_right : (a : FileChecked) → file_says a ≡ file_of max_runs bytes → (h : Header) → (a ≡ Read h) ↔ ((h ≡ header_of bytes) × RightFile bytes)
-  answer_right a e h = (λ q. accepted_right h (sym e ∙ ap file_says q), λ r. go a (e ∙ (file_accepted h).1 r))
+  pub answer_right : (a : Result Header Refusal) → says a ≡ file_of max_runs bytes → (h : Header) → (a ≡ Ok h) ↔ ((h ≡ header_of bytes) × RightFile bytes)
+  answer_right a e h = (λ q. accepted_right h (sym e ∙ ap says q), λ r. go a (e ∙ (file_accepted h).1 r))
     where
-      go : (b : FileChecked) → file_says b ≡ done h → b ≡ Read h
-      go (Read g) q = let z : g ≡ h = cc in ap Read z
-      go (Refused f) q = absurd (done_refused h _ _ (sym q))
+      go : (b : Result Header Refusal) → says b ≡ done h → b ≡ Ok h
+      go (Ok g) q = let z : g ≡ h = cc in ap Ok z
+      go (Err f) q = absurd (done_refused h _ _ (sym q))

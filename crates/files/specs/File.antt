@@ -1,14 +1,11 @@
 -- The tests of a file, in an order of their own (document 01, "The file and the listing"). A test is data: each list
 -- below can be judged by itself, and those of the header look at no image and not at d.
 use Rattle.std.specs.Prelude.{ℕ, ◌+◌, ◌*◌, not, ◌||◌, List, [], ◌∷◌, ◌++◌, length, ltb, eqb}
-use Rattle.outcomes.specs.Outcome.{Outcome, done, Test, test, judge}
-use Rattle.outcomes.specs.Refusal.{refusal_says}
+use Rattle.outcomes.specs.Outcome.{Outcome, Test, test, judge}
 use Rattle.outcomes.specs.Degree.{degree_test}
 use Rattle.runs.specs.Check.{list_tests}
 use Rattle.files.specs.Words.{word_of, header_of, runs_of}
 use Rattle.files.specs.declared.Header.{Header}
-use Rattle.files.specs.declared.FileChecked.{FileChecked}
-use Rattle.files.specs.declared.FileChecked.TheVariants.{Read, Refused}
 
 -- 1 and 2 of the numbers that a header says, for at most `most` runs
 abbrev pub number_tests : ℕ → ℕ → ℕ → List Test
@@ -39,8 +36,3 @@ file_tests most bytes = header_tests most bytes ++ body_tests bytes
 -- a file of at most `most` runs that passes them gives its header
 unfoldable pub file_of : ℕ → List ℕ → Outcome Header
 file_of most bytes = judge (file_tests most bytes) (header_of bytes)
-
--- the outcome that each answer is
-abbrev pub file_says : FileChecked → Outcome Header
-file_says (Read h) = done h
-file_says (Refused r) = refusal_says r

@@ -24,12 +24,6 @@ pub struct Header {
     pub d: u32,
 }
 
-#[derive(Clone, Copy)]
-pub enum FileChecked {
-    Read(Header),
-    Refused(outcomes::Refusal),
-}
-
 // Reads the list of a file whose header is right into two tables of k entries.
 pub fn read_list(file: &[u8], k: usize, starts: &mut [u32], images: &mut [u32])
     requires { ListRoom file.now k starts.old images.old }

@@ -10,8 +10,9 @@ use Rattle.outcomes.specs.Outcome.{done, Long}
 use Rattle.runs.specs.Runs.{Runs, runs, count_of, image_of, image_end, map_of, SamePermutation}
 use Rattle.runs.specs.Legal.{Legal}
 use Rattle.runs.specs.Check.{max_runs}
-use Rattle.runs.specs.Written.{written_says}
-use Rattle.runs.specs.declared.Written.{Written}
+use Rattle.std.specs.Prelude.{Result}
+use Rattle.outcomes.specs.Refusal.{says}
+use Rattle.outcomes.specs.declared.Refusal.{Refusal}
 use Rattle.runs.proofs.Accepted.{accepted_legal, legal_accepted}
 use Rattle.runs.proofs.Bijection.{map_below, map_injective}
 use Rattle.runs.proofs.WritesList.{writes_list}
@@ -78,11 +79,11 @@ module _ (n : ℕ) (r : Runs) (a b : List ℕ) where
   unfolding fold_of
   fold_given q (c, few, long, e) = written_given n r (folded r) a b (legal_accepted n r c few) long ∙ ap done (sym e)
 
-  fold_left : (a' b' : List ℕ) (x : Written) → Folds n r a b a' b' x → (k : ℕ) → written_says x ≡ done k
+  fold_left : (a' b' : List ℕ) (x : Result ℕ Refusal) → Folds n r a b a' b' x → (k : ℕ) → says x ≡ done k
       → let q = runs (take k a') (take k b') in
       Legal n r × (q ≡ folded r) × (count_of q ≡ k) × (k ≤ max_runs) × (drop k a' ≡ drop k a) × (drop k b' ≡ drop k b)
   fold_left a' b' x w k e =
-      let l = writes_list written_says (fold_of n r a b) a b a' b' x w k e in
+      let l = writes_list says (fold_of n r a b) a b a' b' x w k e in
       let q = l.0 in
       let d = fold_done q l.1 in
       let paired : length q.images ≡ count_of q = rw d.3 (folded_legal n r d.0).paired in

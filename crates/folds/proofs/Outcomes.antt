@@ -6,8 +6,9 @@ use lib.ListN.{length}
 use Rattle.outcomes.specs.Outcome.{done}
 use Rattle.runs.specs.Runs.{Runs, count_of}
 use Rattle.runs.specs.Check.{max_runs, check_of}
-use Rattle.runs.specs.Written.{written_says, WritesList, if_room}
-use Rattle.runs.specs.declared.Written.TheVariants.{RunCount}
+use Rattle.std.specs.Prelude.{Ok}
+use Rattle.outcomes.specs.Refusal.{says}
+use Rattle.runs.specs.Written.{WritesList, if_room}
 use Rattle.runs.proofs.Accepted.{accepted_legal}
 use Rattle.runs.proofs.WritesList.{writes_done}
 use Rattle.runs.proofs.WritesList.{room_for}
@@ -22,7 +23,7 @@ accepted_foldable n r e =
 
 -- both tables have room, and the fold stands in them
 pub fold_written : (r : Runs) (a b : List ℕ) → count_of r ≤ length a → count_of r ≤ length b → (a' b' : List ℕ) (k : ℕ)
-    → FoldWritten r a b a' b' k → WritesList written_says count_of (if_room (count_of r) (folded r) a b) a b a' b' (RunCount k)
+    → FoldWritten r a b a' b' k → WritesList says count_of (if_room (count_of r) (folded r) a b) a b a' b' (Ok k)
 fold_written r a b h l a' b' k w =
-    writes_done written_says _ _ a b (RunCount k) (folded r) a' b' (room_for (count_of r) (folded r) a b h l)
+    writes_done says _ _ a b (Ok k) (folded r) a' b' (room_for (count_of r) (folded r) a b h l)
     w.starts_at_exit w.images_at_exit (ap done w.counted)

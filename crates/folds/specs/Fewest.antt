@@ -1,12 +1,12 @@
 -- All that is promised of folds beside demand 1 (document 02, A.8). Proved in proofs/Fewest. What folding and then balancing come to
 -- stands in demands/specs/FoldedFirst.
-use Rattle.std.specs.Prelude.{ℕ, suc, ◌≤◌, ◌<◌, ◌≡◌, ◌↔◌, ◌≢◌, List, [], ◌∷◌, take, drop}
+use Rattle.std.specs.Prelude.{ℕ, suc, ◌≤◌, ◌<◌, ◌≡◌, ◌↔◌, ◌≢◌, List, [], ◌∷◌, take, drop, Result}
 use Rattle.outcomes.specs.Outcome.{done, Long}
+use Rattle.outcomes.specs.Refusal.{says}
+use Rattle.outcomes.specs.declared.Refusal.{Refusal}
 use Rattle.runs.specs.Runs.{Runs, runs, count_of, image_of, image_end, map_of, SamePermutation}
 use Rattle.runs.specs.Legal.{Legal}
 use Rattle.runs.specs.Check.{max_runs}
-use Rattle.runs.specs.Written.{written_says}
-use Rattle.runs.specs.declared.Written.{Written}
 use Rattle.folds.specs.Fold.{folded, breakpoints, maximal_runs}
 use Rattle.folds.specs.Lent.{fold_of, Folds}
 
@@ -44,6 +44,6 @@ pub record FewestRuns : Type 0 where
       ↔ (Legal n r × (count_of r ≤ max_runs) × Long (count_of r) (a ∷ b ∷ []) × (q ≡ folded r))
   -- A call that answers m was handed a legal list. It leaves the fold, of m runs, in the first m entries of both tables. The entries
   -- from m on keep their numbers, also those below k.
-  pub written : (n : ℕ) (r : Runs) (a b a' b' : List ℕ) (x : Written) → Folds n r a b a' b' x → (m : ℕ) → written_says x ≡ done m
+  pub written : (n : ℕ) (r : Runs) (a b a' b' : List ℕ) (x : Result ℕ Refusal) → Folds n r a b a' b' x → (m : ℕ) → says x ≡ done m
       → let q = runs (take m a') (take m b') in
       Legal n r × (q ≡ folded r) × (count_of q ≡ m) × (m ≤ max_runs) × (drop m a' ≡ drop m a) × (drop m b' ≡ drop m b)

@@ -1,5 +1,6 @@
 -- What is promised of legal lists, gathered from the laws of runs and of this crate.
 use Prim.Native.Nat.{ℕ, zero, suc, ◌+◌, ◌<◌}
+use Rattle.std.specs.Prelude.{Result}
 use mathlib.Core.Path.{◌≡◌, refl, sym, ap, ◌∙◌}
 use mathlib.Core.List.{List, [], ◌∷◌}
 use native.Mathlib.Omega.{arith}
@@ -7,8 +8,8 @@ use lib.ListN.{length, take, drop}
 use lib.Seq.{take_at, drop_at}
 use Rattle.order.specs.Lists.{sum_of, up_from, up_to}
 use Rattle.outcomes.specs.Outcome.{Outcome, done, refused, judge, map_done, and_then, filled}
-use Rattle.outcomes.specs.Refusal.{checked_says}
-use Rattle.outcomes.specs.declared.Checked.{Checked}
+use Rattle.outcomes.specs.Refusal.{says}
+use Rattle.outcomes.specs.declared.Refusal.{Refusal}
 use Rattle.outcomes.proofs.Judging.{done_refused, judge_append, judge_done}
 use Rattle.runs.specs.Runs.{Runs, runs, count_of, start_of, image_of, length_of}
 use Rattle.runs.specs.Legal.{Legal}
@@ -68,7 +69,7 @@ inverse_done n r a b q e = (go (check_of n r) refl, sym (judge_done _ _ _ e))
     go (done tt) f = f
     go (refused k p) f = absurd (done_refused q k p (sym e ∙ judge_append (check_tests n r) _ (tt {0}) (inverse_runs r) ∙ rw f))
 
-inverse_written : (n : ℕ) (r : Runs) (a b a' b' : List ℕ) (o : Checked) → InverseListed n r a b a' b' o → checked_says o ≡ done tt
+inverse_written : (n : ℕ) (r : Runs) (a b a' b' : List ℕ) (o : Result (Unit {0}) Refusal) → InverseListed n r a b a' b' o → says o ≡ done tt
     → let k = count_of r in
     Legal n r × (runs (take k a') (take k b') ≡ inverse_runs r) × (drop k a' ≡ drop k a) × (drop k b' ≡ drop k b)
 unfolding map_done filled

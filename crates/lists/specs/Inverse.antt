@@ -1,12 +1,12 @@
 -- The inverse list (document 01, "Balancing", its last paragraph).
-use Rattle.std.specs.Prelude.{ℕ, List, [], ◌∷◌, map}
+use Rattle.std.specs.Prelude.{ℕ, List, [], ◌∷◌, map, Result}
 use Rattle.order.specs.Order.{order_of}
 use Rattle.outcomes.specs.Outcome.{Outcome, judge}
-use Rattle.outcomes.specs.Refusal.{checked_says}
+use Rattle.outcomes.specs.Refusal.{says}
 use Rattle.runs.specs.Runs.{Runs, runs, start_of, image_of}
 use Rattle.runs.specs.Check.{write_tests}
 use Rattle.runs.specs.Written.{WritesList}
-use Rattle.outcomes.specs.declared.Checked.{Checked}
+use Rattle.outcomes.specs.declared.Refusal.{Refusal}
 
 -- each run with start and image exchanged, in rising order of what were the images
 unfoldable pub inverse_runs : Runs → Runs
@@ -16,5 +16,5 @@ unfoldable pub inverse_list_of : ℕ → Runs → List ℕ → List ℕ → Outc
 inverse_list_of n r to_starts to_images = judge (write_tests n r (to_starts ∷ to_images ∷ [])) (inverse_runs r)
 
 -- what `inverse_list` promises
-abbrev pub InverseListed : ℕ → Runs → List ℕ → List ℕ → List ℕ → List ℕ → Checked → Type 0
-InverseListed n r starts images = WritesList checked_says (λ q. tt) (inverse_list_of n r starts images) starts images
+abbrev pub InverseListed : ℕ → Runs → List ℕ → List ℕ → List ℕ → List ℕ → Result (Unit {0}) Refusal → Type 0
+InverseListed n r starts images = WritesList says (λ q. tt) (inverse_list_of n r starts images) starts images

@@ -1,10 +1,10 @@
 -- What is promised of legal lists beside the demands (document 01, "The collection's objects", and what "Balancing" says of the
 -- inverse list). Proved in proofs/LegalLists.
-use Rattle.std.specs.Prelude.{ℕ, ◌+◌, ◌-◌, ◌^◌, ◌≤◌, ◌<◌, ◌≡◌, ◌↔◌, List, pos, negsuc, nat_abs, take, drop}
+use Rattle.std.specs.Prelude.{ℕ, ◌+◌, ◌-◌, ◌^◌, ◌≤◌, ◌<◌, ◌≡◌, ◌↔◌, List, Result, pos, negsuc, nat_abs, take, drop}
 use Rattle.order.specs.Lists.{sum_of, up_to}
 use Rattle.outcomes.specs.Outcome.{done}
-use Rattle.outcomes.specs.Refusal.{checked_says}
-use Rattle.outcomes.specs.declared.Checked.{Checked}
+use Rattle.outcomes.specs.Refusal.{says}
+use Rattle.outcomes.specs.declared.Refusal.{Refusal}
 use Rattle.runs.specs.Runs.{Runs, runs, count_of, start_of, image_of, end_of, length_of, image_end, shift_of, map_of}
 use Rattle.runs.specs.Legal.{Legal}
 use Rattle.runs.specs.Check.{max_runs, check_of}
@@ -34,6 +34,6 @@ pub record LegalLists : Type 0 where
   pub inverse_before : (n : ℕ) (r : Runs) → Legal n r → (q : ℕ) → q < n → map_of n r (map_of n (inverse_runs r) q) ≡ q
   pub inverse_twice : (n : ℕ) (r : Runs) → Legal n r → inverse_runs (inverse_runs r) ≡ r
   -- a call that is done has it in the first k entries of both tables, and leaves the entries beyond
-  pub written : (n : ℕ) (r : Runs) (a b a' b' : List ℕ) (o : Checked) → InverseListed n r a b a' b' o → checked_says o ≡ done tt
+  pub written : (n : ℕ) (r : Runs) (a b a' b' : List ℕ) (o : Result (Unit {0}) Refusal) → InverseListed n r a b a' b' o → says o ≡ done tt
       → let k = count_of r in
       Legal n r × (runs (take k a') (take k b') ≡ inverse_runs r) × (drop k a' ≡ drop k a) × (drop k b' ≡ drop k b)

@@ -1,4 +1,3 @@
--- The inverse list, what is promised of legal lists, and what the parts of the operations promise.
+-- The inverse list, and what is promised of legal lists.
 pub mod Inverse
 pub mod LegalLists
-pub mod Parts

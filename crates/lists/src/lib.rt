@@ -1,128 +1,113 @@
 // The operations on a run list: its check, its inverse list, and the shift of a run. Each works in room of its own, as large
-// as the list needs.
+// as the list needs (docs/DECISIONS.md, "Few runs get small tables").
 
 #![tactic(auto)]
 
 mod inverse;
 
-ghost use Rattle.std.specs.Prelude.{◌≡◌};
-ghost use Rattle.outcomes.specs.Refusal.{checked_says};
-ghost use Rattle.runs.specs.Runs.{runs, shift_from};
-ghost use Rattle.runs.specs.Check.{check_of};
-ghost use Rattle.runs.specs.Parts.{HoldsRuns};
+ghost use Rattle.std.specs.Prelude.{◌≡◌, ◌≤◌, length};
+ghost use Rattle.outcomes.specs.Refusal.{says};
+ghost use Rattle.runs.specs.Runs.{runs_in, shift_from};
+ghost use Rattle.runs.specs.Check.{max_runs, check_of};
 ghost use Rattle.lists.specs.Inverse.{InverseListed};
-ghost use Rattle.lists.specs.Parts.{CheckedOrInverted};
 
-use outcomes::Checked;
+use outcomes::Refusal;
+use runs::RunList;
 
-// Tests 1 to 6 and, with `inverts`, 8 and the inverse list. `order` and `spare` are room to work in.
-fn check_or_invert(
-    n: u32,
-    starts: &[u32],
-    images: &[u32],
-    order: &mut [u32],
-    spare: &mut [u32],
-    inverts: bool,
-    to_starts: &mut [u32],
-    to_images: &mut [u32],
-) -> Checked
-    requires { HoldsRuns 16384 starts.now order.old × HoldsRuns 16384 starts.now spare.old }
-    ensures { CheckedOrInverted inverts n (runs starts.now images.now)
-        to_starts.old to_images.old to_starts.new to_images.new result }
+// Tests 1 to 6, in tables of N entries.
+fn check_in<const N: usize>(list: RunList<'_>) -> Result<(), Refusal>
+    requires { (N ≤ max_runs) × (length list.starts.now ≤ max_runs → length list.starts.now ≤ N) }
+    ensures { says result ≡ check_of list.entry.n (runs_in list.entry) }
 {
-    let checked = runs::check_order(n, starts, images, runs::MOST_RUNS, order, spare);
-    if !inverts {
-        return checked;
-    }
-    match checked {
-        Checked::Refused(refusal) => Checked::Refused(refusal),
-        Checked::Accepted => inverse::write(starts, images, order, to_starts, to_images),
-    }
+    let mut order = [0; N];
+    let mut spare = [0; N];
+    runs::check_order(list, runs::MOST_RUNS, &mut order, &mut spare)
 }
 
-// The same with room of its own for many runs.
-fn with_much_room(
-    n: u32,
-    starts: &[u32],
-    images: &[u32],
-    inverts: bool,
-    to_starts: &mut [u32],
-    to_images: &mut [u32],
-) -> Checked
-    ensures { CheckedOrInverted inverts n (runs starts.now images.now)
-        to_starts.old to_images.old to_starts.new to_images.new result }
+// The same with a frame of its own. A call touches each page of its frame, so a check of few runs should have no large tables in its
+// caller's.
+#[inline(never)]
+fn check_apart<const N: usize>(list: RunList<'_>) -> Result<(), Refusal>
+    requires { (N ≤ max_runs) × (length list.starts.now ≤ max_runs → length list.starts.now ≤ N) }
+    ensures { says result ≡ check_of list.entry.n (runs_in list.entry) }
 {
-    if starts.len() <= runs::MANY_RUNS {
-        let mut order: [u32; runs::MANY_RUNS] = [0; runs::MANY_RUNS];
-        let mut spare: [u32; runs::MANY_RUNS] = [0; runs::MANY_RUNS];
-        return check_or_invert(
-            n, starts, images, &mut order, &mut spare, inverts, to_starts, to_images,
-        );
-    }
-    let mut order: [u32; runs::MAX_RUNS] = [0; runs::MAX_RUNS];
-    let mut spare: [u32; runs::MAX_RUNS] = [0; runs::MAX_RUNS];
-    check_or_invert(
-        n, starts, images, &mut order, &mut spare, inverts, to_starts, to_images,
-    )
+    check_in::<N>(list)
 }
 
-// The same for any number of runs. `check` and `inverse_list` both come here for large tables: a call touches each page of
-// its frame, so a check of few runs should have none in its own (docs/DECISIONS.md, "Few runs get small tables").
-fn with_room(
-    n: u32,
-    starts: &[u32],
-    images: &[u32],
-    inverts: bool,
+// Tests 1 to 6 and 8 and the inverse list, in tables of N entries.
+fn invert_in<const N: usize>(
+    list: RunList<'_>,
     to_starts: &mut [u32],
     to_images: &mut [u32],
-) -> Checked
-    ensures { CheckedOrInverted inverts n (runs starts.now images.now)
+) -> Result<(), Refusal>
+    requires { (N ≤ max_runs) × (length list.starts.now ≤ max_runs → length list.starts.now ≤ N) }
+    ensures { InverseListed list.entry.n (runs_in list.entry)
         to_starts.old to_images.old to_starts.new to_images.new result }
 {
-    if starts.len() <= runs::SOME_RUNS {
-        let mut order: [u32; runs::SOME_RUNS] = [0; runs::SOME_RUNS];
-        let mut spare: [u32; runs::SOME_RUNS] = [0; runs::SOME_RUNS];
-        return check_or_invert(
-            n, starts, images, &mut order, &mut spare, inverts, to_starts, to_images,
-        );
-    }
-    with_much_room(n, starts, images, inverts, to_starts, to_images)
+    let mut order = [0; N];
+    let mut spare = [0; N];
+    runs::check_order(list, runs::MOST_RUNS, &mut order, &mut spare)?;
+    inverse::write(list, &order, to_starts, to_images)
+}
+
+// The same with a frame of its own.
+#[inline(never)]
+fn invert_apart<const N: usize>(
+    list: RunList<'_>,
+    to_starts: &mut [u32],
+    to_images: &mut [u32],
+) -> Result<(), Refusal>
+    requires { (N ≤ max_runs) × (length list.starts.now ≤ max_runs → length list.starts.now ≤ N) }
+    ensures { InverseListed list.entry.n (runs_in list.entry)
+        to_starts.old to_images.old to_starts.new to_images.new result }
+{
+    invert_in::<N>(list, to_starts, to_images)
 }
 
 // Whether the list is legal and has at most 16,384 runs. Tests 1 to 6; O(k log k) for every input.
-pub fn check(n: u32, starts: &[u32], images: &[u32]) -> Checked
-    ensures { checked_says result ≡ check_of n (runs starts.now images.now) }
+pub fn check(list: RunList<'_>) -> Result<(), Refusal>
+    ensures { says result ≡ check_of list.entry.n (runs_in list.entry) }
 {
-    if starts.len() <= runs::FEW_RUNS {
-        let mut order: [u32; runs::FEW_RUNS] = [0; runs::FEW_RUNS];
-        let mut spare: [u32; runs::FEW_RUNS] = [0; runs::FEW_RUNS];
-        return runs::check_order(n, starts, images, runs::MOST_RUNS, &mut order, &mut spare);
+    let k = list.starts.len();
+    if k <= runs::FEW_RUNS {
+        check_in::<{ runs::FEW_RUNS }>(list)
+    } else if k <= runs::MORE_RUNS {
+        check_in::<{ runs::MORE_RUNS }>(list)
+    } else if k <= runs::SOME_RUNS {
+        check_apart::<{ runs::SOME_RUNS }>(list)
+    } else if k <= runs::MANY_RUNS {
+        check_apart::<{ runs::MANY_RUNS }>(list)
+    } else {
+        check_apart::<{ runs::MAX_RUNS }>(list)
     }
-    if starts.len() <= runs::MORE_RUNS {
-        let mut order: [u32; runs::MORE_RUNS] = [0; runs::MORE_RUNS];
-        let mut spare: [u32; runs::MORE_RUNS] = [0; runs::MORE_RUNS];
-        return runs::check_order(n, starts, images, runs::MOST_RUNS, &mut order, &mut spare);
-    }
-    with_room(n, starts, images, false, &mut [], &mut [])
 }
 
 // Writes the inverse list to the first k entries of two tables, and leaves the others. Tests 1 to 6 and 8.
 pub fn inverse_list(
-    n: u32,
-    starts: &[u32],
-    images: &[u32],
+    list: RunList<'_>,
     to_starts: &mut [u32],
     to_images: &mut [u32],
-) -> Checked
-    ensures { InverseListed n (runs starts.now images.now)
+) -> Result<(), Refusal>
+    ensures { InverseListed list.entry.n (runs_in list.entry)
         to_starts.old to_images.old to_starts.new to_images.new result }
 {
-    with_room(n, starts, images, true, to_starts, to_images)
+    let k = list.starts.len();
+    if k <= runs::FEW_RUNS {
+        invert_in::<{ runs::FEW_RUNS }>(list, to_starts, to_images)
+    } else if k <= runs::MORE_RUNS {
+        invert_in::<{ runs::MORE_RUNS }>(list, to_starts, to_images)
+    } else if k <= runs::SOME_RUNS {
+        invert_apart::<{ runs::SOME_RUNS }>(list, to_starts, to_images)
+    } else if k <= runs::MANY_RUNS {
+        invert_apart::<{ runs::MANY_RUNS }>(list, to_starts, to_images)
+    } else {
+        invert_apart::<{ runs::MAX_RUNS }>(list, to_starts, to_images)
+    }
 }
 
 // The shift of a run, its image minus its start.
 pub fn shift(start: u32, image: u32) -> i64
     ensures { result ≡ shift_from start image }
 {
-    image as i64 - start as i64
+    i64::from(image) - i64::from(start)
 }
