@@ -2,11 +2,13 @@
 -- start of the interval reached.
 use Prim.Native.Nat.{ℕ}
 use mathlib.Core.Path.{◌≡◌, refl, sym, ◌∙◌}
+use Rattle.std.specs.Prelude.{Result}
 use Rattle.outcomes.specs.Outcome.{done}
+use Rattle.outcomes.specs.Refusal.{says}
+use Rattle.outcomes.specs.declared.Refusal.{Refusal}
 use Rattle.tables.specs.Tables.{Tables}
-use Rattle.walks.specs.Move.{moved_says, LiesIn}
+use Rattle.walks.specs.Move.{LiesIn}
 use Rattle.walks.specs.declared.Step.{Step}
-use Rattle.walks.specs.declared.Moved.{Moved}
 use Rattle.walks.proofs.Distances.{move_lies}
 use Rattle.bookmarks.specs.Bookmark.{with_distance, overflows, bookmark_of, mark_after, Advances, marking_of}
 use Rattle.bookmarks.specs.declared.Bookmark.{Bookmark}
@@ -30,6 +32,6 @@ module _ (n : ℕ) (t : Tables) (b : Bookmark) where
       let l = move_lies n t b.interval b.place s (bookmark_moved n t b s e) in
       (l, rw (← after_done b (bookmark_of n t b) s (sym e)) l)
 
-  pub marked_lies : (m : Moved) (left : Bookmark) → Advances n t b m left → (s : Step) → moved_says m ≡ done s
+  pub marked_lies : (m : Result Step Refusal) (left : Bookmark) → Advances n t b m left → (s : Step) → says m ≡ done s
       → LiesIn n t.links s.interval s.place s.distance × LiesIn n t.links left.interval left.place left.distance
   marked_lies m left a s e = rw a.mark (mark_lies s (sym a.says ∙ e))

@@ -1,12 +1,13 @@
 -- A bookmark's move (document 01, "Walking"), with the distance of document 02, A.2, its count of the starts read, A.4, and its test
 -- of the interval's length, A.7.
-use Rattle.std.specs.Prelude.{ℕ, ◌+◌, ◌^◌, ◌≡◌, Bool, ◌||◌, List, [], ◌∷◌, ◌++◌, leb}
+use Rattle.std.specs.Prelude.{ℕ, ◌+◌, ◌^◌, ◌≡◌, Bool, ◌||◌, Result, List, [], ◌∷◌, ◌++◌, leb}
 use Rattle.outcomes.specs.Outcome.{Outcome, done, refused, Test, test, judge}
+use Rattle.outcomes.specs.Refusal.{says}
+use Rattle.outcomes.specs.declared.Refusal.{Refusal}
 use Rattle.tables.specs.Tables.{Tables}
-use Rattle.walks.specs.Move.{moved_says, step_of, move_tests}
+use Rattle.walks.specs.Move.{step_of, move_tests}
 use Rattle.walks.specs.declared.Step.{Step}
 use Rattle.bookmarks.specs.declared.Bookmark.{Bookmark}
-use Rattle.walks.specs.declared.Moved.{Moved}
 use Rattle.bookmarks.specs.declared.Marked.{Marked}
 
 -- a bookmark that has made no move yet; its distance g is any number, since no move reads it
@@ -37,8 +38,8 @@ mark_after b (done s) =
 mark_after b (refused k p) = b
 
 -- what a bookmark's move promises: the answer, and the bookmark that it leaves of b
-pub record Advances (n : ℕ) (t : Tables) (b : Bookmark) (m : Moved) (left : Bookmark) : Type 0 where
-  pub says : moved_says m ≡ bookmark_of n t b
+pub record Advances (n : ℕ) (t : Tables) (b : Bookmark) (m : Result Step Refusal) (left : Bookmark) : Type 0 where
+  pub says : says m ≡ bookmark_of n t b
   pub mark : left ≡ mark_after b (bookmark_of n t b)
 
 -- an answer to a bookmark's move, and the bookmark after it
@@ -50,7 +51,7 @@ abbrev pub marking : Outcome Step → Bookmark → Marking
 marking a b = record { answer = a; bookmark = b }
 
 abbrev pub marked_says : Marked → Marking
-marked_says m = marking (moved_says m.moved) m.bookmark
+marked_says m = marking (says m.moved) m.bookmark
 
 unfoldable pub marking_of : ℕ → Tables → Bookmark → Marking
 marking_of n t b = marking (bookmark_of n t b) (mark_after b (bookmark_of n t b))

@@ -1,16 +1,22 @@
 -- What is left of a bookmark's move when the move is made: the private functions' contracts cite these.
-use Rattle.std.specs.Prelude.{◌≡◌, [], ◌∷◌}
-use Rattle.outcomes.specs.Outcome.{Outcome, test, judge}
-use Rattle.walks.specs.Move.{moved_says}
+use Rattle.std.specs.Prelude.{◌+◌, List, [], ◌∷◌}
+use Rattle.outcomes.specs.Outcome.{Outcome, Test, test, judge}
 use Rattle.walks.specs.declared.Step.{Step}
-use Rattle.bookmarks.specs.Bookmark.{overflows, mark_after}
+use Rattle.bookmarks.specs.Bookmark.{overflows}
 use Rattle.bookmarks.specs.declared.Bookmark.{Bookmark}
-use Rattle.bookmarks.specs.declared.Marked.{Marked}
 
--- after 12: 13, the answer and the bookmark
+-- the bookmark further by a step
+abbrev pub further : Bookmark → Step → Bookmark
+further b s =
+    record { place = s.place; interval = s.interval; distance = s.distance; moves = b.moves + 1; count = b.count + s.count }
+
+-- after 12: 13
+abbrev pub room_test : Bookmark → Step → List Test
+room_test b s = test 13 (overflows b s) 0 ∷ []
+
+-- and the answer, or the bookmark
 unfoldable pub mark_of : Bookmark → Step → Outcome Step
-mark_of b s = judge (test 13 (overflows b s) 0 ∷ []) s
+mark_of b s = judge (room_test b s) s
 
-pub record Marks (b : Bookmark) (s : Step) (m : Marked) : Type 0 where
-  pub says : moved_says m.moved ≡ mark_of b s
-  pub mark : m.bookmark ≡ mark_after b (mark_of b s)
+unfoldable pub marked_of : Bookmark → Step → Outcome Bookmark
+marked_of b s = judge (room_test b s) (further b s)

@@ -7,10 +7,12 @@
 
 mod marking;
 
-ghost use Rattle.tables.specs.Tables.{tables};
+ghost use Rattle.tables.specs.Tables.{tables_in};
 ghost use Rattle.bookmarks.specs.Bookmark.{Advances};
 
-use walks::Moved;
+use outcomes::Refusal;
+use tables::MoveTable;
+use walks::Step;
 
 // A walk that its owner keeps: where it stands, the moves made, and how many starts they read. A move writes the place's distance
 // from the interval's start and never looks at it, so that a bookmark may begin with any number there. It passes to hosts as it is,
@@ -29,41 +31,23 @@ pub struct Bookmark {
 #[derive(Clone, Copy)]
 pub struct Marked {
     pub bookmark: Bookmark,
-    pub moved: Moved,
+    pub moved: Result<Step, Refusal>,
 }
 
 // A bookmark's move: its answer and the bookmark after it, which a refusal leaves as it was.
-pub fn advanced(
-    n: u32,
-    starts: &[u32],
-    images: &[u32],
-    holders: &[u32],
-    lengths: &[u32],
-    b: Bookmark,
-) -> Marked
-    ensures { Advances n (tables starts.now images.now holders.now lengths.now) b result.moved result.bookmark }
+pub fn advanced(table: MoveTable<'_>, b: Bookmark) -> Marked
+    ensures { Advances table.entry.n (tables_in table.entry) b result.moved result.bookmark }
 {
-    match walks::move_query(n, starts, images, holders, lengths, b.interval, b.place) {
-        Moved::Refused(r) => Marked {
-            bookmark: b,
-            moved: Moved::Refused(r),
-        },
-        Moved::To(s) => marking::mark(b, s),
-    }
+    let mut bookmark = b;
+    let moved = advance(table, &mut bookmark);
+    Marked { bookmark, moved }
 }
 
 // A bookmark's move on the spot: the bookmark is lent by its owner, and a refusal leaves it as it was.
-pub fn advance(
-    n: u32,
-    starts: &[u32],
-    images: &[u32],
-    holders: &[u32],
-    lengths: &[u32],
-    b: &mut Bookmark,
-) -> Moved
-    ensures { Advances n (tables starts.now images.now holders.now lengths.now) b.old result b.new }
+pub fn advance(table: MoveTable<'_>, b: &mut Bookmark) -> Result<Step, Refusal>
+    ensures { Advances table.entry.n (tables_in table.entry) b.old result b.new }
 {
-    let m = advanced(n, starts, images, holders, lengths, *b);
-    *b = m.bookmark;
-    m.moved
+    let step = walks::move_query(table, b.interval, b.place)?;
+    *b = marking::mark(*b, step)?;
+    Ok(step)
 }

@@ -1,40 +1,24 @@
 // A bookmark after a step.
 ghost use Rattle.std.specs.Prelude.{◌≡◌};
-ghost use Rattle.bookmarks.specs.Bookmark.{overflows};
-ghost use Rattle.bookmarks.specs.Parts.{Marks};
+ghost use Rattle.outcomes.specs.Refusal.{says};
+ghost use Rattle.bookmarks.specs.Parts.{marked_of};
 
-use super::{Bookmark, Marked};
+use super::Bookmark;
 use outcomes::Refusal;
-use walks::{Moved, Step};
+use walks::Step;
 
-// Test 13: whether a counter would pass its width.
-fn would_overflow(b: Bookmark, s: Step) -> bool
-    ensures { result ≡ overflows b s }
+// The bookmark further by the step, where test 13 lets it: a counter may not pass its width.
+#[tactic(auto, unfolding(crate::specs::Bookmark::overflows, crate::specs::Parts::marked_of, outcomes::specs::Outcome::judge))]
+pub(crate) fn mark(b: Bookmark, s: Step) -> Result<Bookmark, Refusal>
+    ensures { says result ≡ marked_of b s }
 {
-    if b.moves == 4294967295 {
-        return true;
-    }
-    18446744073709551615 - s.count < b.count
-}
-
-// Test 13, and the bookmark further by the step.
-pub(crate) fn mark(b: Bookmark, s: Step) -> Marked
-    ensures { Marks b s result }
-{
-    if would_overflow(b, s) {
-        return Marked {
-            bookmark: b,
-            moved: Moved::Refused(Refusal::CounterLimit),
-        };
-    }
-    Marked {
-        bookmark: Bookmark {
-            place: s.place,
-            interval: s.interval,
-            distance: s.distance,
-            moves: b.moves + 1,
-            count: b.count + s.count,
-        },
-        moved: Moved::To(s),
-    }
+    let moves = b.moves.checked_add(1).ok_or(Refusal::CounterLimit)?;
+    let count = b.count.checked_add(s.count).ok_or(Refusal::CounterLimit)?;
+    Ok(Bookmark {
+        place: s.place,
+        interval: s.interval,
+        distance: s.distance,
+        moves,
+        count,
+    })
 }
