@@ -1,5 +1,5 @@
 -- What the parts of `list_file` ask and promise.
-use Rattle.std.specs.Prelude.{ℕ, ◌≤◌, ◌≡◌, List, take, Result, Ok, Err}
+use Rattle.std.specs.Prelude.{ℕ, ◌≤◌, ◌≡◌, List, length, take, Result, Ok, Err}
 use Rattle.runs.specs.Runs.{Runs, runs}
 use Rattle.runs.specs.Legal.{Legal}
 use Rattle.outcomes.specs.Outcome.{Long}
@@ -7,6 +7,7 @@ use Rattle.outcomes.specs.Refusal.{number_of, place_of}
 use Rattle.tables.specs.Tables.{Tables, tables_of, size_of, all_columns, each_column}
 use Rattle.outcomes.specs.declared.Refusal.{Refusal}
 use Rattle.text.specs.Text.{refusal_text}
+use Rattle.text.specs.declared.Page.{Page}
 use Rattle.files.specs.declared.Header.{Header}
 use Rattle.listings.specs.Listing.{table_text}
 
@@ -24,6 +25,10 @@ max_head = 44
 
 abbrev pub max_text : ℕ
 max_text = 137260
+
+-- a page that has nothing on it yet, and room for any listing
+abbrev pub IsFresh : Page → Type 0
+IsFresh p = (p.at ≡ 0) × (max_text ≤ length p.bytes.now)
 
 -- tables of a legal list that is short enough to be listed
 pub record Listed (n : ℕ) (t : Tables) : Type 0 where

@@ -13,17 +13,18 @@ ghost use Rattle.outcomes.specs.Refusal.{number_of, place_of};
 ghost use Rattle.runs.specs.Runs.{runs, runs_in};
 ghost use Rattle.tables.specs.Tables.{tables_in};
 ghost use Rattle.text.specs.Text.{refusal_text};
-ghost use Rattle.text.specs.Page.{Wrote};
+ghost use Rattle.text.specs.Page.{Writes};
 ghost use Rattle.files.specs.Words.{runs_of};
 ghost use Rattle.files.specs.Parts.{Laid, ListRoom, listed_of, body_of};
 ghost use Rattle.listings.specs.Listing.{max_listed, list_text, listing_of, FileListed};
-ghost use Rattle.listings.specs.Parts.{max_text, Answered, answer_text};
+ghost use Rattle.listings.specs.Parts.{IsFresh, Answered, answer_text};
 
 use files::Header;
 use outcomes::Refusal;
 use runs::RunList;
 use table::table;
 use tables::MoveTable;
+use text::Page;
 
 // The most runs that are listed.
 pub const MAX_LISTED: usize = 1024;
@@ -38,17 +39,17 @@ pub const MAX_TEXT: usize = 137260;
 pub const DECIDING_BYTES: usize = 8213;
 
 // Writes the line of a refusal at the page's start.
-fn refusal_line(page: &mut [u8], r: Refusal) -> usize
-    requires { max_text ≤ length page.old }
-    ensures { Wrote page.old 0 (refusal_text (number_of r) (place_of r)) page.new result }
+fn refusal_line(page: &mut Page<'_>, r: Refusal)
+    requires { IsFresh page.old }
+    ensures { Writes page.old (refusal_text (number_of r) (place_of r)) page.new }
 {
-    text::refusal(page, r.number(), r.place())
+    page.refusal(r.number(), r.place());
 }
 
 // Writes what balancing answered: the listing of the tables that it filled, or its refusal.
-fn answer_text(page: &mut [u8], h: Header, answer: Result<u32, Refusal>, lent: MoveTable<'_>) -> usize
-    requires { Answered h.n answer (tables_in lent) × (lent.n ≡ h.n) × (max_text ≤ length page.old) }
-    ensures { Wrote page.old 0 (answer_text h answer (runs lent.entry.starts.now lent.entry.images.now)) page.new result }
+fn answer_text(page: &mut Page<'_>, h: Header, answer: Result<u32, Refusal>, lent: MoveTable<'_>)
+    requires { Answered h.n answer (tables_in lent) × (lent.n ≡ h.n) × IsFresh page.old }
+    ensures { Writes page.old (answer_text h answer (runs lent.entry.starts.now lent.entry.images.now)) page.new }
 {
     match answer {
         Err(r) => refusal_line(page, r),
@@ -57,9 +58,9 @@ fn answer_text(page: &mut [u8], h: Header, answer: Result<u32, Refusal>, lent: M
 }
 
 // Balances a list, and writes its listing or the refusal: tests 1 to 7, for 8 cannot apply to so few runs.
-fn list_runs(page: &mut [u8], h: Header, list: RunList<'_>) -> usize
-    requires { (length list.starts.now ≤ max_listed) × (list.n ≡ h.n) × (max_text ≤ length page.old) }
-    ensures { Wrote page.old 0 (list_text (runs_in list.entry) (listed_of h (runs_in list.entry))) page.new result }
+fn list_runs(page: &mut Page<'_>, h: Header, list: RunList<'_>)
+    requires { (length list.starts.now ≤ max_listed) × (list.n ≡ h.n) × IsFresh page.old }
+    ensures { Writes page.old (list_text (runs_in list.entry) (listed_of h (runs_in list.entry))) page.new }
 {
     let mut starts = [0; MAX_TABLED];
     let mut images = [0; MAX_TABLED];
@@ -82,19 +83,13 @@ fn list_runs(page: &mut [u8], h: Header, list: RunList<'_>) -> usize
         holders: &holders,
         lengths: &lengths,
     };
-    answer_text(page, h, answer, lent)
+    answer_text(page, h, answer, lent);
 }
 
 // Reads the list of a file whose header is right, and writes its listing or the refusal, with room for the list.
-fn list_read(
-    page: &mut [u8],
-    file: &[u8],
-    h: Header,
-    starts: &mut [u32],
-    images: &mut [u32],
-) -> usize
-    requires { Laid max_listed file.now h × ListRoom file.now h.k starts.old images.old × (max_text ≤ length page.old) }
-    ensures { Wrote page.old 0 (list_text (runs_of file.now) (body_of file.now)) page.new result }
+fn list_read(page: &mut Page<'_>, file: &[u8], h: Header, starts: &mut [u32], images: &mut [u32])
+    requires { Laid max_listed file.now h × ListRoom file.now h.k starts.old images.old × IsFresh page.old }
+    ensures { Writes page.old (list_text (runs_of file.now) (body_of file.now)) page.new }
 {
     files::read_list(file, h.k as usize, starts, images);
     let list = RunList {
@@ -102,24 +97,24 @@ fn list_read(
         starts,
         images,
     };
-    list_runs(page, h, list)
+    list_runs(page, h, list);
 }
 
 // The same, with room of its own.
-fn list_body(page: &mut [u8], file: &[u8], h: Header) -> usize
-    requires { Laid max_listed file.now h × (max_text ≤ length page.old) }
-    ensures { Wrote page.old 0 (list_text (runs_of file.now) (body_of file.now)) page.new result }
+fn list_body(page: &mut Page<'_>, file: &[u8], h: Header)
+    requires { Laid max_listed file.now h × IsFresh page.old }
+    ensures { Writes page.old (list_text (runs_of file.now) (body_of file.now)) page.new }
 {
     let k = h.k as usize;
     let mut starts = [0; MAX_LISTED];
     let mut images = [0; MAX_LISTED];
-    list_read(page, file, h, &mut starts[..k], &mut images[..k])
+    list_read(page, file, h, &mut starts[..k], &mut images[..k]);
 }
 
 // Writes the listing of a file at the page's start.
-fn listing(page: &mut [u8], file: &[u8]) -> usize
-    requires { max_text ≤ length page.old }
-    ensures { Wrote page.old 0 (listing_of file.now) page.new result }
+fn listing(page: &mut Page<'_>, file: &[u8])
+    requires { IsFresh page.old }
+    ensures { Writes page.old (listing_of file.now) page.new }
 {
     match files::read_header(file, MAX_LISTED) {
         Err(r) => refusal_line(page, r),
@@ -134,21 +129,17 @@ fn fitting(count: usize, room: usize) -> usize
     if room < count { 0 } else { count }
 }
 
-// Writes the listing by way of a page, so that a text that is too short is left alone.
-fn list_by(page: &mut [u8], file: &[u8], text: &mut [u8]) -> usize
-    requires { max_text ≤ length page.old }
-    ensures { FileListed file.now text.old text.new result }
-{
-    let end = listing(page, file);
-    let count = fitting(end, text.len());
-    text::copy(&page[..count], text)
-}
-
 // Writes the listing of a file, or the line of its refusal, at the start of `text`, and answers how many bytes that are;
-// 0, and nothing is written, where `text` is too short.
+// 0, and nothing is written, where `text` is too short. The listing is written by way of a page, so that such a text is left alone.
 pub fn list_file(file: &[u8], text: &mut [u8]) -> usize
     ensures { FileListed file.now text.old text.new result }
 {
-    let mut page = [0; MAX_TEXT];
-    list_by(&mut page, file, text)
+    let mut bytes = [0; MAX_TEXT];
+    let mut page = Page {
+        bytes: &mut bytes,
+        at: 0,
+    };
+    listing(&mut page, file);
+    let count = fitting(page.at, text.len());
+    text::copy(&page.bytes[..count], text)
 }

@@ -1,34 +1,27 @@
 // The two kinds of lines that a listing has.
 ghost use Rattle.std.specs.Prelude.{◌<◌, nat_abs};
 ghost use Rattle.text.specs.Text.{max_size};
-ghost use Rattle.text.specs.Page.{Fits, Wrote};
+ghost use Rattle.text.specs.Page.{HasRoom, Writes};
 ghost use Rattle.listings.specs.Listing.{head_text, row_text};
 
+use text::Page;
+
 // Writes the first line of a listing.
-pub(crate) fn head(page: &mut [u8], at: usize, n: u32, k: u32, d: u32, size: u32) -> usize
-    requires { Fits page.old at (head_text n k d size) }
-    ensures { Wrote page.old at (head_text n k d size) page.new result }
+pub(crate) fn head(page: &mut Page<'_>, n: u32, k: u32, d: u32, size: u32)
+    requires { HasRoom page.old (head_text n k d size) }
+    ensures { Writes page.old (head_text n k d size) page.new }
 {
-    let next = text::pair(page, at, n, k, 32);
-    text::pair(page, next, d, size, 10)
+    page.pair(n, k, b' ');
+    page.pair(d, size, b'\n');
 }
 
 // Writes an interval's line.
-pub(crate) fn row(
-    page: &mut [u8],
-    at: usize,
-    x: u32,
-    start: u32,
-    image: u32,
-    shift: i64,
-    holder: u32,
-    weight: u32,
-) -> usize
-    requires { (nat_abs shift < max_size) × Fits page.old at (row_text x start image shift holder weight) }
-    ensures { Wrote page.old at (row_text x start image shift holder weight) page.new result }
+pub(crate) fn row(page: &mut Page<'_>, x: u32, start: u32, image: u32, shift: i64, holder: u32, weight: u32)
+    requires { (nat_abs shift < max_size) × HasRoom page.old (row_text x start image shift holder weight) }
+    ensures { Writes page.old (row_text x start image shift holder weight) page.new }
 {
-    let at_image = text::pair(page, at, x, start, 32);
-    let at_shift = text::field(page, at_image, image, 32);
-    let at_holder = text::signed_field(page, at_shift, shift, 32);
-    text::pair(page, at_holder, holder, weight, 10)
+    page.pair(x, start, b' ');
+    page.field(image, b' ');
+    page.signed_field(shift, b' ');
+    page.pair(holder, weight, b'\n');
 }

@@ -15,13 +15,6 @@ wrote_nothing page at h =
     let e : at + 0 ≡ at = omega arith in
     record { text = rw e (sym (take-append-drop at page)); till = omega arith; inside = h }
 
--- a text at the page's start
-pub wrote_start : (page s page' : List ℕ) (end : ℕ) → length s ≤ length page → end ≡ length s → page' ≡ s ++ drop (length s) page → Wrote page 0 s page' end
-unfolding overlaid
-wrote_start page s page' end r e f =
-    let z : 0 + length s ≡ length s = omega arith in
-    record { text = f ∙ rw z; till = e ∙ sym z; inside = omega arith }
-
 -- one byte
 pub wrote_byte : (page : List ℕ) (at b : ℕ) → at < length page → Wrote page at (b ∷ []) (set page at b) (at + 1)
 unfolding overlaid

@@ -1,8 +1,8 @@
--- `decimal` meets its contract: the digits of a tenth of v, and then the last one.
+-- The digits of a tenth of v, and then the last one.
 use Rattle.std.proofs.Common.{arith}
 use Rattle.text.proofs.Writing.{fits_first, fits_second, wrote_both}
 use Rattle.text.proofs.Digits.{decimal_small, decimal_large}
-use Rattle.text.proofs.numbers.+decimal.Goals as goal
+use Rattle.text.proofs.Page.+decimal.Goals as goal
 
 pub put-requires : goal.put-requires
 put-requires t c = rw (decimal_small c.args.v c.if-v-lt10.true) at c.requires
@@ -10,15 +10,15 @@ put-requires t c = rw (decimal_small c.args.v c.if-v-lt10.true) at c.requires
 pub returns-then-v-lt10 : goal.returns-then-v-lt10
 returns-then-v-lt10 t c = rw (decimal_small c.args.v c.if-v-lt10.true) c.put.ensures
 
-pub decimal-next-requires : goal.decimal-next-requires
-decimal-next-requires t c =
+pub decimal-requires : goal.decimal-requires
+decimal-requires t c =
     (omega arith, fits_first _ _ _ _ (rw (decimal_large c.args.v c.if-v-lt10.false c.ranges.v.fits) at c.requires))
 
-pub put-requires-2 : goal.put-requires-2
-put-requires-2 t c =
-    fits_second _ _ _ _ (rw (decimal_large c.args.v c.if-v-lt10.false c.ranges.v.fits) at c.requires) _ _ c.decimal-next.ensures
+pub put-requires-else-v-lt10 : goal.put-requires-else-v-lt10
+put-requires-else-v-lt10 t c =
+    fits_second _ _ _ _ (rw (decimal_large c.args.v c.if-v-lt10.false c.ranges.v.fits) at c.requires) _ _ c.decimal.ensures
 
-pub returns : goal.returns
-returns t c =
+pub returns-else-v-lt10 : goal.returns-else-v-lt10
+returns-else-v-lt10 t c =
     let e = decimal_large c.args.v c.if-v-lt10.false c.ranges.v.fits in
-    rw e (wrote_both _ _ _ _ (rw e at c.requires) _ _ c.decimal-next.ensures _ _ c.put-2.ensures)
+    rw e (wrote_both _ _ _ _ (rw e at c.requires) _ _ c.decimal.ensures _ _ c.put-else-v-lt10.ensures)

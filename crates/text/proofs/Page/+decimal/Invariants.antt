@@ -1,5 +1,5 @@
 -- A tenth of v is less than v.
-use Rattle.text.proofs.numbers.+decimal.Given as goal
+use Rattle.text.proofs.Page.+decimal.Given as goal
 
 abbrev pub decreases-decimal : goal.decreases-decimal
 decreases-decimal l = l.v

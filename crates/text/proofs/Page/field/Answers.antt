@@ -1,0 +1,9 @@
+-- The digits, and then the byte after them.
+use Rattle.text.proofs.Writing.{fits_second, wrote_both}
+use Rattle.text.proofs.Page.field.Goals as goal
+
+pub put-requires : goal.put-requires
+put-requires c = fits_second _ _ _ _ c.requires _ _ (rw c.from.ensures at c.decimal.ensures)
+
+pub returns : goal.returns
+returns c = wrote_both _ _ _ _ c.requires _ _ (rw c.from.ensures at c.decimal.ensures) _ _ c.put.ensures
