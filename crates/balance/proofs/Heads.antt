@@ -11,8 +11,10 @@ use Rattle.tables.specs.Tables.{Tables, tables, links_of, lengths_of, tables_of,
 use Rattle.tables.specs.Parts.{Full}
 use Rattle.tables.proofs.Lengths.{lengths_long}
 use Rattle.cuts.specs.Balance.{balanced}
-use Rattle.balance.specs.Lent.{Lent, first_of, balanced_says, balance_of, interval_count, filled_tables, Balances}
-use Rattle.balance.specs.declared.Balanced.{Balanced}
+use Rattle.balance.specs.Lent.{Lent, first_of, balance_of, interval_count, filled_tables, Balances}
+use Rattle.std.specs.Prelude.{Result}
+use Rattle.outcomes.specs.declared.Refusal.{Refusal}
+use Rattle.outcomes.specs.Refusal.{says as Refusal·says}
 
 -- a head of full length is within its list
 take_full : (k : ℕ) (l : List ℕ) → length (take k l) ≡ k → k ≤ length l
@@ -47,10 +49,10 @@ unfolding filled_tables
 tables_kept o k p entry e = rw e
 
 -- the head of the lent tables after balancing
-module _ (n : ℕ) (r : Runs) (d : ℕ) (entry exit : Lent) (answer : Balanced) (b : Balances n r d entry exit answer)
+module _ (n : ℕ) (r : Runs) (d : ℕ) (entry exit : Lent) (answer : Result ℕ Refusal) (b : Balances n r d entry exit answer)
     (e : balance_of n r d entry ≡ done (tables_of n (balanced d n r)))
     (paired : length (balanced d n r).images ≡ count_of (balanced d n r)) where
-  pub answer_is : balanced_says answer ≡ done (count_of (balanced d n r))
+  pub answer_is : Refusal·says answer ≡ done (count_of (balanced d n r))
   unfolding map_done
   answer_is = b.says ∙ rw e
 

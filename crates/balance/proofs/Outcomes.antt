@@ -27,8 +27,7 @@ use Rattle.plans.proofs.Clearing.{swept_cleared}
 use Rattle.plans.proofs.Fitted.{size_few, sought_unlimited, found_planned, found_cuts}
 use Rattle.balance.specs.Lent.{Lent, lent_columns, Room, balance_of, interval_count, filled_tables, Balances}
 use Rattle.balance.specs.Parts.{TablesWritten, Fillable, fill_of, Fills}
-use Rattle.balance.specs.declared.Balanced.{Balanced}
-use Rattle.balance.specs.declared.Balanced.TheVariants.{Intervals, Refused}
+use Rattle.std.specs.Prelude.{Result, Ok, Err}
 
 -- 8 for the four tables
 module _ (size : ℕ) (t entry : Tables) where
@@ -45,7 +44,7 @@ module _ (size : ℕ) (t entry : Tables) where
       go true e = (cc, cc)
       go false e = absurd (done_refused t k p e)
 
-  pub fills_short : any_short size (all_columns entry) ≡ true → Fills size t entry entry (Refused (ShortTable size))
+  pub fills_short : any_short size (all_columns entry) ≡ true → Fills size t entry entry (Err (ShortTable size))
   unfolding map_done filled_tables
   fills_short e = let f = fill_short e in record { says = rw f; written = rw f }
 
@@ -54,7 +53,7 @@ module _ (size : ℕ) (t entry : Tables) where
   fill_done e = rw e
 
   pub fills_done : any_short size (all_columns entry) ≡ false → (exit : Tables) → TablesWritten t entry exit → size ≡ interval_count t
-      → Fills size t entry exit (Intervals size)
+      → Fills size t entry exit (Ok size)
   unfolding map_done filled_tables
   fills_done e exit w k = let f = fill_done e in record { says = rw f (ap done k); written = rw f w }
 
@@ -110,7 +109,7 @@ module _ (n : ℕ) (r : Runs) (d : ℕ) (l : Lent) where
 module _ (n : ℕ) (r : Runs) (d : ℕ) (l : Lent) where
   pub plan_refused : (x : Refusal) (working : List ℕ) → sought_of n r no_limit d (length l.working) ≡ refusal_says x
       → working ≡ cleared_by n r d l.working
-      → Balances n r d l (record { tables = l.tables; working = working }) (Refused x)
+      → Balances n r d l (record { tables = l.tables; working = working }) (Err x)
   unfolding map_done filled_tables
   plan_refused x working p w =
       let e : balance_of n r d l ≡ refusal_says x =
@@ -139,7 +138,7 @@ module _ (n : ℕ) (r : Runs) (d : ℕ) (l : Lent) (swept : List ℕ) (plan : Cu
         few = omega (arith, taken, g.counted, size_few n r d (length l.working) h.0 h.1 t.0);
       }
 
-  pub plan_filled : (t : Tables) (working : List ℕ) (answer : Balanced)
+  pub plan_filled : (t : Tables) (working : List ℕ) (answer : Result ℕ Refusal)
       → Fills (count_of r + length (take plan.cuts swept)) (tables_of n (with_cuts n r (take plan.cuts swept))) l.tables t answer
       → working ≡ over (replicate (working_size d (count_of r)) 0) swept
       → Balances n r d l (record { tables = t; working = working }) answer

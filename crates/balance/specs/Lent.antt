@@ -1,17 +1,12 @@
 -- Balancing into lent tables: its tests, and what stands in each table at exit.
-use Rattle.std.specs.Prelude.{ℕ, ◌≤◌, ◌≡◌, List, [], ◌∷◌, ◌++◌, length, take}
+use Rattle.std.specs.Prelude.{ℕ, ◌≤◌, ◌≡◌, List, [], ◌∷◌, ◌++◌, length, take, Result}
 use Rattle.outcomes.specs.Outcome.{Outcome, done, refused, Test, Long, short_test, judge, map_done, over}
-use Rattle.outcomes.specs.Refusal.{refusal_says}
+use Rattle.outcomes.specs.Refusal.{says as Refusal·says}
 use Rattle.runs.specs.Runs.{Runs, count_of}
 use Rattle.tables.specs.Tables.{Tables, tables, tables_of, size_of, all_columns, each_column, each_pair}
 use Rattle.cuts.specs.Balance.{balanced, size_at}
 use Rattle.plans.specs.Working.{working_size, plan_tests, cleared_by}
-use Rattle.balance.specs.declared.Balanced.{Balanced}
-use Rattle.balance.specs.declared.Balanced.TheVariants.{Intervals, Refused}
-
-abbrev pub balanced_says : Balanced → Outcome ℕ
-balanced_says (Intervals k) = done k
-balanced_says (Refused r) = refusal_says r
+use Rattle.outcomes.specs.declared.Refusal.{Refusal}
 
 -- the four tables, with any numbers in them and of any sizes, and the working table, as their owner lends them
 pub record Lent : Type 0 where
@@ -53,7 +48,7 @@ filled_tables (refused k p) entry = entry
 
 -- What `balance` promises: the answer K, the tables of the balanced list in the first K entries of the four, and every
 -- other entry as it was, after a refusal all of them; and the working table at exit, cleared also where the last test applies.
-pub record Balances (n : ℕ) (r : Runs) (d : ℕ) (entry exit : Lent) (answer : Balanced) : Type 0 where
-  pub says : balanced_says answer ≡ map_done interval_count (balance_of n r d entry)
+pub record Balances (n : ℕ) (r : Runs) (d : ℕ) (entry exit : Lent) (answer : Result ℕ Refusal) : Type 0 where
+  pub says : Refusal·says answer ≡ map_done interval_count (balance_of n r d entry)
   pub written : exit.tables ≡ filled_tables (balance_of n r d entry) entry.tables
   pub working : exit.working ≡ cleared_by n r d entry.working

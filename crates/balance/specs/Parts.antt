@@ -1,14 +1,14 @@
 -- What the private functions that write the tables ask and promise.
-use Rattle.std.specs.Prelude.{ℕ, suc, ◌+◌, ◌≤◌, ◌<◌, ◌≡◌, List, [], ◌∷◌, length, get_or}
+use Rattle.std.specs.Prelude.{ℕ, suc, ◌+◌, ◌≤◌, ◌<◌, ◌≡◌, List, [], ◌∷◌, length, get_or, Result}
 use Rattle.outcomes.specs.Outcome.{Outcome, short_test, judge, map_done, over}
 use Rattle.merging.specs.Merged.{Starts}
 use Rattle.runs.specs.Legal.{Legal}
 use Rattle.runs.specs.Runs.{Runs, count_of}
 use Rattle.tables.specs.Tables.{Tables, all_columns, each_pair}
 use Rattle.cuts.specs.Cuts.{with_cuts}
-use Rattle.balance.specs.Lent.{balanced_says, interval_count, filled_tables}
-use Rattle.balance.specs.declared.Balanced.{Balanced}
-use Rattle.balance.specs.declared.Sizes.{Sizes}
+use Rattle.outcomes.specs.Refusal.{says as Refusal·says}
+use Rattle.outcomes.specs.declared.Refusal.{Refusal}
+use Rattle.balance.specs.Lent.{interval_count, filled_tables}
 
 -- the run at x of a list with these starts has place p
 pub record Has (n : ℕ) (starts : List ℕ) (x p : ℕ) : Type 0 where
@@ -25,10 +25,6 @@ pub record ListWritten (n : ℕ) (r : Runs) (cuts starts images starts' images' 
 abbrev pub TablesWritten : Tables → Tables → Tables → Type 0
 TablesWritten t entry exit = exit ≡ each_pair over t entry
 
--- the sizes of the four tables, by the names that the code has for them, as a list
-abbrev pub all_sizes : Sizes → List ℕ
-all_sizes s = s.starts ∷ s.images ∷ s.holders ∷ s.lengths ∷ []
-
 -- 8 for tables that are to hold `size` intervals, and what is written to them
 unfoldable pub fill_of : ℕ → Tables → Tables → Outcome Tables
 fill_of size t entry = judge (short_test size (all_columns entry) ∷ []) t
@@ -39,6 +35,6 @@ pub record Fillable (n : ℕ) (r : Runs) (cuts : List ℕ) : Type 0 where
   pub starts : Starts n r.starts cuts
   pub few : count_of r + length cuts < 4294967296
 
-pub record Fills (size : ℕ) (t entry exit : Tables) (answer : Balanced) : Type 0 where
-  pub says : balanced_says answer ≡ map_done interval_count (fill_of size t entry)
+pub record Fills (size : ℕ) (t entry exit : Tables) (answer : Result ℕ Refusal) : Type 0 where
+  pub says : Refusal·says answer ≡ map_done interval_count (fill_of size t entry)
   pub written : exit ≡ filled_tables (fill_of size t entry) entry

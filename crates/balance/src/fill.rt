@@ -4,90 +4,79 @@ ghost use Rattle.std.proofs.Math.Seq.{paste};
 ghost use Rattle.order.specs.Lists.{leading};
 ghost use Rattle.runs.specs.Legal.{Legal};
 ghost use Rattle.runs.specs.Parts.{Lasts};
-ghost use Rattle.runs.specs.Runs.{runs, run_at, map_of};
+ghost use Rattle.runs.specs.Runs.{runs_in, run_at, map_of};
 ghost use Rattle.tables.specs.Tables.{tables, lengths_of, tables_of, all_columns};
 ghost use Rattle.merging.specs.Merged.{Starts};
 ghost use Rattle.cuts.specs.Cuts.{with_cuts};
 ghost use Rattle.balance.specs.Parts.{Has, ListWritten, TablesWritten};
 ghost use Rattle.outcomes.specs.Outcome.{Long, over};
 
+use runs::RunList;
+
 // The image of `p`, which run `x` has.
-fn image_of(n: u32, starts: &[u32], images: &[u32], x: usize, p: u32) -> u32
-    requires { Legal n (runs starts.now images.now) × Has n starts.now x p }
-    ensures { result ≡ map_of n (runs starts.now images.now) p }
+fn image_of(list: RunList<'_>, x: usize, p: u32) -> u32
+    requires { Legal list.n (runs_in list) × Has list.n list.starts.now x p }
+    ensures { result ≡ map_of list.entry.n (runs_in list.entry) p }
 {
-    images[x] + (p - starts[x])
+    list.images[x] + (p - list.starts[x])
 }
 
-// Copies the entries of `from` from `x` on to those of `to` from `at` on. A turn tests nothing but the count, which starts at 0, so
-// that the compiler can make several turns at a time.
+// Copies the entries of `from` from `x` on to those of `to` from `at` on.
 fn copy_rest(from: &[u32], x: usize, to: &mut [u32], at: usize)
     requires { (x ≤ length from.now) × (at + (length from.now - x) ≤ length to.old) }
     ensures { to.new
         ≡ paste to.old at (drop x from.now) (length from.now - x) }
 {
     let count = from.len() - x;
-    let mut i = 0;
-    while i < count {
-        to[at + i] = from[x + i];
-        i += 1;
-    }
+    to[at..at + count].copy_from_slice(&from[x..]);
 }
 
 // Copies the runs from run `x` on that start up to `most`, to the entries from `at` on, and answers how many. It copies as it
 // compares: a search for the last of them and then `copy_rest` would take longer for the few runs that often stand between cuts.
 fn copy_up_to(
-    starts: &[u32],
-    images: &[u32],
+    list: RunList<'_>,
     x: usize,
     most: u32,
     to_starts: &mut [u32],
     to_images: &mut [u32],
     at: usize,
 ) -> usize
-    requires { (length images.now ≡ length starts.now) × (x ≤ length starts.now)
-        × (at + (length starts.now - x) ≤ length to_starts.old)
-        × (at + (length starts.now - x) ≤ length to_images.old) }
-    ensures { (result ≡ leading (λ e. leb e most) (drop x starts.now))
-        × (to_starts.new ≡ paste to_starts.old at (drop x starts.now) result)
-        × (to_images.new ≡ paste to_images.old at (drop x images.now) result) }
+    requires { (length list.images.now ≡ length list.starts.now) × (x ≤ length list.starts.now)
+        × (at + (length list.starts.now - x) ≤ length to_starts.old)
+        × (at + (length list.starts.now - x) ≤ length to_images.old) }
+    ensures { (result ≡ leading (λ e. leb e most) (drop x list.entry.starts.now))
+        × (to_starts.new ≡ paste to_starts.old at (drop x list.entry.starts.now) result)
+        × (to_images.new ≡ paste to_images.old at (drop x list.entry.images.now) result) }
 {
-    let mut i = 0;
-    while x + i < starts.len() && starts[x + i] <= most {
-        to_starts[at + i] = starts[x + i];
-        to_images[at + i] = images[x + i];
-        i += 1;
+    let count = list.starts.len() - x;
+    for i in 0..count {
+        let start = list.starts[x + i];
+        if most < start {
+            return i;
+        }
+        to_starts[at + i] = start;
+        to_images[at + i] = list.images[x + i];
     }
-    i
+    count
 }
 
 // Writes the starts and the cuts in rising order, and their images. The runs up to a cut are copied, then the cut is written. So a
 // list with no cut is copied whole, and no entry of it is compared.
-fn write_list(
-    n: u32,
-    starts: &[u32],
-    images: &[u32],
-    cuts: &[u32],
-    to_starts: &mut [u32],
-    to_images: &mut [u32],
-)
-    requires { Legal n (runs starts.now images.now) × Starts n starts.now cuts.now
-        × (length starts.now + length cuts.now ≤ length to_starts.old)
-        × (length starts.now + length cuts.now ≤ length to_images.old) }
-    ensures { ListWritten n (runs starts.now images.now) cuts.now
+fn write_list(list: RunList<'_>, cuts: &[u32], to_starts: &mut [u32], to_images: &mut [u32])
+    requires { Legal list.n (runs_in list) × Starts list.n list.starts.now cuts.now
+        × (length list.starts.now + length cuts.now ≤ length to_starts.old)
+        × (length list.starts.now + length cuts.now ≤ length to_images.old) }
+    ensures { ListWritten list.entry.n (runs_in list.entry) cuts.now
         to_starts.old to_images.old to_starts.new to_images.new }
 {
     let mut x = 0;
-    let mut c = 0;
-    while c < cuts.len() {
-        let cut = cuts[c];
-        x += copy_up_to(starts, images, x, cut, to_starts, to_images, x + c);
-        to_starts[x + c] = cut;
-        to_images[x + c] = image_of(n, starts, images, x - 1, cut);
-        c += 1;
+    for (c, cut) in cuts.iter().enumerate() {
+        x += copy_up_to(list, x, *cut, to_starts, to_images, x + c);
+        to_starts[x + c] = *cut;
+        to_images[x + c] = image_of(list, x - 1, *cut);
     }
-    copy_rest(starts, x, to_starts, x + c);
-    copy_rest(images, x, to_images, x + c);
+    copy_rest(list.starts, x, to_starts, x + cuts.len());
+    copy_rest(list.images, x, to_images, x + cuts.len());
 }
 
 // Writes the length of each interval: where it ends minus its start. The last one, which ends at n, stands apart, so that each
@@ -97,54 +86,50 @@ fn write_lengths(n: u32, starts: &[u32], to: &mut [u32])
     ensures { to.new ≡ over (lengths_of n starts.now) to.old }
 {
     let last = starts.len() - 1;
-    let mut x = 0;
-    while x < last {
+    for x in 0..last {
         to[x] = starts[x + 1] - starts[x];
-        x += 1;
     }
     to[last] = n - starts[last];
 }
 
 // Writes the holder of each image, and the length of each interval. The holders are found with the table of the lengths as room,
 // before these are written.
-fn write_holders_and_lengths(
-    n: u32,
-    starts: &[u32],
-    images: &[u32],
-    to_holders: &mut [u32],
-    to_lengths: &mut [u32],
-)
-    requires { Legal n (runs starts.now images.now) × (length starts.now ≤ length to_holders.old)
-        × (length starts.now ≤ length to_lengths.old) }
+fn write_holders_and_lengths(list: RunList<'_>, to_holders: &mut [u32], to_lengths: &mut [u32])
+    requires { Legal list.n (runs_in list) × (length list.starts.now ≤ length to_holders.old)
+        × (length list.starts.now ≤ length to_lengths.old) }
     ensures { (to_holders.new ≡ over
-        (map (run_at n (runs starts.now images.now)) images.now) to_holders.old)
-        × (to_lengths.new ≡ over (lengths_of n starts.now) to_lengths.old) }
+        (map (run_at list.entry.n (runs_in list.entry)) list.entry.images.now) to_holders.old)
+        × (to_lengths.new ≡ over (lengths_of list.entry.n list.entry.starts.now) to_lengths.old) }
 {
-    let room = &mut to_lengths[..starts.len()];
-    holders::write_holders(n, starts, images, to_holders, room);
-    write_lengths(n, starts, to_lengths);
+    let room = &mut to_lengths[..list.starts.len()];
+    holders::write_holders(list.n, list.starts, list.images, to_holders, room);
+    write_lengths(list.n, list.starts, to_lengths);
 }
 
-// Writes the tables of the list after the cuts.
+// Writes the tables of the list after the cuts. The four stay parameters of their own: a struct of mutable slices would be no plainer,
+// since the first two are written and then read while the others are written.
 pub(crate) fn write_tables(
-    n: u32,
-    starts: &[u32],
-    images: &[u32],
+    list: RunList<'_>,
     cuts: &[u32],
     to_starts: &mut [u32],
     to_images: &mut [u32],
     to_holders: &mut [u32],
     to_lengths: &mut [u32],
 )
-    requires { Legal n (runs starts.now images.now) × Starts n starts.now cuts.now
-        × Long (length starts.now + length cuts.now)
+    requires { Legal list.n (runs_in list) × Starts list.n list.starts.now cuts.now
+        × Long (length list.starts.now + length cuts.now)
         (all_columns (tables to_starts.old to_images.old to_holders.old to_lengths.old)) }
     ensures { TablesWritten
-        (tables_of n (with_cuts n (runs starts.now images.now) cuts.now))
+        (tables_of list.entry.n (with_cuts list.entry.n (runs_in list.entry) cuts.now))
         (tables to_starts.old to_images.old to_holders.old to_lengths.old)
         (tables to_starts.new to_images.new to_holders.new to_lengths.new) }
 {
-    write_list(n, starts, images, cuts, to_starts, to_images);
-    let k = starts.len() + cuts.len();
-    write_holders_and_lengths(n, &to_starts[..k], &to_images[..k], to_holders, to_lengths);
+    write_list(list, cuts, to_starts, to_images);
+    let k = list.starts.len() + cuts.len();
+    let cut_list = RunList {
+        n: list.n,
+        starts: &to_starts[..k],
+        images: &to_images[..k],
+    };
+    write_holders_and_lengths(cut_list, to_holders, to_lengths);
 }

@@ -9,9 +9,11 @@
 ghost use Rattle.std.specs.Prelude.{◌≡◌, ◌≤◌, length};
 ghost use Rattle.order.specs.Order.{order_of};
 ghost use Rattle.runs.specs.Parts.{Ordered};
-ghost use Rattle.runs.specs.Runs.{runs};
+ghost use Rattle.runs.specs.Runs.{runs_in};
 ghost use Rattle.bounds.specs.Bound.{Boundable, Opens};
 ghost use Rattle.bounds.specs.Parts.{PerDegree, certain_of, image_from, Addable, Added, Summable, FirstWithin};
+
+use runs::RunList;
 
 // A degree before which all are ruled out, and one from there on at which the list is known not to be cut; 65 for either, if there
 // is none.
@@ -30,40 +32,36 @@ fn add_cuts(totals: &mut [u32], w: u32)
     requires { Addable totals.old w }
     ensures { Added w totals.old totals.new }
 {
-    let mut d = 2;
-    while d <= outcomes::MOST_DEGREE && 2 * d <= w {
+    for d in 2..=outcomes::MOST_DEGREE.min(w / 2) {
         totals[(d - 2) as usize] += w / d - 1;
-        d += 1;
     }
 }
 
 // Where the image at `j` in the order by image begins, or n after the last.
-fn image_from(n: u32, starts: &[u32], images: &[u32], order: &[u32], j: usize) -> u32
-    requires { Ordered (runs starts.now images.now) order.now }
-    ensures { result ≡ image_from n (runs starts.now images.now) j }
+fn image_from(list: RunList<'_>, order: &[u32], j: usize) -> u32
+    requires { Ordered (runs_in list) order.now }
+    ensures { result ≡ image_from list.entry.n (runs_in list.entry) j }
 {
-    if j < starts.len() {
-        images[order[j] as usize]
+    if j < list.starts.len() {
+        list.images[order[j] as usize]
     } else {
-        n
+        list.n
     }
 }
 
 // Adds the certain cuts of all runs. The images in rising order leave no place out, so that an image ends where the next
 // begins, and the starts under it follow those under the one before. They are mostly few, as `near_end` has it.
-fn add_all_cuts(n: u32, starts: &[u32], images: &[u32], order: &[u32], totals: &mut [u32])
-    requires { Summable n (runs starts.now images.now) order.now totals.old }
-    ensures { PerDegree (certain_of n (runs starts.now images.now)
-        (order_of images.now)) totals.new }
+fn add_all_cuts(list: RunList<'_>, order: &[u32], totals: &mut [u32])
+    requires { Summable list.n (runs_in list) order.now totals.old }
+    ensures { PerDegree (certain_of list.entry.n (runs_in list.entry)
+        (order_of list.entry.images.now)) totals.new }
 {
     let mut passed = 0;
-    let mut j = 0;
-    while j < starts.len() {
-        let end = image_from(n, starts, images, order, j + 1);
-        let to = order::near_end(starts, passed, end - 1);
+    for j in 0..list.starts.len() {
+        let end = image_from(list, order, j + 1);
+        let to = order::near_end(list.starts, passed, end - 1);
         add_cuts(totals, (to - passed) as u32);
         passed = to;
-        j += 1;
     }
 }
 
@@ -72,33 +70,28 @@ fn first_within(totals: &[u32], low: u32, spare: usize) -> u32
     requires { (63 ≤ length totals.now) × (2 ≤ low) × (low ≤ 64) }
     ensures { FirstWithin totals.now low spare result }
 {
-    let mut d = low;
-    while d <= outcomes::MOST_DEGREE {
-        let total = totals[(d - 2) as usize] as usize;
-        if total <= spare {
+    for d in low..=outcomes::MOST_DEGREE {
+        if totals[(d - 2) as usize] as usize <= spare {
             return d;
         }
-        d += 1;
     }
-    d
+    outcomes::MOST_DEGREE + 1
 }
 
 // The first degree from `low` on at which the cuts that are certain, found in one pass for all degrees, leave the balanced
 // list within `entries`, or 65: at those before it the list has more. And the first at which no cut is certain, or 65: there no
 // interval is heavy, so that none is cut. The first 63 entries of `room` are worked in.
 pub fn first_degree(
-    n: u32,
-    starts: &[u32],
-    images: &[u32],
+    list: RunList<'_>,
     order: &[u32],
     room: &mut [u32],
     low: u32,
     entries: usize,
 ) -> First
-    requires { Boundable n (runs starts.now images.now) order.now room.old low }
-    ensures { Opens n (runs starts.now images.now) low entries result }
+    requires { Boundable list.n (runs_in list) order.now room.old low }
+    ensures { Opens list.entry.n (runs_in list.entry) low entries result }
 {
-    let k = starts.len();
+    let k = list.starts.len();
     if entries < k {
         return First {
             degree: outcomes::MOST_DEGREE + 1,
@@ -106,8 +99,9 @@ pub fn first_degree(
         };
     }
     order::clear(room, DEGREES);
-    add_all_cuts(n, starts, images, order, room);
-    let degree = first_within(room, low, entries - k);
-    let whole = first_within(room, low, 0);
-    First { degree, whole }
+    add_all_cuts(list, order, room);
+    First {
+        degree: first_within(room, low, entries - k),
+        whole: first_within(room, low, 0),
+    }
 }

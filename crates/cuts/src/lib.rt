@@ -12,10 +12,11 @@ mod marks;
 mod pieces;
 mod sweep;
 
-ghost use Rattle.runs.specs.Runs.{runs};
+ghost use Rattle.runs.specs.Runs.{runs_in};
 ghost use Rattle.cuts.specs.Cuts.{Cuttable, BalancingCuts};
 
 use merging::Mark;
+use runs::RunList;
 
 // A place, and the run that has it.
 #[derive(Clone, Copy)]
@@ -73,24 +74,21 @@ struct Stand {
 // The cuts that balance the list, in rising order in `working`. Answers how many there are. `order` begins with the runs
 // in rising order of image, and `ranked` is room for their images in that order.
 pub fn find_cuts(
-    n: u32,
-    starts: &[u32],
-    images: &[u32],
+    list: RunList<'_>,
     order: &[u32],
     ranked: &mut [u32],
     d: u32,
     working: &mut [u32],
 ) -> usize
-    requires { Cuttable n (runs starts.now images.now) order.now ranked.old d working.old }
-    ensures { BalancingCuts d n (runs starts.now images.now)
-        working.old working.new result }
+    requires { Cuttable list.n (runs_in list) order.now ranked.old d working.old }
+    ensures { BalancingCuts d list.entry.n (runs_in list.entry) working.old working.new result }
 {
-    sorting::gather(images, order, ranked);
-    let k = images.len();
+    sorting::gather(list.images, order, ranked);
+    let k = list.images.len();
     sweep::sweep(
-        n,
-        starts,
-        images,
+        list.n,
+        list.starts,
+        list.images,
         &order[..k],
         &ranked[..k],
         d as usize,

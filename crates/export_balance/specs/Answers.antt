@@ -1,11 +1,11 @@
 -- The answer struct for each outcome: number 0 and the values where the call is done; else the number and the place of
 -- the refusal, and 0 in every other field.
-use Rattle.std.specs.Prelude.{ℕ, ◌≡◌, List, length}
+use Rattle.std.specs.Prelude.{ℕ, ◌≡◌, List, length, Result}
 use Rattle.outcomes.specs.Outcome.{Outcome, done, refused, map_done}
 use Rattle.runs.specs.Runs.{Runs}
 use Rattle.plans.specs.Working.{cleared_by}
 use Rattle.balance.specs.Lent.{Lent, Balances, balance_of, interval_count}
-use Rattle.balance.specs.declared.Balanced.{Balanced}
+use Rattle.outcomes.specs.declared.Refusal.{Refusal}
 use Rattle.forecasts.specs.Sizing.{forecast_of}
 use Rattle.forecasts.specs.Seeking.{least_degree_of}
 use Rattle.forecasts.specs.declared.BalancedSize.{BalancedSize}
@@ -31,7 +31,7 @@ degree_answer (refused k p) = record { number = k; place = p; degree = 0; interv
 -- because its promise names it
 pub record BalanceAnswered (n : ℕ) (r : Runs) (d : ℕ) (entry exit : Lent) (answer : BalanceAnswer) : Type 0 where
   pub says : answer ≡ balance_answer (map_done interval_count (balance_of n r d entry))
-  pub library : Balanced
+  pub library : Result ℕ Refusal
   pub at_exit : Balances n r d entry exit library
 
 -- what the others promise: the answer, and the working table at exit

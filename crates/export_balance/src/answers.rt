@@ -1,21 +1,21 @@
 // The answer struct for what balancing answers.
 ghost use Rattle.std.specs.Prelude.{◌≡◌};
-ghost use Rattle.balance.specs.Lent.{balanced_says};
+ghost use Rattle.outcomes.specs.Refusal.{says};
 ghost use Rattle.export_balance.specs.Answers.{balance_answer};
 
 use super::BalanceAnswer;
-use balance::Balanced;
+use outcomes::Refusal;
 
-pub(crate) fn of_balance(balanced: Balanced) -> BalanceAnswer
-    ensures { result ≡ balance_answer (balanced_says balanced) }
+pub(crate) fn of_balance(balanced: Result<u32, Refusal>) -> BalanceAnswer
+    ensures { result ≡ balance_answer (says balanced) }
 {
     match balanced {
-        Balanced::Intervals(size) => BalanceAnswer {
+        Ok(size) => BalanceAnswer {
             number: 0,
             place: 0,
             intervals: size,
         },
-        Balanced::Refused(refusal) => BalanceAnswer {
+        Err(refusal) => BalanceAnswer {
             number: refusal.number(),
             place: refusal.place(),
             intervals: 0,

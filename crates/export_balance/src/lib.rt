@@ -10,6 +10,8 @@ ghost use Rattle.runs.specs.Runs.{runs};
 ghost use Rattle.balance.specs.Lent.{lent};
 ghost use Rattle.export_balance.specs.Answers.{BalanceAnswered, ForecastAnswered, DegreeAnswered};
 
+use runs::RunList;
+
 // The answer of balance: how many intervals the balanced list has.
 #[repr(C)]
 #[derive(Clone, Copy)]
@@ -58,8 +60,9 @@ pub extern "C" fn zibewoka_balance(
         (lent to_starts.new to_images.new to_holders.new to_lengths.new
         working.new) result }
 {
+    let list = RunList { n, starts, images };
     answers::of_balance(balance::balance(
-        n, starts, images, d, to_starts, to_images, to_holders, to_lengths, working,
+        list, d, to_starts, to_images, to_holders, to_lengths, working,
     ))
 }
 
@@ -75,7 +78,8 @@ pub extern "C" fn zibewoka_forecast(
     ensures { ForecastAnswered n (runs starts.now images.now) d
         working.old working.new result }
 {
-    sizes::of_size(forecasts::forecast(n, starts, images, d, working))
+    let list = RunList { n, starts, images };
+    sizes::of_size(forecasts::forecast(list, d, working))
 }
 
 // The least degree at which a list is small enough, over a lent working table.
@@ -90,5 +94,6 @@ pub extern "C" fn zibewoka_least_degree(
     ensures { DegreeAnswered n (runs starts.now images.now) entries
         working.old working.new result }
 {
-    sizes::of_degree(forecasts::least_degree(n, starts, images, entries, working))
+    let list = RunList { n, starts, images };
+    sizes::of_degree(forecasts::least_degree(list, entries, working))
 }

@@ -1,23 +1,23 @@
 // The answer struct for what the forecast and the search for a degree answer.
 ghost use Rattle.std.specs.Prelude.{◌≡◌};
-ghost use Rattle.forecasts.specs.Sizing.{forecasted_says};
-ghost use Rattle.forecasts.specs.Seeking.{sought_says};
+ghost use Rattle.outcomes.specs.Refusal.{says};
 ghost use Rattle.export_balance.specs.Answers.{forecast_answer, degree_answer};
 
 use super::{DegreeAnswer, ForecastAnswer};
-use forecasts::{Forecasted, Sought};
+use forecasts::{BalancedSize, LeastDegree};
+use outcomes::Refusal;
 
-pub(crate) fn of_size(forecasted: Forecasted) -> ForecastAnswer
-    ensures { result ≡ forecast_answer (forecasted_says forecasted) }
+pub(crate) fn of_size(forecasted: Result<BalancedSize, Refusal>) -> ForecastAnswer
+    ensures { result ≡ forecast_answer (says forecasted) }
 {
     match forecasted {
-        Forecasted::Size(size) => ForecastAnswer {
+        Ok(size) => ForecastAnswer {
             number: 0,
             place: 0,
             intervals: size.intervals,
             cuts: size.cuts,
         },
-        Forecasted::Refused(refusal) => ForecastAnswer {
+        Err(refusal) => ForecastAnswer {
             number: refusal.number(),
             place: refusal.place(),
             intervals: 0,
@@ -26,17 +26,17 @@ pub(crate) fn of_size(forecasted: Forecasted) -> ForecastAnswer
     }
 }
 
-pub(crate) fn of_degree(sought: Sought) -> DegreeAnswer
-    ensures { result ≡ degree_answer (sought_says sought) }
+pub(crate) fn of_degree(sought: Result<LeastDegree, Refusal>) -> DegreeAnswer
+    ensures { result ≡ degree_answer (says sought) }
 {
     match sought {
-        Sought::Degree(least) => DegreeAnswer {
+        Ok(least) => DegreeAnswer {
             number: 0,
             place: 0,
             degree: least.degree,
             intervals: least.intervals,
         },
-        Sought::Refused(refusal) => DegreeAnswer {
+        Err(refusal) => DegreeAnswer {
             number: refusal.number(),
             place: refusal.place(),
             degree: 0,

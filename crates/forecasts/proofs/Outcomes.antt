@@ -24,9 +24,8 @@ use Rattle.plans.proofs.Fitted.{size_few, sought_unlimited, found_planned, found
 use Rattle.forecasts.specs.Sizing.{forecast_at, forecast_of, Forecasts}
 use Rattle.forecasts.specs.Seeking.{least_at, least_degree_of, Seeks}
 use Rattle.forecasts.specs.declared.BalancedSize.{BalancedSize}
-use Rattle.forecasts.specs.declared.Forecasted.TheVariants.{Size, Refused}
+use Rattle.std.specs.Prelude.{Ok, Err}
 use Rattle.forecasts.specs.declared.LeastDegree.{LeastDegree}
-use Rattle.forecasts.specs.declared.Sought.TheVariants.{Degree, Refused as NotSought}
 
 -- the forecast
 module _ (n : ℕ) (r : Runs) (d : ℕ) (entry : List ℕ) where
@@ -35,7 +34,7 @@ module _ (n : ℕ) (r : Runs) (d : ℕ) (entry : List ℕ) where
   forecast_planned room = judge_map (plan_tests n r d room) tt (forecast_at n r d)
 
   pub forecast_refused : (x : Refusal) (exit : List ℕ) → sought_of n r no_limit d (length entry) ≡ refusal_says x
-      → exit ≡ cleared_by n r d entry → Forecasts n r d entry exit (Refused x)
+      → exit ≡ cleared_by n r d entry → Forecasts n r d entry exit (Err x)
   unfolding map_done
   forecast_refused x exit e w =
       let p = sym (sought_unlimited n r d (length entry)) ∙ e in
@@ -51,7 +50,7 @@ module _ (n : ℕ) (r : Runs) (d : ℕ) (entry : List ℕ) where
         omega (arith, (found_cuts n r d entry swept plan f).counted, size_few n r d (length entry) h.0 h.1 t.0)
 
     pub forecast_sized : (exit : List ℕ) → exit ≡ over (replicate (working_size d (count_of r)) 0) swept
-        → Forecasts n r d entry exit (Size (record { intervals = count_of r + plan.cuts; cuts = plan.cuts }))
+        → Forecasts n r d entry exit (Ok (record { intervals = count_of r + plan.cuts; cuts = plan.cuts }))
     unfolding map_done
     forecast_sized exit w =
         let p = found_planned n r d entry swept plan f in
@@ -90,7 +89,7 @@ module _ (n : ℕ) (r : Runs) (entries : ℕ) (entry : List ℕ) where
       go (refused k p) = refl
 
   pub seek_refused : (x : Refusal) (exit : List ℕ) → sought_of n r entries 2 (length entry) ≡ refusal_says x
-      → exit ≡ cleared_by n r 2 entry → Seeks n r entries entry exit (NotSought x)
+      → exit ≡ cleared_by n r 2 entry → Seeks n r entries entry exit (Err x)
   unfolding map_done
   seek_refused x exit e w = record { says = sym (degree_sought (length entry) ∙ rw e); working = w }
 
@@ -104,7 +103,7 @@ module _ (n : ℕ) (r : Runs) (entries : ℕ) (entry : List ℕ) where
         omega (arith, f.cuts.counted, size_few n r plan.degree 0 h.0 h.1 (found_from n r entries 2 entry swept plan f))
 
     pub seek_found : (exit : List ℕ) → exit ≡ over (replicate (working_size 2 (count_of r)) 0) swept
-        → Seeks n r entries entry exit (Degree (record { degree = plan.degree; intervals = count_of r + plan.cuts }))
+        → Seeks n r entries entry exit (Ok (record { degree = plan.degree; intervals = count_of r + plan.cuts }))
     unfolding map_done
     seek_found exit w =
         let s : count_of r + plan.cuts ≡ size_at n r (least_from n r entries 2) =

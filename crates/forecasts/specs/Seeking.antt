@@ -1,8 +1,9 @@
 -- The search for a degree (document 02, A.5): the least one from 2 to 64 whose balanced list has at most as many intervals as
 -- there are entries.
-use Rattle.std.specs.Prelude.{ℕ, ◌≡◌, List, [], ◌∷◌, ◌++◌, length}
-use Rattle.outcomes.specs.Outcome.{Outcome, done, Test, judge}
-use Rattle.outcomes.specs.Refusal.{refusal_says}
+use Rattle.std.specs.Prelude.{ℕ, ◌≡◌, List, [], ◌∷◌, ◌++◌, length, Result}
+use Rattle.outcomes.specs.Outcome.{Outcome, Test, judge}
+use Rattle.outcomes.specs.Refusal.{says as Refusal·says}
+use Rattle.outcomes.specs.declared.Refusal.{Refusal}
 use Rattle.runs.specs.Check.{check_tests}
 use Rattle.runs.specs.Runs.{Runs, count_of}
 use Rattle.cuts.specs.Balance.{size_at}
@@ -10,12 +11,6 @@ use Rattle.plans.specs.Fitting.{least_from}
 use Rattle.plans.specs.Working.{working_test, cleared_by}
 use Rattle.plans.specs.Plan.{fitting_test}
 use Rattle.forecasts.specs.declared.LeastDegree.{LeastDegree}
-use Rattle.forecasts.specs.declared.Sought.{Sought}
-use Rattle.forecasts.specs.declared.Sought.TheVariants.{Degree, Refused}
-
-abbrev pub sought_says : Sought → Outcome LeastDegree
-sought_says (Degree a) = done a
-sought_says (Refused r) = refusal_says r
 
 -- the least degree, or 65 where none fits, and its K
 abbrev pub least_at : ℕ → Runs → ℕ → LeastDegree
@@ -31,6 +26,6 @@ unfoldable pub least_degree_of : ℕ → Runs → ℕ → ℕ → Outcome LeastD
 least_degree_of n r entries room = judge (degree_tests n r entries room) (least_at n r entries)
 
 -- what `least_degree` promises: the answer, and the working table at exit, which is that of a call at degree 2
-pub record Seeks (n : ℕ) (r : Runs) (entries : ℕ) (entry exit : List ℕ) (answer : Sought) : Type 0 where
-  pub says : sought_says answer ≡ least_degree_of n r entries (length entry)
+pub record Seeks (n : ℕ) (r : Runs) (entries : ℕ) (entry exit : List ℕ) (answer : Result LeastDegree Refusal) : Type 0 where
+  pub says : Refusal·says answer ≡ least_degree_of n r entries (length entry)
   pub working : exit ≡ cleared_by n r 2 entry

@@ -1,17 +1,12 @@
 -- The forecast (document 02, A.5): how large a list will be once it is balanced, told with the working table alone lent.
-use Rattle.std.specs.Prelude.{ℕ, ◌-◌, ◌≡◌, List, length}
-use Rattle.outcomes.specs.Outcome.{Outcome, done, judge}
-use Rattle.outcomes.specs.Refusal.{refusal_says}
+use Rattle.std.specs.Prelude.{ℕ, ◌-◌, ◌≡◌, List, length, Result}
+use Rattle.outcomes.specs.Outcome.{Outcome, judge}
+use Rattle.outcomes.specs.Refusal.{says as Refusal·says}
+use Rattle.outcomes.specs.declared.Refusal.{Refusal}
 use Rattle.runs.specs.Runs.{Runs, count_of}
 use Rattle.cuts.specs.Balance.{size_at}
 use Rattle.plans.specs.Working.{plan_tests, cleared_by}
 use Rattle.forecasts.specs.declared.BalancedSize.{BalancedSize}
-use Rattle.forecasts.specs.declared.Forecasted.{Forecasted}
-use Rattle.forecasts.specs.declared.Forecasted.TheVariants.{Size, Refused}
-
-abbrev pub forecasted_says : Forecasted → Outcome BalancedSize
-forecasted_says (Size f) = done f
-forecasted_says (Refused r) = refusal_says r
 
 -- K, and the number of cuts: each adds one interval (`cut_count` in cuts), so they are as many as K has more than k
 abbrev pub forecast_at : ℕ → Runs → ℕ → BalancedSize
@@ -22,6 +17,6 @@ unfoldable pub forecast_of : ℕ → Runs → ℕ → ℕ → Outcome BalancedSi
 forecast_of n r d room = judge (plan_tests n r d room) (forecast_at n r d)
 
 -- what `forecast` promises: the answer, and the working table at exit
-pub record Forecasts (n : ℕ) (r : Runs) (d : ℕ) (entry exit : List ℕ) (answer : Forecasted) : Type 0 where
-  pub says : forecasted_says answer ≡ forecast_of n r d (length entry)
+pub record Forecasts (n : ℕ) (r : Runs) (d : ℕ) (entry exit : List ℕ) (answer : Result BalancedSize Refusal) : Type 0 where
+  pub says : Refusal·says answer ≡ forecast_of n r d (length entry)
   pub working : exit ≡ cleared_by n r d entry

@@ -1,5 +1,5 @@
 -- What `plan` promises: the tests of a call up to 19, and the cuts at the least degree that fits.
-use Rattle.std.specs.Prelude.{ℕ, ◌≡◌, List, [], ◌∷◌, ◌++◌, length, drop, ltb}
+use Rattle.std.specs.Prelude.{ℕ, ◌≡◌, List, [], ◌∷◌, ◌++◌, length, drop, ltb, Result, Ok, Err}
 use Rattle.outcomes.specs.Outcome.{Outcome, done, Test, test, judge}
 use Rattle.outcomes.specs.Refusal.{refusal_says}
 use Rattle.runs.specs.Runs.{Runs, count_of}
@@ -7,8 +7,7 @@ use Rattle.cuts.specs.Cuts.{CutsStand}
 use Rattle.plans.specs.Fitting.{least_from}
 use Rattle.plans.specs.Working.{plan_tests, cleared_by}
 use Rattle.plans.specs.declared.CutsAt.{CutsAt}
-use Rattle.plans.specs.declared.Planned.{Planned}
-use Rattle.plans.specs.declared.Planned.TheVariants.{Cuts, Refused}
+use Rattle.outcomes.specs.declared.Refusal.{Refusal}
 
 -- more entries than any list has intervals: with so many stated, the first degree fits
 abbrev pub no_limit : ℕ
@@ -31,7 +30,7 @@ pub record CutsFound (n : ℕ) (r : Runs) (entries low : ℕ) (entry exit : List
   pub rest : drop (count_of r) exit ≡ drop (count_of r) entry
 
 -- these, or the refusal and the working table as it is to be left
-abbrev pub Plans : ℕ → Runs → ℕ → ℕ → List ℕ → List ℕ → Planned → Type 0
-Plans n r entries low entry exit (Cuts plan) = CutsFound n r entries low entry exit plan
-Plans n r entries low entry exit (Refused x) =
+abbrev pub Plans : ℕ → Runs → ℕ → ℕ → List ℕ → List ℕ → Result CutsAt Refusal → Type 0
+Plans n r entries low entry exit (Ok plan) = CutsFound n r entries low entry exit plan
+Plans n r entries low entry exit (Err x) =
     (sought_of n r entries low (length entry) ≡ refusal_says x) × (exit ≡ cleared_by n r low entry)

@@ -14,25 +14,21 @@ mod seeking;
 ghost use Rattle.std.specs.Prelude.{◌≡◌, ◌≤◌, length, replicate};
 ghost use Rattle.outcomes.specs.Outcome.{over};
 ghost use Rattle.runs.specs.Check.{max_runs};
-ghost use Rattle.runs.specs.Runs.{runs};
+ghost use Rattle.runs.specs.Runs.{runs_in};
 ghost use Rattle.plans.specs.Working.{working_size};
 ghost use Rattle.plans.specs.Plan.{Plans};
 
+use outcomes::Refusal;
+use runs::RunList;
+
 // More entries than any list has intervals.
-pub const NO_LIMIT: u32 = 4294967295;
+pub const NO_LIMIT: u32 = u32::MAX;
 
 // A degree, and how many cuts stand in the working table for it.
 #[derive(Clone, Copy)]
 pub struct CutsAt {
     pub degree: u32,
     pub cuts: usize,
-}
-
-// What becomes of a list that is to be cut.
-#[derive(Clone, Copy)]
-pub enum Planned {
-    Cuts(CutsAt),
-    Refused(outcomes::Refusal),
 }
 
 // Sets the first B entries of the working table to 0, where B is that of `k` runs at degree `d`. Public for our own crates, for a
@@ -48,19 +44,23 @@ pub fn clear(d: u32, k: usize, working: &mut [u32])
 // at the least such degree come to stand in `working`, and between them and entry k any numbers; after 19 its first B entries are
 // 0, and after the others it is as it was. Public for our own crates.
 pub fn plan(
-    n: u32,
-    starts: &[u32],
-    images: &[u32],
+    list: RunList<'_>,
     entries: u32,
     low: u32,
     working: &mut [u32],
-) -> Planned
-    ensures { Plans n (runs starts.now images.now) entries low
-        working.old working.new result }
+) -> Result<CutsAt, Refusal>
+    ensures { Plans list.entry.n (runs_in list.entry) entries low working.old working.new result }
 {
-    if starts.len() <= runs::FEW_RUNS {
-        rooms::in_little_room(n, starts, images, entries, low, working)
+    let k = list.starts.len();
+    if k <= runs::FEW_RUNS {
+        rooms::plan_in::<{ runs::FEW_RUNS }>(list, entries, low, working)
+    } else if k <= runs::MORE_RUNS {
+        rooms::plan_in::<{ runs::MORE_RUNS }>(list, entries, low, working)
+    } else if k <= runs::SOME_RUNS {
+        rooms::plan_in::<{ runs::SOME_RUNS }>(list, entries, low, working)
+    } else if k <= runs::MANY_RUNS {
+        rooms::plan_in::<{ runs::MANY_RUNS }>(list, entries, low, working)
     } else {
-        rooms::in_more_room(n, starts, images, entries, low, working)
+        rooms::plan_in::<{ runs::MAX_RUNS }>(list, entries, low, working)
     }
 }
