@@ -12,6 +12,7 @@ ghost use Rattle.text.specs.Text.{max_size, decimal as Text·decimal, signed as 
 ghost use Rattle.text.specs.Page.{HasRoom, Writes};
 
 // A page that is lent, and the index where the next byte goes.
+#[derive(Drop)]
 pub struct Page<'a> {
     pub bytes: &'a mut [u8],
     pub at: usize,
