@@ -53,11 +53,6 @@ pub fn written(rt: &impl Print, count: usize, s: &[u8]) -> io::Result<()> {
     println!(rt; "|")
 }
 
-// Two numbers, as the number and the place of a refusal.
-pub fn pair(rt: &impl Print, a: u64, b: u64) -> io::Result<()> {
-    values(rt, &[a, b])
-}
-
 // The number and the place of a refusal.
 pub fn refusal(rt: &impl Print, r: Refusal) -> io::Result<()> {
     println!(rt; " {} {}", r.number(), r.place())

@@ -21,7 +21,7 @@ fn answer(rt: &impl Print, a: Answered) -> io::Result<()> {
     match a {
         Answered::Passed(c) => out::one(rt, c as u64),
         Answered::Refused(r) => out::refusal(rt, r),
-        Answered::PlaceOrder(i) => out::pair(rt, 16, i as u64),
+        Answered::PlaceOrder(i) => out::values(rt, &[16, i as u64]),
     }
 }
 

@@ -43,6 +43,41 @@ fn advance_often(
     answers::marked(rt, marked)
 }
 
+// Runs what is called of a bookmark.
+fn mark(rt: &impl Print, row: &Row<'_>) -> io::Result<()> {
+    match (row.word(), row.numbers(), row.slices()) {
+        (
+            b"bookmark",
+            &[n, place, interval, distance, moves, high, low],
+            [starts, images, holders, lengths],
+        ) => {
+            let count = (u64::from(high) << 32) | u64::from(low);
+            let before = Bookmark {
+                place,
+                interval,
+                distance,
+                moves,
+                count,
+            };
+            answers::marked(
+                rt,
+                bookmarks::advanced(n, starts, images, holders, lengths, before),
+            )
+        }
+        (b"trail", &[n, place, interval, distance, m], [starts, images, holders, lengths]) => {
+            let fresh = Bookmark {
+                place,
+                interval,
+                distance,
+                moves: 0,
+                count: 0,
+            };
+            advance_often(rt, n, starts, images, holders, lengths, fresh, m)
+        }
+        _ => out::no_call(rt),
+    }
+}
+
 // Runs what is called: a, b, c and d are starts, images, holders and lengths, and e the places of questions.
 fn call(rt: &impl Print, row: &Row<'_>) -> io::Result<()> {
     match (row.word(), row.numbers(), row.slices()) {
@@ -65,36 +100,8 @@ fn call(rt: &impl Print, row: &Row<'_>) -> io::Result<()> {
         (b"under", &[n, p], [a, b, c, d]) => {
             answers::stretched(rt, weights::under(n, a, b, c, d, p))
         }
-        (
-            b"bookmark",
-            &[n, place, interval, distance, moves, high, low],
-            [starts, images, holders, lengths],
-        ) => {
-            let count = u64::from(high) * 4294967296 + u64::from(low);
-            let before = Bookmark {
-                place,
-                interval,
-                distance,
-                moves,
-                count,
-            };
-            answers::marked(
-                rt,
-                bookmarks::advanced(n, starts, images, holders, lengths, before),
-            )
-        }
-        (b"trail", &[n, place, interval, distance, m], [a, b, c, d]) => {
-            let fresh = Bookmark {
-                place,
-                interval,
-                distance,
-                moves: 0,
-                count: 0,
-            };
-            advance_often(rt, n, a, b, c, d, fresh, m)
-        }
         (b"questions", &[n], [a, b, c, d, e]) => asking::questions(rt, n, a, b, c, d, e),
-        _ => out::no_call(rt),
+        _ => mark(rt, row),
     }
 }
 
