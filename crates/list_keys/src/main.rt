@@ -17,62 +17,50 @@
 mod answers;
 mod lent;
 
-ghost use Rattle.std.specs.Prelude.{◌≤◌, length};
-
-use order::entry_or;
-use rows::out;
+use rows::{Row, out};
 use std::io;
 
-// Runs what is called: a and b are starts and images, or a is a file's words. A number or a slice that the row lacks is 0
-// or empty, and is not looked at.
-fn call(rt: &impl Print, code: usize, numbers: &[u32], a: &[u32], b: &[u32]) -> io::Result<()> {
-    match code {
-        12 => answers::checked(rt, lists::check(entry_or(numbers, 0, 0), a, b)),
-        132 => lent::write_list(rt, numbers, a, b, lent::Listed::Inverse),
-        272 => lent::balance(rt, numbers, a, b),
-        321 => lent::file(rt, numbers, a),
-        432 => lent::write_list(rt, numbers, a, b, lent::Listed::Next),
-        532 => lent::size_up(rt, numbers, a, b, false),
-        632 => lent::size_up(rt, numbers, a, b, true),
-        732 => lent::write_list(rt, numbers, a, b, lent::Listed::Folded),
-        800..=899 => Ok(()),
+// Runs what is called.
+fn call(rt: &impl Print, row: &Row<'_>) -> io::Result<()> {
+    match (row.word(), row.numbers(), row.slices()) {
+        (b"check", &[n], [a, b]) => answers::checked(rt, lists::check(n, a, b)),
+        (b"inverse-list", &[n, size, size_2], [starts, images]) => {
+            lent::two(rt, size, size_2, |to_starts, to_images| {
+                let answer = lists::inverse_list(n, starts, images, to_starts, to_images);
+                answers::checked(rt, answer)
+            })
+        }
+        (b"balance", &[n, d, size, size_2, size_3, size_4, size_5], [a, b]) => {
+            lent::balance(rt, n, a, b, d, [size, size_2, size_3, size_4, size_5])
+        }
+        (b"file", &[count, size], [words]) => lent::file(rt, count, size, words),
+        (b"next-list", &[n, size, size_2], [starts, images]) => {
+            lent::two(rt, size, size_2, |to_starts, to_images| {
+                let answer = permutations::next_list(n, starts, images, to_starts, to_images);
+                answers::next(rt, answer)
+            })
+        }
+        (b"forecast", &[n, d, size], [starts, images]) => lent::one(rt, size, |working| {
+            answers::size(rt, forecasts::forecast(n, starts, images, d, working))
+        }),
+        (b"least-degree", &[n, entries, size], [starts, images]) => {
+            lent::one(rt, size, |working| {
+                answers::degree(
+                    rt,
+                    forecasts::least_degree(n, starts, images, entries, working),
+                )
+            })
+        }
+        (b"fold", &[n, size, size_2], [starts, images]) => {
+            lent::two(rt, size, size_2, |to_starts, to_images| {
+                let answer = folds::fold(n, starts, images, to_starts, to_images);
+                answers::written(rt, answer)
+            })
+        }
         _ => out::no_call(rt),
     }
 }
 
-// Prints a row, reads it and runs it.
-fn run_row(rt: &impl Print, line: &[u8], entries: &mut [u32]) -> io::Result<()> {
-    out::line(rt, line)?;
-    let row = rows::read(line, entries);
-    call(
-        rt,
-        rows::code_of(
-            b" check inverse-list balance file next-list forecast least-degree fold #",
-            line,
-            row,
-        ),
-        rows::part(entries, row, 0),
-        rows::part(entries, row, 1),
-        rows::part(entries, row, 2),
-    )
-}
-
-// Runs the rows one after the other.
-fn run_rows(rt: &impl Print, text: &[u8], entries: &mut [u32]) -> io::Result<()>
-    requires { length text.now ≤ 65536 }
-{
-    let mut at = 0;
-    while at < text.len() {
-        let end = rows::find(text, at, b'\n');
-        run_row(rt, &text[at..end], entries)?;
-        at = end + 1;
-    }
-    Ok(())
-}
-
 fn main(rt: HostRuntime) -> io::Result<()> {
-    let mut text = [0u8; 65536];
-    let got = rows::input::read(&rt, &mut text)?;
-    let mut entries = [0u32; rows::ROOM];
-    run_rows(&rt, &text[0..got], &mut entries)
+    rows::run(&rt, |row| call(&rt, row))
 }

@@ -1,21 +1,16 @@
 // The bytes on standard input.
-ghost use Rattle.std.specs.Prelude.{◌≤◌, length, IfOk};
+ghost use Rattle.std.specs.Prelude.{◌≤◌, IfOk, vec_len};
 
 use std::io;
 use std::io::Read;
 
-// Reads until `to` is full or the input ends, and answers how many bytes came.
-pub fn read(rt: &impl Input, to: &mut [u8]) -> io::Result<usize>
-    ensures { IfOk result (λ got. got ≤ length to.new) }
+// The first bytes of the input, at most so many.
+pub fn read(rt: &(impl Input + AllocGlobal), most: usize) -> io::Result<Vec<u8>>
+    ensures { IfOk result (λ bytes. vec_len bytes ≤ most) }
 {
-    let mut reader = rt.reader();
-    let mut got = 0;
-    while got < to.len() {
-        let count = reader.read(&mut to[got..])?;
-        if count == 0 {
-            break;
-        }
-        got += count;
-    }
-    Ok(got)
+    let mut bytes = Vec::new(rt.alloc());
+    rt.reader().take(most as u64).read_to_end(&mut bytes)?;
+    // `take` lets no more bytes through, and `truncate` promises it.
+    bytes.truncate(most);
+    Ok(bytes)
 }

@@ -16,110 +16,58 @@
 mod fields;
 pub mod input;
 pub mod out;
-mod scan;
+mod row;
 mod words;
 
-ghost use Rattle.std.specs.Prelude.{◌≤◌, length};
+ghost use Rattle.std.specs.Prelude.{◌≤◌};
 
-pub use fields::ROOM;
-use order::entry_or;
-pub use scan::find;
+pub use row::Row;
+use std::io;
 pub use words::bytes_of;
 
-// What was read of a row.
-#[derive(Clone, Copy)]
-pub struct Row {
-    // Part g has the entries from ends[g] up to ends[g + 1]: part 0 are the numbers, and each other one is a slice.
-    ends: [usize; 10],
-    // How many slices there are; 8 are as good as more, for no call has so many.
-    slices: usize,
-    // How many entries all parts have: more than there is room for, where a field is none or they are too many.
-    used: usize,
+// The bytes of the table that are read.
+const MOST: usize = 65536;
+
+// Whether a row's word is #.
+fn is_heading(line: &[u8]) -> bool {
+    matches!(line, [b'#'] | [b'#', b' ', ..])
 }
 
-// v, or `most` where v is more.
-pub(crate) fn at_most(v: usize, most: usize) -> usize
-    ensures { result ≤ most }
+// Prints a row, reads it and has it answered.
+fn run_row<R: Print + AllocGlobal, F: Fn(&Row<'_>) -> io::Result<()>>(
+    rt: &R,
+    line: &[u8],
+    answer: &F,
+) -> io::Result<()>
+    requires { F.IsAlwaysCallable answer.now }
 {
-    if most < v {
-        return most;
+    out::line(rt, line)?;
+    if is_heading(line) {
+        return Ok(());
     }
-    v
+    match Row::read(rt.alloc(), line)? {
+        Some(row) => answer(&row),
+        None => out::no_call(rt),
+    }
 }
 
-// Where a row's word ends.
-fn word_end(line: &[u8]) -> usize
-    ensures { result ≤ length line.now }
+// Runs the rows on standard input one after the other: `answer` prints what each calls and is answered.
+pub fn run<R: Print + Input + AllocGlobal, F: Fn(&Row<'_>) -> io::Result<()>>(
+    rt: &R,
+    answer: F,
+) -> io::Result<()>
+    requires { F.IsAlwaysCallable answer }
 {
-    find(line, 0, b' ')
-}
-
-// Reads what stands behind a row's word, with `entries` as room for its numbers and slices.
-pub fn read(line: &[u8], entries: &mut [u32]) -> Row {
-    let mut ends = [0usize; 10];
-    let mut slices = 0;
-    let mut used = 0;
-    let mut at = word_end(line);
-    while at < line.len() {
-        let from = at + 1;
-        let end = find(line, from, b' ');
-        slices = at_most(slices + fields::slices(&line[from..end]), 8);
-        used = fields::write(&line[from..end], entries, used);
-        ends[slices + 1] = used;
-        at = end;
+    let text = input::read(rt, MOST)?;
+    for row in text.split_inclusive(|b| *b == b'\n') {
+        run_row(rt, row.strip_suffix(b"\n").unwrap_or(row), &answer)?;
     }
-    Row {
-        ends: ends,
-        slices: slices,
-        used: used,
-    }
+    Ok(())
 }
 
-// Part g, which is empty in a row that has fewer.
-pub fn part(entries: &[u32], row: Row, g: usize) -> &[u32] {
-    let ends = row.ends;
-    let at = at_most(g, 8);
-    let to = at_most(ends[at + 1], entries.len());
-    let from = at_most(ends[at], to);
-    &entries[from..to]
-}
-
-// What a row has: ten for each number and one for each slice, or what no call has where it is not readable.
-fn has(row: Row) -> usize
-    ensures { result ≤ 99 }
-{
-    if ROOM < row.used {
-        return 99;
-    }
-    10 * at_most(row.ends[1], 9) + at_most(row.slices, 8)
-}
-
-// Which of the names, each behind a space, a word is; as many as there are, where it is none.
-fn index_of(names: &[u8], word: &[u8]) -> usize {
-    let mut at = 0;
-    let mut index = 0;
-    while at < names.len() {
-        let from = at + 1;
-        let end = find(names, from, b' ');
-        if &names[from..end] == word {
-            return index;
-        }
-        at = end;
-        index += 1;
-    }
-    index
-}
-
-// What a row calls, of the names that a program has, each behind a space: a hundred for each name before the row's
-// word, and what the row has.
-pub fn code_of(names: &[u8], line: &[u8], row: Row) -> usize {
-    let end = word_end(line);
-    100 * at_most(index_of(names, &line[0..end]), 99) + has(row)
-}
-
-// Number i, or 0 where there are fewer, as the size of what is lent, of which the program has 256.
-pub fn size(numbers: &[u32], i: usize) -> usize
+// The size of what is lent, of which the program has 256 entries.
+pub fn size(number: u32) -> usize
     ensures { result ≤ 256 }
 {
-    at_most(entry_or(numbers, i, 0) as usize, 256)
+    (number as usize).min(256)
 }

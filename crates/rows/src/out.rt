@@ -1,7 +1,9 @@
 // Lines of text and numbers on standard output.
 use outcomes::Refusal;
+use std::fmt::Display;
 use std::io;
 
+// Bytes, which need not be UTF-8.
 pub fn text(rt: &impl Print, s: &[u8]) -> io::Result<()> {
     rt.write_all(s)
 }
@@ -11,7 +13,7 @@ pub fn number(rt: &impl Print, v: u64) -> io::Result<()> {
 }
 
 pub fn end(rt: &impl Print) -> io::Result<()> {
-    text(rt, b"\n")
+    println!(rt)
 }
 
 pub fn line(rt: &impl Print, s: &[u8]) -> io::Result<()> {
@@ -21,72 +23,57 @@ pub fn line(rt: &impl Print, s: &[u8]) -> io::Result<()> {
 
 // The answer of a row that is no call.
 pub fn no_call(rt: &impl Print) -> io::Result<()> {
-    line(rt, b" no call")
+    println!(rt; " no call")
 }
 
-// Numbers to the line's end.
-fn entries(rt: &impl Print, s: &[u32]) -> io::Result<()> {
+// Values to the line's end.
+pub fn values<T: Display>(rt: &impl Print, s: &[T]) -> io::Result<()> {
     for v in s {
-        number(rt, *v as u64)?;
+        print!(rt; " {v}")?;
     }
-    end(rt)
+    println!(rt)
 }
 
 // How many entries a part of a table has, and which.
 pub fn stretch(rt: &impl Print, s: &[u32]) -> io::Result<()> {
-    number(rt, s.len() as u64)?;
-    text(rt, b" :")?;
-    entries(rt, s)
+    print!(rt; " {} :", s.len())?;
+    values(rt, s)
 }
 
 // What a lent table holds.
 pub fn now(rt: &impl Print, s: &[u32]) -> io::Result<()> {
-    text(rt, b"now")?;
-    entries(rt, s)
+    print!(rt; "now")?;
+    values(rt, s)
 }
 
 // How many bytes were written to a lent text, and what it holds, with a bar at its end.
 pub fn written(rt: &impl Print, count: usize, s: &[u8]) -> io::Result<()> {
-    number(rt, count as u64)?;
-    end(rt)?;
+    println!(rt; " {count}")?;
     text(rt, s)?;
-    line(rt, b"|")
-}
-
-// Two numbers, as the number and the place of a refusal.
-pub fn pair(rt: &impl Print, a: u64, b: u64) -> io::Result<()> {
-    number(rt, a)?;
-    number(rt, b)?;
-    end(rt)
+    println!(rt; "|")
 }
 
 // The number and the place of a refusal.
 pub fn refusal(rt: &impl Print, r: Refusal) -> io::Result<()> {
-    pair(rt, r.number() as u64, r.place() as u64)
+    println!(rt; " {} {}", r.number(), r.place())
 }
 
 // 0 and a value.
 pub fn one(rt: &impl Print, a: u64) -> io::Result<()> {
-    pair(rt, 0, a)
+    values(rt, &[0, a])
 }
 
 // The same with two values.
 pub fn two(rt: &impl Print, a: u64, b: u64) -> io::Result<()> {
-    number(rt, 0)?;
-    pair(rt, a, b)
+    values(rt, &[0, a, b])
 }
 
 // The same with three values.
 pub fn three(rt: &impl Print, a: u64, b: u64, c: u64) -> io::Result<()> {
-    number(rt, 0)?;
-    number(rt, a)?;
-    pair(rt, b, c)
+    values(rt, &[0, a, b, c])
 }
 
 // The same with four values.
 pub fn four(rt: &impl Print, a: u64, b: u64, c: u64, d: u64) -> io::Result<()> {
-    number(rt, 0)?;
-    number(rt, a)?;
-    number(rt, b)?;
-    pair(rt, c, d)
+    values(rt, &[0, a, b, c, d])
 }
