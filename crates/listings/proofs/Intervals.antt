@@ -1,4 +1,8 @@
 -- The line of an interval of a legal list: the numbers that the tables give are those of the listing.
+use Rattle.std.specs.Prelude.{Result, Ok, Err}
+use Rattle.std.specs.Result.{result_unwrap_or}
+use Rattle.outcomes.specs.Refusal.{says}
+use Rattle.outcomes.specs.declared.Refusal.{Refusal}
 use Prim.Native.Nat.{ℕ, ◌≤◌, ◌<◌}
 use mathlib.Core.Path.{◌≡◌, sym, ap, ◌∙◌}
 use native.Mathlib.Omega.{arith}
@@ -78,3 +82,8 @@ module _ (n : ℕ) (t : Tables) (l : Listed n t) (x : ℕ) (h : x < size_of t.li
 
   pub unrefused : {A : Type 0} → (k p : ℕ) → refused k p ≡ weight_of n t x → A
   unrefused k p e = absurd (done_refused (weight n r x) k p (sym (e ∙ weight_is)))
+
+  -- the weight that an answer has, with any number in place of a refusal
+  pub weight_told : (a : Result ℕ Refusal) → says a ≡ weight_of n t x → result_unwrap_or a 0 ≡ weight n r x
+  weight_told (Ok w) e = weighed w e
+  weight_told (Err f) e = unrefused _ _ e

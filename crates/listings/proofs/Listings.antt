@@ -13,6 +13,7 @@ use Rattle.outcomes.specs.Outcome.{done, refused, ◌then◌else◌}
 use Rattle.runs.specs.Runs.{Runs}
 use Rattle.text.specs.Text.{refusal_text}
 use Rattle.text.specs.Page.{overlaid, Wrote}
+use Rattle.text.proofs.Writing.{length_overlaid}
 use Rattle.files.specs.Words.{runs_at, runs_of}
 use Rattle.files.specs.Parts.{Laid, heading_of, listed_of, body_of}
 use Rattle.files.specs.declared.Header.{Header}
@@ -50,6 +51,17 @@ module _ (bytes text page page' : List ℕ) (end : ℕ) (w : Wrote page 0 (listi
 
   all : end ≤ length text → count ≡ end
   all l = rw (le-ltb _ _ l) at fitting
+
+  -- as many bytes stand on the page
+  pub copied_within : count ≤ length page'
+  copied_within = go (lt_or_le (length text) end)
+    where
+      same : length page' ≡ length page
+      same = ap length w.text ∙ length_overlaid page 0 (listing_of bytes) (omega (arith, w.till, w.inside))
+
+      go : (length text < end) ⊎ (end ≤ length text) → count ≤ length page'
+      go (inl l) = omega (arith, none l)
+      go (inr l) = omega (arith, all l, same, w.inside)
 
   pub list_copied : (n : ℕ) (text' : List ℕ) → n ≡ length (take count page')
       → text' ≡ take count page' ++ drop (length (take count page')) text → FileListed bytes text text' n

@@ -10,7 +10,7 @@ mod table;
 ghost use Rattle.std.specs.Prelude.{◌≡◌, ◌≤◌, length, ltb};
 ghost use Rattle.outcomes.specs.Outcome.{◌then◌else◌};
 ghost use Rattle.outcomes.specs.Refusal.{number_of, place_of};
-ghost use Rattle.runs.specs.Runs.{runs, runs_in};
+ghost use Rattle.runs.specs.Runs.{runs};
 ghost use Rattle.tables.specs.Tables.{tables_in};
 ghost use Rattle.text.specs.Text.{refusal_text};
 ghost use Rattle.text.specs.Page.{Writes};
@@ -48,7 +48,7 @@ fn refusal_line(page: &mut Page<'_>, r: Refusal)
 
 // Writes what balancing answered: the listing of the tables that it filled, or its refusal.
 fn answer_text(page: &mut Page<'_>, h: Header, answer: Result<u32, Refusal>, lent: MoveTable<'_>)
-    requires { Answered h.n answer (tables_in lent) × (lent.n ≡ h.n) × IsFresh page.old }
+    requires { Answered h.n answer (tables_in lent) × IsFresh page.old }
     ensures { Writes page.old (answer_text h answer (runs lent.entry.starts.now lent.entry.images.now)) page.new }
 {
     match answer {
@@ -58,30 +58,35 @@ fn answer_text(page: &mut Page<'_>, h: Header, answer: Result<u32, Refusal>, len
 }
 
 // Balances a list, and writes its listing or the refusal: tests 1 to 7, for 8 cannot apply to so few runs.
-fn list_runs(page: &mut Page<'_>, h: Header, list: RunList<'_>)
-    requires { (length list.starts.now ≤ max_listed) × (list.n ≡ h.n) × IsFresh page.old }
-    ensures { Writes page.old (list_text (runs_in list.entry) (listed_of h (runs_in list.entry))) page.new }
+fn list_runs(page: &mut Page<'_>, h: Header, starts: &[u32], images: &[u32])
+    requires { (length starts.now ≤ max_listed) × IsFresh page.old }
+    ensures { Writes page.old (list_text (runs starts.now images.now) (listed_of h (runs starts.now images.now))) page.new }
 {
-    let mut starts = [0; MAX_TABLED];
-    let mut images = [0; MAX_TABLED];
-    let mut holders = [0; MAX_TABLED];
-    let mut lengths = [0; MAX_TABLED];
+    let list = RunList {
+        n: h.n,
+        starts,
+        images,
+    };
+    let mut to_starts = [0; MAX_TABLED];
+    let mut to_images = [0; MAX_TABLED];
+    let mut to_holders = [0; MAX_TABLED];
+    let mut to_lengths = [0; MAX_TABLED];
     let mut working = [0; MAX_TABLED];
     let answer = balance::balance(
         list,
         h.d,
-        &mut starts,
-        &mut images,
-        &mut holders,
-        &mut lengths,
+        &mut to_starts,
+        &mut to_images,
+        &mut to_holders,
+        &mut to_lengths,
         &mut working,
     );
     let lent = MoveTable {
         n: h.n,
-        starts: &starts,
-        images: &images,
-        holders: &holders,
-        lengths: &lengths,
+        starts: &to_starts,
+        images: &to_images,
+        holders: &to_holders,
+        lengths: &to_lengths,
     };
     answer_text(page, h, answer, lent);
 }
@@ -92,12 +97,7 @@ fn list_read(page: &mut Page<'_>, file: &[u8], h: Header, starts: &mut [u32], im
     ensures { Writes page.old (list_text (runs_of file.now) (body_of file.now)) page.new }
 {
     files::read_list(file, h.k as usize, starts, images);
-    let list = RunList {
-        n: h.n,
-        starts,
-        images,
-    };
-    list_runs(page, h, list);
+    list_runs(page, h, starts, images);
 }
 
 // The same, with room of its own.

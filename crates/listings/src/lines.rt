@@ -16,7 +16,15 @@ pub(crate) fn head(page: &mut Page<'_>, n: u32, k: u32, d: u32, size: u32)
 }
 
 // Writes an interval's line.
-pub(crate) fn row(page: &mut Page<'_>, x: u32, start: u32, image: u32, shift: i64, holder: u32, weight: u32)
+pub(crate) fn row(
+    page: &mut Page<'_>,
+    x: u32,
+    start: u32,
+    image: u32,
+    shift: i64,
+    holder: u32,
+    weight: u32,
+)
     requires { (nat_abs shift < max_size) × HasRoom page.old (row_text x start image shift holder weight) }
     ensures { Writes page.old (row_text x start image shift holder weight) page.new }
 {

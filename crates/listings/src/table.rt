@@ -48,7 +48,7 @@ fn rows(page: &mut Page<'_>, table: MoveTable<'_>)
 
 // Writes the listing of a balanced list's tables, the first `size` entries of each column, at the page's start.
 pub(crate) fn table(page: &mut Page<'_>, h: Header, size: u32, lent: MoveTable<'_>)
-    requires { Tabled lent.n size (tables_in lent) × (lent.n ≡ h.n) × IsFresh page.old }
+    requires { Tabled h.n size (tables_in lent) × IsFresh page.old }
     ensures { Writes page.old (table_text h (runs (take size lent.entry.starts.now) (take size lent.entry.images.now))) page.new }
 {
     let k = size as usize;

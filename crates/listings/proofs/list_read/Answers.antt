@@ -1,0 +1,6 @@
+-- The list that was read is the file's (`listing_body`).
+use Rattle.listings.proofs.Listings.{listing_body}
+use Rattle.listings.proofs.list_read.Goals as goal
+
+pub returns : goal.returns
+returns c = rw (← listing_body _ c.args.h c.requires.0 _ c.read_list.ensures) c.list_runs.ensures
