@@ -13,7 +13,7 @@ pub(crate) fn put(page: &mut [u8], at: usize, b: u8) -> usize
     at + 1
 }
 
-// Writes the digits of v.
+// Writes the digits of v. No plainer by `write!`: that answers a `fmt::Result`, and this cannot fail.
 pub(crate) fn decimal(page: &mut [u8], at: usize, v: u64) -> usize
     requires { Fits page.old at (Text·decimal v) }
     ensures { Wrote page.old at (Text·decimal v) page.new result }
