@@ -49,6 +49,7 @@ fn write_by_tops(n: u32, starts: &[u32], images: &[u32], scale: u64, tops: &[u32
         (map (run_at n (runs starts.now images.now)) images.now)
         to.old }
 {
+    // No `zip` with `to`: tried at sorting's `gather`, and the proof didn't close, since nothing says what such a loop leaves in `to`.
     for (x, p) in images.iter().enumerate() {
         let top = tops[buckets::bucket_of(scale, *p)];
         to[x] = holder_up_to(starts, *p, top as usize) as u32;

@@ -6,7 +6,7 @@ ghost use Rattle.text.specs.Page.{HasRoom, Writes};
 use super::Page;
 
 impl Page<'_> {
-    // Writes the digits of v.
+    // Writes the digits of v. No plainer by `write!`: that answers a `fmt::Result`, and this cannot fail.
     pub(crate) fn decimal(&mut self, v: u64)
         requires { HasRoom self.old (Text·decimal v) }
         ensures { Writes self.old (Text·decimal v) self.new }
