@@ -46,8 +46,8 @@ pub fn answer(table: MoveTable<'_>, questions: &mut [Question]) -> Result<u32, U
     ensures { Answers table.entry.n (tables_in table.entry) questions.old result questions.new }
 {
     let mut judging = judging::begin(table);
-    for i in 0..questions.len() {
-        judging = judging::judge(table, judging, questions[i], i);
+    for (i, q) in questions.iter().enumerate() {
+        judging = judging::judge(table, judging, *q, i);
     }
     let passed = judging::verdict(judging)?;
     let mut x = 0;

@@ -8,7 +8,7 @@ use Rattle.questions.proofs.Fillings.{up_to, from_at}
 use Rattle.questions.proofs.answer.Given as goal
 
 abbrev pub invariant-loop-i : goal.invariant-loop-i
-invariant-loop-i l = l.judging ≡ judged_at l.table.n (tables_in l.table) l.questions l.i
+invariant-loop-i l = l.judging ≡ judged_at l.table.n (tables_in l.table) l.q-items l.i
 
 abbrev pub invariant-loop-q : goal.invariant-loop-q
 invariant-loop-q l =
