@@ -1,8 +1,8 @@
 -- What the records come to, one after the other, stands in proofs/Standings and proofs/Fillings.
-use Rattle.std.proofs.Common.{◌≡◌, ℕ, ◌+◌, ◌<◌, length, List, Result, get_or, set, refl, sym, ap, ◌∙◌, subst, arith, add-one}
+use Rattle.std.proofs.Common.{◌≡◌, ℕ, ◌+◌, ◌<◌, length, List, Result, Ok, get_or, set, refl, sym, ap, ◌∙◌, subst, arith, add-one}
 use Rattle.std.proofs.lemmas.Result.{err_from_is_err_and}
 use Rattle.tables.specs.Tables.{Links, Tables, links_in, tables_in}
-use Rattle.questions.specs.Questions.{filled_in}
+use Rattle.questions.specs.Questions.{filled_in, Answers}
 use Rattle.questions.specs.Turns.{judged_of, verdict_of, Ready}
 use Rattle.questions.specs.declared.Question.{Question}
 use Rattle.questions.specs.declared.Unanswered.{Unanswered}
@@ -24,6 +24,11 @@ module _ (n : ℕ) (t : Tables) (qs : List Question) where
       → v ≡ verdict_of s.standing s.interval s.fallen → v ≡ verdict_at n t qs (length qs)
   settled_is i s v e f g =
       g ∙ ap (λ (z : Judging). verdict_of z.standing z.interval z.fallen) (e ∙ ap (judged_at n t qs) f)
+
+  -- all records are filled in
+  all_filled : (c : ℕ) → Ok c ≡ verdict_at n t qs (length qs) → (j : ℕ) → j ≡ length qs
+      → (l : List Question) → l ≡ up_to (filled_in t.links) j qs → Answers n t qs (Ok c) l
+  all_filled c v j e l f = rw (f, e) (answers_filled n t qs c v)
 
 -- so many records are filled in
 module _ (k : Links) (qs : List Question) (j : ℕ) (l : List Question) (so_far : l ≡ up_to (filled_in k) j qs) where
@@ -95,4 +100,4 @@ returns c =
     let l = c.loop-q in
     let v = settled_is a.table.n t a.questions.now c.loop-i.i c.loop-i.judging _ c.loop-i.invariant (omega arith) c.in_ok-passed.ensures in
     let e : l.q-index ≡ length a.questions.now = omega (arith, same_size t.links a.questions.now l.q-index l.questions l.invariant.0) in
-    rw (l.invariant.0, e) (answers_filled a.table.n t a.questions.now _ v)
+    all_filled a.table.n t a.questions.now _ v l.q-index e l.questions l.invariant.0
