@@ -1,4 +1,4 @@
--- What is left of a bookmark's move when the move is made: the private functions' contracts cite these.
+-- What is left of a bookmark's move when the move is made: the contract of `mark` and the laws of bookmarks cite these.
 use Rattle.std.specs.Prelude.{◌+◌, List, [], ◌∷◌}
 use Rattle.outcomes.specs.Outcome.{Outcome, Test, test, judge}
 use Rattle.walks.specs.declared.Step.{Step}

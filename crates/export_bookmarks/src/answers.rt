@@ -1,21 +1,22 @@
 // The answer struct for the library's answer.
 ghost use Rattle.std.specs.Prelude.{◌≡◌};
-ghost use Rattle.walks.specs.Move.{moved_says};
+ghost use Rattle.outcomes.specs.Refusal.{says};
 ghost use Rattle.export_bookmarks.specs.Answers.{advance_answer};
 
 use super::AdvanceAnswer;
-use walks::Moved;
+use outcomes::Refusal;
+use walks::Step;
 
-pub(crate) fn of_moved(moved: Moved) -> AdvanceAnswer
-    ensures { result ≡ advance_answer (moved_says moved) }
+pub(crate) fn of_moved(moved: Result<Step, Refusal>) -> AdvanceAnswer
+    ensures { result ≡ advance_answer (says moved) }
 {
     match moved {
-        Moved::To(step) => AdvanceAnswer {
+        Ok(step) => AdvanceAnswer {
             number: 0,
             place: 0,
             count: step.count,
         },
-        Moved::Refused(refusal) => AdvanceAnswer {
+        Err(refusal) => AdvanceAnswer {
             number: refusal.number(),
             place: refusal.place(),
             count: 0,

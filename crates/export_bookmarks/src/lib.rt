@@ -9,6 +9,7 @@ ghost use Rattle.tables.specs.Tables.{tables};
 ghost use Rattle.export_bookmarks.specs.Answers.{AdvancesHost};
 
 use bookmarks::Bookmark;
+use tables::MoveTable;
 
 // The answer: how many starts the move itself read. The bookmark tells the place, the interval and the distance, so that the
 // answer's own place is 0 where it is done.
@@ -32,6 +33,12 @@ pub extern "C" fn zibewoka_advance(
 ) -> AdvanceAnswer
     ensures { AdvancesHost n (tables starts.now images.now holders.now lengths.now) bookmark.old result bookmark.new }
 {
-    let moved = bookmarks::advance(n, starts, images, holders, lengths, bookmark);
-    answers::of_moved(moved)
+    let table = MoveTable {
+        n,
+        starts,
+        images,
+        holders,
+        lengths,
+    };
+    answers::of_moved(bookmarks::advance(table, bookmark))
 }

@@ -4,26 +4,26 @@ ghost use Rattle.questions.specs.Questions.{answered_says};
 ghost use Rattle.export_questions.specs.Answers.{questions_answer};
 
 use super::QuestionsAnswer;
-use questions::Answered;
+use questions::Unanswered;
 
-pub(crate) fn of_questions(answered: Answered) -> QuestionsAnswer
+pub(crate) fn of_questions(answered: Result<u32, Unanswered>) -> QuestionsAnswer
     ensures { result ≡ questions_answer (answered_says answered) }
 {
     match answered {
-        Answered::Passed(count) => QuestionsAnswer {
+        Ok(count) => QuestionsAnswer {
             number: 0,
-            count: count,
+            count,
             place: 0,
         },
-        Answered::PlaceOrder(index) => QuestionsAnswer {
+        Err(Unanswered::PlaceOrder(index)) => QuestionsAnswer {
             number: 16,
             count: 0,
             place: index as u64,
         },
-        Answered::Refused(refusal) => QuestionsAnswer {
+        Err(Unanswered::Refused(refusal)) => QuestionsAnswer {
             number: refusal.number(),
             count: 0,
-            place: refusal.place() as u64,
+            place: u64::from(refusal.place()),
         },
     }
 }

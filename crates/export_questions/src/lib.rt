@@ -11,6 +11,7 @@ ghost use Rattle.tables.specs.Tables.{tables};
 ghost use Rattle.export_questions.specs.Answers.{AnswersHost};
 
 use questions::Question;
+use tables::MoveTable;
 
 // The answer: the count is of the starts passed in finding. A record's index may pass 32 bits, so that the place has 64.
 #[repr(C)]
@@ -33,6 +34,12 @@ pub extern "C" fn zibewoka_questions(
 ) -> QuestionsAnswer
     ensures { AnswersHost n (tables starts.now images.now holders.now lengths.now) questions.old result questions.new }
 {
-    let answered = questions::answer(n, starts, images, holders, lengths, questions);
-    answers::of_questions(answered)
+    let table = MoveTable {
+        n,
+        starts,
+        images,
+        holders,
+        lengths,
+    };
+    answers::of_questions(questions::answer(table, questions))
 }

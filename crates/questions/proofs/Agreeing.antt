@@ -8,6 +8,7 @@ use mathlib.Core.Logic.{◌⊎◌, inl, inr}
 use mathlib.Core.List.{List, [], ◌∷◌, map}
 use native.Mathlib.Omega.{arith}
 use lib.ListN.{length}
+use Rattle.std.specs.Prelude.{Result}
 use Rattle.order.specs.Lists.{All}
 use Rattle.order.proofs.Laws.{all_map}
 use Rattle.outcomes.specs.Outcome.{done, refused, Test, judge, ◌then◌else◌}
@@ -24,7 +25,7 @@ use Rattle.walks.proofs.Finding.{move_broken, move_on}
 use Rattle.walks.proofs.Moves.{move_reads}
 use Rattle.walks.proofs.Distances.{move_lies}
 use Rattle.questions.specs.declared.Question.{Question}
-use Rattle.questions.specs.declared.Answered.{Answered}
+use Rattle.questions.specs.declared.Unanswered.{Unanswered}
 use Rattle.questions.specs.Questions.{answered_says, places_of, place_at, unfindable_at, broken_at, order_test, find_test, move_test, found_last, answers_of, filled_in, records_after, Answers}
 use Rattle.questions.specs.Agree.{Agrees}
 use Rattle.questions.proofs.Clearing.{clear}
@@ -137,7 +138,7 @@ module _ (n : ℕ) (t : Tables) where
   unfolding filled_in
   filled_agrees q d = record { found = d.0; moved = d.1 }
 
-  pub records_agree : (qs : List Question) (a : Answered) (left : List Question) → Answers n t qs a left
+  pub records_agree : (qs : List Question) (a : Result ℕ Unanswered) (left : List Question) → Answers n t qs a left
       → (c : ℕ) → answered_says a ≡ done c → All (Agrees n t) left
   unfolding records_after
   records_agree qs a left w c e =
@@ -147,12 +148,12 @@ module _ (n : ℕ) (t : Tables) where
       rw (w.records, ← f) (each_made (λ q. DoneAlone q.place) (Agrees n t) (filled_in t.links) filled_agrees qs d)
 
   -- so a record has the distance and the count of a move alone
-  pub records_lie : (qs : List Question) (a : Answered) (left : List Question) → Answers n t qs a left
+  pub records_lie : (qs : List Question) (a : Result ℕ Unanswered) (left : List Question) → Answers n t qs a left
       → (c : ℕ) → answered_says a ≡ done c → All (λ q. LiesIn n t.links q.to_interval q.to_place q.distance) left
   records_lie qs a left w c e =
       all_map (Agrees n t) _ left (λ q g. move_lies n t q.interval q.place _ g.moved) (records_agree qs a left w c e)
 
-  pub records_read : (qs : List Question) (a : Answered) (left : List Question) → Answers n t qs a left
+  pub records_read : (qs : List Question) (a : Result ℕ Unanswered) (left : List Question) → Answers n t qs a left
       → (c : ℕ) → answered_says a ≡ done c → All (λ q. ReadsTo t.links q.interval q.to_interval q.count) left
   records_read qs a left w c e =
       all_map (Agrees n t) _ left (λ q g. move_reads n t q.interval q.place _ g.moved) (records_agree qs a left w c e)

@@ -5,6 +5,7 @@ use mathlib.Core.Path.{◌≡◌, refl, ap, ◌∙◌}
 use mathlib.Core.List.{List, [], ◌∷◌, map}
 use native.Mathlib.Nat.{not-suc-le-zero, le_of_suc-le-suc}
 use lib.ListN.{length, get_or, set}
+use Rattle.std.specs.Prelude.{Ok, Err}
 use Rattle.outcomes.specs.Outcome.{done}
 use Rattle.tables.specs.Tables.{Links, Tables}
 use Rattle.tables.specs.Parts.{ShapedLinks}
@@ -13,10 +14,10 @@ use Rattle.walks.specs.Parts.{Movable}
 use Rattle.walks.proofs.Steps.{movable}
 use Rattle.walks.proofs.Finding.{found_on, found_first, found_below, found_located}
 use Rattle.questions.specs.declared.Question.{Question}
-use Rattle.questions.specs.declared.Answered.{Answered}
-use Rattle.questions.specs.declared.Answered.TheVariants.{Passed, PlaceOrder, Refused}
-use Rattle.questions.specs.Questions.{answered_says, places_of, place_at, answers_of, filled_in, records_after, Answers}
-use Rattle.questions.specs.Turns.{filled_of, Placed, Fillable}
+use Rattle.questions.specs.declared.Unanswered.{Unanswered}
+use Rattle.questions.specs.declared.Unanswered.TheVariants.{PlaceOrder, Refused}
+use Rattle.questions.specs.Questions.{unanswered_says, answered_says, places_of, place_at, answers_of, filled_in, records_after, Answers}
+use Rattle.questions.specs.Turns.{Placed}
 use Rattle.questions.proofs.Standings.{blank, place_at_lem, length_places, verdict_says, verdict_at}
 use Rattle.questions.proofs.Clearing.{in_order, Clear, clear}
 
@@ -57,16 +58,10 @@ module _ (f : Question → Question) where
   up_all [] = refl
   up_all (q ∷ qs) = ap (λ (l : List Question). f q ∷ l) (up_all qs)
 
--- a record put back as it was
-pub set_same : (qs : List Question) (i : ℕ) → set qs i (get_or qs i blank) ≡ qs
-set_same [] i = refl
-set_same (q ∷ qs) zero = refl
-set_same (q ∷ qs) (suc i) = ap (λ (l : List Question). q ∷ l) (set_same qs i)
-
 -- the interval that the pass goes on from after j turns
-abbrev pub from_at : Links → Answered → List Question → ℕ → ℕ
-from_at k a qs zero = 0
-from_at k a qs (suc j) = (filled_of k (get_or qs j blank) a).interval
+abbrev pub from_at : Links → List Question → ℕ → ℕ
+from_at k qs zero = 0
+from_at k qs (suc j) = (filled_in k (get_or qs j blank)).interval
 
 -- where the call is done, each record can be filled in, from the interval of the one before on
 module _ (n : ℕ) (t : Tables) (qs : List Question) (c : ℕ) (e : done c ≡ answers_of n t (places_of qs)) (m : n < 2 ^ 32) where
@@ -87,7 +82,7 @@ module _ (n : ℕ) (t : Tables) (qs : List Question) (c : ℕ) (e : done c ≡ a
       let p = place_at ps j in
       movable n k (found_at k p) p m (found_located n k p l (o.found j h)) (o.whole j h)
 
-  placed : (j : ℕ) → j < length ps → Placed k (from_at k (Passed c) qs j) (place_at ps j)
+  placed : (j : ℕ) → j < length ps → Placed k (from_at k qs j) (place_at ps j)
   unfolding filled_in
   placed zero h =
       record { pass = record { index = l.some; on = found_first k (place_at ps 0) }; move = moves_at 0 h }
@@ -99,34 +94,26 @@ module _ (n : ℕ) (t : Tables) (qs : List Question) (c : ℕ) (e : done c ≡ a
     move = moves_at (suc j) h;
   })
 
+  pub placed_at : (j : ℕ) → j < length qs → Placed k (from_at k qs j) (get_or qs j blank).place
+  placed_at j h = rw (place_at_lem qs j) (placed j (rw (← length_places qs) at h))
+
+-- what the call comes to is what is promised
 module _ (n : ℕ) (t : Tables) (qs : List Question) where
-  abbrev verdict : Answered
-  verdict = verdict_at n t qs (length qs)
+  pub passed_says : (c : ℕ) → Ok c ≡ verdict_at n t qs (length qs) → done c ≡ answers_of n t (places_of qs)
+  passed_says c e = ap answered_says e ∙ verdict_says n t qs
 
-  fillable_at : n < 2 ^ 32 → (a : Answered) → answered_says a ≡ answers_of n t (places_of qs) → (j : ℕ) → j < length qs
-      → Fillable t.links (get_or qs j blank) a (from_at t.links a qs j)
-  fillable_at m (Passed c) e j h = rw (place_at_lem qs j) (placed n t qs c e m j (rw (← length_places qs) at h))
-  fillable_at m (PlaceOrder i) e j h = tt
-  fillable_at m (Refused r) e j h = tt
-
-  pub fillable : n < 2 ^ 32 → (j : ℕ) → j < length qs → Fillable t.links (get_or qs j blank) verdict (from_at t.links verdict qs j)
-  fillable m j h = fillable_at m verdict (verdict_says n t qs) j h
-
-  records_at : (a : Answered) → answered_says a ≡ answers_of n t (places_of qs)
-      → up_to (λ q. filled_of t.links q a) (length qs) qs ≡ records_after (filled_in t.links) (answers_of n t (places_of qs)) qs
+  pub answers_filled : (c : ℕ) → Ok c ≡ verdict_at n t qs (length qs) → Answers n t qs (Ok c) (up_to (filled_in t.links) (length qs) qs)
   unfolding records_after
-  records_at a e = go a e
+  answers_filled c e =
+      let f = passed_says c e in
+      record { says = f; records = rw (← f) (up_all (filled_in t.links) qs) }
+
+  pub answers_kept : (u : Unanswered) → Err u ≡ verdict_at n t qs (length qs) → Answers n t qs (Err u) qs
+  unfolding records_after
+  answers_kept u e =
+      let f : unanswered_says u ≡ answers_of n t (places_of qs) = ap answered_says e ∙ verdict_says n t qs in
+      record { says = f; records = rw (← f) (kept u) }
     where
-      kept : (f : Question → Question) → ((q : Question) → f q ≡ q) → (l : List Question) → map f l ≡ l
-      kept f h [] = refl
-      kept f h (q ∷ l) = ap (λ (r : Question). r ∷ map f l) (h q) ∙ ap (λ (m : List Question). q ∷ m) (kept f h l)
-
-      go : (a : Answered) → answered_says a ≡ answers_of n t (places_of qs)
-          → up_to (λ q. filled_of t.links q a) (length qs) qs ≡ records_after (filled_in t.links) (answers_of n t (places_of qs)) qs
-      go (Passed c) e = rw (← e) (up_all _ qs)
-      go (PlaceOrder i) e = rw (← e) (up_all _ qs ∙ kept _ (λ q. refl) qs)
-      go (Refused r) e = rw (← e) (up_all _ qs ∙ kept _ (λ q. refl) qs)
-
-  -- what both loops come to is what is promised
-  pub answers_hold : Answers n t qs verdict (up_to (λ q. filled_of t.links q verdict) (length qs) qs)
-  answers_hold = record { says = verdict_says n t qs; records = records_at verdict (verdict_says n t qs) }
+      kept : (u : Unanswered) → qs ≡ records_after (filled_in t.links) (unanswered_says u) qs
+      kept (PlaceOrder i) = refl
+      kept (Refused r) = refl

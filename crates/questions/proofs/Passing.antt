@@ -7,6 +7,7 @@ use mathlib.Core.Bool.{false}
 use mathlib.Core.List.{List, [], ◌∷◌, map}
 use native.Mathlib.Omega.{arith}
 use lib.ListN.{length}
+use Rattle.std.specs.Prelude.{Result}
 use Rattle.outcomes.specs.Outcome.{Outcome, done}
 use Rattle.outcomes.specs.Search.{any_below}
 use Rattle.outcomes.proofs.Judging.{judge_done}
@@ -16,7 +17,7 @@ use Rattle.walks.proofs.Finding.{found_on, found_first}
 use Rattle.questions.specs.Questions.{answered_says, places_of, place_at, falls_at, question_tests, found_last, answers_of, filled_in, records_after, Answers}
 use Rattle.questions.specs.Agree.{stops, passed_over, last_interval, OnePass}
 use Rattle.questions.specs.declared.Question.{Question}
-use Rattle.questions.specs.declared.Answered.{Answered}
+use Rattle.questions.specs.declared.Unanswered.{Unanswered}
 use Rattle.questions.proofs.Clearing.{in_order, clear}
 
 module _ (k : Links) where
@@ -72,7 +73,7 @@ module _ (k : Links) where
   last_found (q ∷ qs) = last_is q qs
 
 -- so it is for a call that is done
-pub passes_once : (n : ℕ) (t : Tables) (qs : List Question) (a : Answered) (left : List Question) → Answers n t qs a left
+pub passes_once : (n : ℕ) (t : Tables) (qs : List Question) (a : Result ℕ Unanswered) (left : List Question) → Answers n t qs a left
     → (c : ℕ) → answered_says a ≡ done c → OnePass t.links (places_of qs) left c
 unfolding answers_of records_after
 passes_once n t qs a left w c e =

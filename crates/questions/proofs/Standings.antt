@@ -8,6 +8,7 @@ use native.Mathlib.Omega.{arith}
 use lib.ListN.{length, get_or}
 use lib.Dec.{ltb}
 use borrow.Author.Tests.{le-ltb}
+use Rattle.std.specs.Prelude.{Result}
 use Rattle.outcomes.specs.Outcome.{Outcome, test, judge, ◌then◌else◌}
 use Rattle.outcomes.specs.Search.{first_below, any_below}
 use Rattle.outcomes.proofs.Searches.{any_old, any_here, any_not}
@@ -17,7 +18,7 @@ use Rattle.tables.proofs.Passing.{shaped}
 use Rattle.walks.specs.Move.{found_at, unfindable}
 use Rattle.walks.proofs.Finding.{found_on, found_first, found_below}
 use Rattle.questions.specs.declared.Question.{Question}
-use Rattle.questions.specs.declared.Answered.{Answered}
+use Rattle.questions.specs.declared.Unanswered.{Unanswered}
 use Rattle.questions.specs.declared.judging.Standing.{Standing}
 use Rattle.questions.specs.declared.judging.Standing.TheVariants.{Misshapen, Mismeasured, Fallen, Outside, Broken, Clear}
 use Rattle.questions.specs.declared.judging.Judging.{Judging}
@@ -279,7 +280,7 @@ either_last true a b p e f = e
 either_last false a b p e f = f
 
 -- the verdict on the first i records
-abbrev pub verdict_at : ℕ → Tables → List Question → ℕ → Answered
+abbrev pub verdict_at : ℕ → Tables → List Question → ℕ → Result ℕ Unanswered
 verdict_at n t qs i = let s = judged_at n t qs i in verdict_of s.standing s.interval s.fallen
 
 module _ (n : ℕ) (t : Tables) (qs : List Question) where

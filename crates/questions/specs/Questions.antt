@@ -1,6 +1,6 @@
 -- Questions together, on any tables and any records (document 02, A.1, with the distance of A.2, in each record the count of A.4,
 -- and the test of all lengths of A.7).
-use Rattle.std.specs.Prelude.{ℕ, zero, suc, ◌-◌, ◌≡◌, Bool, List, [], ◌∷◌, map, length, get_or, ltb}
+use Rattle.std.specs.Prelude.{ℕ, zero, suc, ◌-◌, ◌≡◌, Bool, Result, Ok, Err, List, [], ◌∷◌, map, length, get_or, ltb}
 use Rattle.outcomes.specs.Outcome.{Outcome, done, refused, Test, test, judge}
 use Rattle.outcomes.specs.Refusal.{refusal_says}
 use Rattle.outcomes.specs.Search.{first_below, any_below}
@@ -9,14 +9,17 @@ use Rattle.tables.specs.Tables.{Links, Tables, shape_test, all_lengths, broken}
 use Rattle.walks.specs.Move.{found_at, unfindable, step_of}
 use Rattle.walks.specs.declared.Step.{Step}
 use Rattle.questions.specs.declared.Question.{Question}
-use Rattle.questions.specs.declared.Answered.{Answered}
-use Rattle.questions.specs.declared.Answered.TheVariants.{Passed, PlaceOrder, Refused}
+use Rattle.questions.specs.declared.Unanswered.{Unanswered}
+use Rattle.questions.specs.declared.Unanswered.TheVariants.{PlaceOrder, Refused}
 
 -- the outcome that each answer is. The trade's word for 16 is unsorted.
-abbrev pub answered_says : Answered → Outcome ℕ
-answered_says (Passed c) = done c
-answered_says (PlaceOrder i) = refused 16 i
-answered_says (Refused r) = refusal_says r
+abbrev pub unanswered_says : Unanswered → Outcome ℕ
+unanswered_says (PlaceOrder i) = refused 16 i
+unanswered_says (Refused r) = refusal_says r
+
+abbrev pub answered_says : Result ℕ Unanswered → Outcome ℕ
+answered_says (Ok c) = done c
+answered_says (Err u) = unanswered_says u
 
 -- the places of the records
 abbrev pub places_of : List Question → List ℕ
@@ -82,6 +85,6 @@ records_after f (done c) qs = map f qs
 records_after f (refused k p) qs = qs
 
 -- what the call promises: the answer, and the records that it leaves of qs
-pub record Answers (n : ℕ) (t : Tables) (qs : List Question) (a : Answered) (left : List Question) : Type 0 where
+pub record Answers (n : ℕ) (t : Tables) (qs : List Question) (a : Result ℕ Unanswered) (left : List Question) : Type 0 where
   pub says : answered_says a ≡ answers_of n t (places_of qs)
   pub records : left ≡ records_after (filled_in t.links) (answers_of n t (places_of qs)) qs

@@ -1,5 +1,5 @@
 -- What one turn of each loop asks and comes to: the contracts of the private functions cite these.
-use Rattle.std.specs.Prelude.{ℕ, ◌+◌, ◌≤◌, ◌<◌, ◌≡◌, Bool, true, false, List, length, ltb}
+use Rattle.std.specs.Prelude.{ℕ, ◌+◌, ◌≤◌, ◌<◌, ◌≡◌, Bool, true, false, Result, Ok, Err, List, length, ltb}
 use Rattle.outcomes.specs.Outcome.{◌then◌else◌}
 use Rattle.outcomes.specs.declared.Refusal.TheVariants.{TableShape, PlaceRange, BrokenInterval}
 use Rattle.tables.specs.Tables.{Links, Tables, size_of, misshapen, broken, all_lengths}
@@ -7,12 +7,11 @@ use Rattle.tables.specs.Parts.{ShapedLinks}
 use Rattle.walks.specs.Move.{passed, found_at, unfindable}
 use Rattle.walks.specs.Parts.{Movable}
 use Rattle.questions.specs.declared.Question.{Question}
-use Rattle.questions.specs.declared.Answered.{Answered}
-use Rattle.questions.specs.declared.Answered.TheVariants.{Passed, PlaceOrder, Refused}
+use Rattle.questions.specs.declared.Unanswered.{Unanswered}
+use Rattle.questions.specs.declared.Unanswered.TheVariants.{PlaceOrder, Refused}
 use Rattle.questions.specs.declared.judging.Standing.{Standing}
 use Rattle.questions.specs.declared.judging.Standing.TheVariants.{Misshapen, Mismeasured, Fallen, Outside, Broken, Clear}
 use Rattle.questions.specs.declared.judging.Judging.{Judging}
-use Rattle.questions.specs.Questions.{filled_in}
 
 -- JUDGING. What is known before the first record, by the tables alone, and with one record more.
 unfoldable pub standing_by : ℕ → Tables → Standing
@@ -76,13 +75,13 @@ judged_of n k s q i =
     clear s.standing then gone_of n k s q.place else
     stayed_of n k.list.starts s q.place
 
-abbrev pub verdict_of : Standing → ℕ → ℕ → Answered
-verdict_of Misshapen x f = Refused TableShape
-verdict_of (Mismeasured y) x f = Refused (BrokenInterval y)
-verdict_of Fallen x f = PlaceOrder f
-verdict_of (Outside p) x f = Refused (PlaceRange p)
-verdict_of Broken x f = Refused (BrokenInterval x)
-verdict_of Clear x f = Passed x
+abbrev pub verdict_of : Standing → ℕ → ℕ → Result ℕ Unanswered
+verdict_of Misshapen x f = Err (Refused TableShape)
+verdict_of (Mismeasured y) x f = Err (Refused (BrokenInterval y))
+verdict_of Fallen x f = Err (PlaceOrder f)
+verdict_of (Outside p) x f = Err (Refused (PlaceRange p))
+verdict_of Broken x f = Err (Refused (BrokenInterval x))
+verdict_of Clear x f = Ok x
 
 -- The pass for place p can go on from interval x: that leads where find from the front does.
 pub record Onward (k : Links) (x p : ℕ) : Type 0 where
@@ -115,18 +114,7 @@ Going k Clear x p = Findable k x p
 abbrev pub Ready : Links → Judging → Type 0
 Ready k s = (p : ℕ) → s.last ≤ p → Going k s.standing s.interval p
 
--- FILLING. A record that is filled in where the call is done.
-abbrev pub filled_of : Links → Question → Answered → Question
-filled_of k q (Passed c) = filled_in k q
-filled_of k q (PlaceOrder i) = q
-filled_of k q (Refused r) = q
-
--- what is asked for that
+-- FILLING. What is asked for a record that is filled in.
 pub record Placed (k : Links) (x p : ℕ) : Type 0 where
   pub pass : Onward k x p
   pub move : Movable k (found_at k p) p
-
-abbrev pub Fillable : Links → Question → Answered → ℕ → Type 0
-Fillable k q (Passed c) x = Placed k x q.place
-Fillable k q (PlaceOrder i) x = Unit {0}
-Fillable k q (Refused r) x = Unit {0}

@@ -1,11 +1,12 @@
 // What is known of the records so far, one record after the other.
 ghost use Rattle.std.specs.Prelude.{◌≡◌};
-ghost use Rattle.tables.specs.Tables.{links, tables};
+ghost use Rattle.tables.specs.Tables.{links_in, tables_in};
 ghost use Rattle.tables.specs.Parts.{Located};
 ghost use Rattle.questions.specs.Turns.{Ready, Findable, Staying, begun_of, standing_by, judged_of, settled, clear, fallen_of, gone_of, standing_at, stayed_of, outside_or, verdict_of};
 
-use super::{Answered, Question, finding};
+use super::{Question, Unanswered, finding};
 use outcomes::Refusal;
+use tables::MoveTable;
 
 // Which refusal the tables and the records so far have met. A record further on changes it only by an earlier test.
 #[derive(Clone, Copy)]
@@ -36,17 +37,12 @@ pub struct Judging {
 }
 
 // Before the first record.
-pub(crate) fn begin(
-    n: u32,
-    starts: &[u32],
-    images: &[u32],
-    holders: &[u32],
-    lengths: &[u32],
-) -> Judging
-    ensures { result ≡ begun_of n (tables starts.now images.now holders.now lengths.now) }
+#[tactic(auto, unfolding(crate::specs::Turns::begun_of))]
+pub(crate) fn begin(table: MoveTable<'_>) -> Judging
+    ensures { result ≡ begun_of table.entry.n (tables_in table.entry) }
 {
     Judging {
-        standing: judge_tables(n, starts, images, holders, lengths),
+        standing: judge_tables(table),
         interval: 0,
         last: 0,
         fallen: 0,
@@ -54,172 +50,134 @@ pub(crate) fn begin(
 }
 
 // The tests that no record matters to: 9, and 12 of all lengths.
-fn judge_tables(
-    n: u32,
-    starts: &[u32],
-    images: &[u32],
-    holders: &[u32],
-    lengths: &[u32],
-) -> Standing
-    ensures { result ≡ standing_by n (tables starts.now images.now holders.now lengths.now) }
+#[tactic(auto, unfolding(crate::specs::Turns::standing_by))]
+fn judge_tables(table: MoveTable<'_>) -> Standing
+    ensures { result ≡ standing_by table.entry.n (tables_in table.entry) }
 {
-    if tables::is_misshapen(n, starts, images, holders, lengths) {
+    if table.is_misshapen() {
         return Standing::Misshapen;
     }
-    let wrong = tables::first_wrong_length(n, starts, lengths);
-    if wrong < starts.len() {
-        return Standing::Mismeasured(wrong as u32);
+    match table.first_wrong_length() {
+        Some(x) => Standing::Mismeasured(x as u32),
+        None => Standing::Clear,
     }
-    Standing::Clear
 }
 
 // With the record at index i too.
-pub(crate) fn judge(
-    n: u32,
-    starts: &[u32],
-    images: &[u32],
-    holders: &[u32],
-    s: Judging,
-    q: Question,
-    i: usize,
-) -> Judging
-    requires { Ready (links starts.now images.now holders.now) s }
-    ensures { result ≡ judged_of n (links starts.now images.now holders.now) s q i }
+#[tactic(auto, unfolding(crate::specs::Turns::judged_of))]
+pub(crate) fn judge(table: MoveTable<'_>, s: Judging, q: Question, i: usize) -> Judging
+    requires { Ready (links_in table) s }
+    ensures { result ≡ judged_of table.entry.n (links_in table.entry) s q i }
 {
     if q.place < s.last {
         return fall(s, q.place, i);
     }
-    let standing = s.standing;
-    if is_clear(standing) {
-        return go_on(n, starts, images, holders, s, q.place);
+    if is_clear(s.standing) {
+        return go_on(table, s, q.place);
     }
-    stay(n, starts, s, q.place)
+    stay(table, s, q.place)
 }
 
 // Where the place of the record at index i is below the last one: test 16, for the first such record.
+#[tactic(auto, unfolding(crate::specs::Turns::fallen_of))]
 fn fall(s: Judging, place: u32, i: usize) -> Judging
     ensures { result ≡ fallen_of s place i }
 {
-    let standing = s.standing;
-    if is_settled(standing) {
-        return Judging {
-            standing,
-            interval: s.interval,
-            last: place,
-            fallen: s.fallen,
-        };
+    if is_settled(s.standing) {
+        return Judging { last: place, ..s };
     }
     Judging {
         standing: Standing::Fallen,
-        interval: s.interval,
         last: place,
         fallen: i,
+        ..s
     }
 }
 
+// 16 goes before 11 and 12 of a record.
 fn is_settled(standing: Standing) -> bool
     ensures { result ≡ settled standing }
 {
-    match standing {
-        Standing::Misshapen => true,
-        Standing::Mismeasured(_) => true,
-        Standing::Fallen => true,
-        Standing::Outside(_) => false, // 16 goes before 11
-        Standing::Broken => false, // and before 12
-        Standing::Clear => false,
-    }
+    matches!(
+        standing,
+        Standing::Misshapen | Standing::Mismeasured(_) | Standing::Fallen
+    )
 }
 
 fn is_clear(standing: Standing) -> bool
     ensures { result ≡ clear standing }
 {
-    match standing {
-        Standing::Misshapen => false,
-        Standing::Mismeasured(_) => false,
-        Standing::Fallen => false,
-        Standing::Outside(_) => false,
-        Standing::Broken => false,
-        Standing::Clear => true,
-    }
+    matches!(standing, Standing::Clear)
 }
 
 // Where it is not below, and no record before was refused: test 11, the interval that has the place, and test 12 there.
-fn go_on(n: u32, starts: &[u32], images: &[u32], holders: &[u32], s: Judging, place: u32) -> Judging
-    requires { Findable (links starts.now images.now holders.now) s.interval place }
-    ensures { result ≡ gone_of n (links starts.now images.now holders.now) s place }
+#[tactic(auto, unfolding(crate::specs::Turns::gone_of))]
+fn go_on(table: MoveTable<'_>, s: Judging, place: u32) -> Judging
+    requires { Findable (links_in table) s.interval place }
+    ensures { result ≡ gone_of table.entry.n (links_in table.entry) s place }
 {
-    if walks::is_unfindable(n, starts, place) {
+    if walks::is_unfindable(table, place) {
         return Judging {
             standing: Standing::Outside(place),
-            interval: s.interval,
             last: place,
-            fallen: s.fallen,
+            ..s
         };
     }
-    let x = finding::find_near(starts, s.interval, place);
+    let x = finding::find_near(table.starts, s.interval, place);
     Judging {
-        standing: stand(n, starts, images, holders, x, place),
+        standing: stand(table, x, place),
         interval: x,
         last: place,
-        fallen: s.fallen,
+        ..s
     }
 }
 
 // Test 12 of a place that lies in interval x.
-fn stand(n: u32, starts: &[u32], images: &[u32], holders: &[u32], x: u32, place: u32) -> Standing
-    requires { Located n (links starts.now images.now holders.now) x place }
-    ensures { result ≡ standing_at n (links starts.now images.now holders.now) x place }
+#[tactic(auto, unfolding(crate::specs::Turns::standing_at))]
+fn stand(table: MoveTable<'_>, x: u32, place: u32) -> Standing
+    requires { Located table.n (links_in table) x place }
+    ensures { result ≡ standing_at table.entry.n (links_in table.entry) x place }
 {
-    if tables::is_broken(n, starts, images, holders, x, place) {
+    if table.is_broken(x, place) {
         return Standing::Broken;
     }
     Standing::Clear
 }
 
 // Where it is not below, and the tables or a record before were refused: test 11 goes before 12 of a record.
-fn stay(n: u32, starts: &[u32], s: Judging, place: u32) -> Judging
-    requires { Staying starts.now s.standing }
-    ensures { result ≡ stayed_of n starts.now s place }
+#[tactic(auto, unfolding(crate::specs::Turns::stayed_of))]
+fn stay(table: MoveTable<'_>, s: Judging, place: u32) -> Judging
+    requires { Staying table.starts.now s.standing }
+    ensures { result ≡ stayed_of table.entry.n table.entry.starts.now s place }
 {
-    let standing = s.standing;
     Judging {
-        standing: outside_or(n, starts, standing, place),
-        interval: s.interval,
+        standing: outside_or(table, s.standing, place),
         last: place,
-        fallen: s.fallen,
+        ..s
     }
 }
 
-fn outside_or(n: u32, starts: &[u32], standing: Standing, place: u32) -> Standing
-    requires { Staying starts.now standing }
-    ensures { result ≡ outside_or n starts.now standing place }
+fn outside_or(table: MoveTable<'_>, standing: Standing, place: u32) -> Standing
+    requires { Staying table.starts.now standing }
+    ensures { result ≡ outside_or table.entry.n table.entry.starts.now standing place }
 {
     match standing {
-        Standing::Misshapen => standing,
-        Standing::Mismeasured(_) => standing,
-        Standing::Fallen => standing,
-        Standing::Outside(_) => standing,
-        Standing::Clear => standing,
-        Standing::Broken => {
-            if walks::is_unfindable(n, starts, place) {
-                return Standing::Outside(place);
-            }
-            standing
-        }
+        Standing::Broken if walks::is_unfindable(table, place) => Standing::Outside(place),
+        _ => standing,
     }
 }
 
 // The answer, after the last record.
-pub(crate) fn verdict(s: Judging) -> Answered
+pub(crate) fn verdict(s: Judging) -> Result<u32, Unanswered>
     ensures { result ≡ verdict_of s.standing s.interval s.fallen }
 {
-    let standing = s.standing;
-    match standing {
-        Standing::Misshapen => Answered::Refused(Refusal::TableShape),
-        Standing::Mismeasured(x) => Answered::Refused(Refusal::BrokenInterval(x)),
-        Standing::Fallen => Answered::PlaceOrder(s.fallen),
-        Standing::Outside(place) => Answered::Refused(Refusal::PlaceRange(place)),
-        Standing::Broken => Answered::Refused(Refusal::BrokenInterval(s.interval)),
-        Standing::Clear => Answered::Passed(s.interval),
-    }
+    let refusal = match s.standing {
+        Standing::Clear => return Ok(s.interval),
+        Standing::Fallen => return Err(Unanswered::PlaceOrder(s.fallen)),
+        Standing::Misshapen => Refusal::TableShape,
+        Standing::Mismeasured(x) => Refusal::BrokenInterval(x),
+        Standing::Outside(place) => Refusal::PlaceRange(place),
+        Standing::Broken => Refusal::BrokenInterval(s.interval),
+    };
+    Err(Unanswered::Refused(refusal))
 }

@@ -12,10 +12,11 @@ mod filling;
 mod finding;
 mod judging;
 
-ghost use Rattle.tables.specs.Tables.{tables};
+ghost use Rattle.tables.specs.Tables.{tables_in};
 ghost use Rattle.questions.specs.Questions.{Answers};
 
 use outcomes::Refusal;
+use tables::MoveTable;
 
 // A question: its place is handed in, all else is filled in. The interval that has the place, and where a move from there
 // leads: the place and the interval reached, how many starts that walk read, and the distance of the place reached from the
@@ -31,42 +32,28 @@ pub struct Question {
     pub distance: u32,
 }
 
-// How many starts were passed in finding all intervals, or why no question is answered. The index of a record whose place
-// falls may pass 32 bits, so that it stands in a case of its own.
+// Why no question is answered. The index of a record whose place falls may pass 32 bits, so that it stands in a case of its own.
 #[derive(Clone, Copy)]
-pub enum Answered {
-    Passed(u32),
+pub enum Unanswered {
     PlaceOrder(usize),
     Refused(Refusal),
 }
 
-// Fills the records in, or refuses them all.
+// Fills the records in, and answers how many starts were passed in finding all intervals; or refuses them all, and leaves them.
 //
 // Both loops over the lent records are here. What is done with a record stands in `judging` and in `filling`.
-pub fn answer(
-    n: u32,
-    starts: &[u32],
-    images: &[u32],
-    holders: &[u32],
-    lengths: &[u32],
-    questions: &mut [Question],
-) -> Answered
-    ensures { Answers n (tables starts.now images.now holders.now lengths.now) questions.old result questions.new }
+pub fn answer(table: MoveTable<'_>, questions: &mut [Question]) -> Result<u32, Unanswered>
+    ensures { Answers table.entry.n (tables_in table.entry) questions.old result questions.new }
 {
-    let mut judging = judging::begin(n, starts, images, holders, lengths);
-    let mut i: usize = 0;
-    while i < questions.len() {
-        judging = judging::judge(n, starts, images, holders, judging, questions[i], i);
-        i += 1;
+    let mut judging = judging::begin(table);
+    for (i, q) in questions.iter().enumerate() {
+        judging = judging::judge(table, judging, *q, i);
     }
-    let answered = judging::verdict(judging);
-    let mut x: u32 = 0;
-    let mut j: usize = 0;
-    while j < questions.len() {
-        let filled = filling::fill(starts, images, holders, questions[j], answered, x);
-        questions[j] = filled;
-        x = filled.interval;
-        j += 1;
+    let passed = judging::verdict(judging)?;
+    let mut x = 0;
+    for q in questions.iter_mut() {
+        *q = filling::fill(table, *q, x);
+        x = q.interval;
     }
-    answered
+    Ok(passed)
 }

@@ -1,26 +1,16 @@
--- The loops of `answer`: the first i records are judged; the first j records are filled in, and the next one's interval is sought from
--- that of the last.
-use Rattle.std.proofs.Common.{length, ◌-◌, ◌≡◌, ◌≤◌}
-use Rattle.tables.specs.Tables.{tables}
-use Rattle.questions.specs.Turns.{filled_of}
-use Rattle.questions.proofs.Standings.{judged_at, verdict_at}
+-- The loops of `answer`: the first i records are judged; so many records are filled in, and the next one's interval is sought from that
+-- of the last.
+use Rattle.std.proofs.Common.{◌≡◌}
+use Rattle.tables.specs.Tables.{links_in, tables_in}
+use Rattle.questions.specs.Questions.{filled_in}
+use Rattle.questions.proofs.Standings.{judged_at}
 use Rattle.questions.proofs.Fillings.{up_to, from_at}
 use Rattle.questions.proofs.answer.Given as goal
 
 abbrev pub invariant-loop-i : goal.invariant-loop-i
-invariant-loop-i l =
-    (l.judging ≡ judged_at l.n (tables l.starts l.images l.holders l.lengths) l.questions l.i) × (l.i ≤ length l.questions)
+invariant-loop-i l = l.judging ≡ judged_at l.table.n (tables_in l.table) l.q-items l.i
 
-abbrev pub decreases-loop-i : goal.decreases-loop-i
-decreases-loop-i l = length l.questions - l.i
-
-abbrev pub invariant-loop-j : goal.invariant-loop-j
-invariant-loop-j l =
-    let t = tables l.starts l.images l.holders l.lengths in
-    (l.answered ≡ verdict_at l.n t l.fn.questions (length l.fn.questions))
-    × (l.questions ≡ up_to (λ q. filled_of t.links q l.answered) l.j l.fn.questions)
-    × (l.x ≡ from_at t.links l.answered l.fn.questions l.j)
-    × (l.j ≤ length l.fn.questions)
-
-abbrev pub decreases-loop-j : goal.decreases-loop-j
-decreases-loop-j l = length l.initial.questions - l.j
+abbrev pub invariant-loop-q : goal.invariant-loop-q
+invariant-loop-q l =
+    (l.questions ≡ up_to (filled_in (links_in l.table)) l.q-index l.fn.questions)
+    × (l.x ≡ from_at (links_in l.table) l.fn.questions l.q-index)
