@@ -1,20 +1,20 @@
 // The answer struct for each of the library's answers.
 ghost use Rattle.std.specs.Prelude.{◌≡◌};
-ghost use Rattle.outcomes.specs.Refusal.{checked_says};
+ghost use Rattle.outcomes.specs.Refusal.{says};
 ghost use Rattle.export_lists.specs.Answers.{list_answer};
 
 use super::ListAnswer;
-use outcomes::Checked;
+use outcomes::Refusal;
 
-pub(crate) fn of_list(checked: Checked) -> ListAnswer
-    ensures { result ≡ list_answer (checked_says checked) }
+pub(crate) fn of_list(answer: Result<(), Refusal>) -> ListAnswer
+    ensures { result ≡ list_answer (says answer) }
 {
-    match checked {
-        Checked::Accepted => ListAnswer {
+    match answer {
+        Ok(()) => ListAnswer {
             number: 0,
             place: 0,
         },
-        Checked::Refused(refusal) => ListAnswer {
+        Err(refusal) => ListAnswer {
             number: refusal.number(),
             place: refusal.place(),
         },

@@ -11,6 +11,8 @@ ghost use Rattle.runs.specs.Check.{check_of};
 ghost use Rattle.export_lists.specs.Answers.{list_answer};
 ghost use Rattle.export_lists.specs.Lent.{InverseListAnswered};
 
+use runs::RunList;
+
 // The answer of check and inverse list.
 #[repr(C)]
 #[derive(Clone, Copy)]
@@ -24,7 +26,12 @@ pub struct ListAnswer {
 pub extern "C" fn zibewoka_check(n: u32, starts: &[u32], images: &[u32]) -> ListAnswer
     ensures { result ≡ list_answer (check_of n (runs starts.now images.now)) }
 {
-    answers::of_list(lists::check(n, starts, images))
+    let list = RunList {
+        n: n,
+        starts: starts,
+        images: images,
+    };
+    answers::of_list(lists::check(list))
 }
 
 // Writes the inverse list to two lent tables.
@@ -40,5 +47,10 @@ pub extern "C" fn zibewoka_inverse_list(
     ensures { InverseListAnswered n (runs starts.now images.now)
         to_starts.old to_images.old to_starts.new to_images.new result }
 {
-    answers::of_list(lists::inverse_list(n, starts, images, to_starts, to_images))
+    let list = RunList {
+        n: n,
+        starts: starts,
+        images: images,
+    };
+    answers::of_list(lists::inverse_list(list, to_starts, to_images))
 }

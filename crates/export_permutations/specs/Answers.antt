@@ -4,18 +4,7 @@ use Rattle.std.specs.Prelude.{ℕ, ◌≡◌, List}
 use Rattle.outcomes.specs.Outcome.{Outcome, done, refused, map_done, filled}
 use Rattle.runs.specs.Runs.{Runs, count_of}
 use Rattle.permutations.specs.Next.{next_of}
-use Rattle.export_permutations.specs.declared.NextAnswer.{NextAnswer}
 use Rattle.export_permutations.specs.declared.RunsAnswer.{RunsAnswer}
-
-abbrev pub next_answer : Outcome ℕ → NextAnswer
-next_answer (done k) = record { number = 0; place = 0; runs = k }
-next_answer (refused k p) = record { number = k; place = p; runs = 0 }
-
--- what the call promises: the answer, and both lent tables at exit
-pub record NextAnswered (n : ℕ) (r : Runs) (starts images starts' images' : List ℕ) (answer : NextAnswer) : Type 0 where
-  pub says : answer ≡ next_answer (map_done count_of (next_of n r starts images))
-  pub starts_at_exit : starts' ≡ filled (λ q. q.starts) (next_of n r starts images) starts
-  pub images_at_exit : images' ≡ filled (λ q. q.images) (next_of n r starts images) images
 
 abbrev pub runs_answer : Outcome ℕ → RunsAnswer
 runs_answer (done k) = record { number = 0; place = 0; runs = k }
@@ -26,3 +15,10 @@ pub record RunsAnswered (o : Outcome Runs) (starts images starts' images' : List
   pub says : answer ≡ runs_answer (map_done count_of o)
   pub starts_at_exit : starts' ≡ filled (λ q. q.starts) o starts
   pub images_at_exit : images' ≡ filled (λ q. q.images) o images
+
+-- the answer of the next list, and what its call promises
+abbrev pub next_answer : Outcome ℕ → RunsAnswer
+next_answer o = runs_answer o
+
+abbrev pub NextAnswered : ℕ → Runs → List ℕ → List ℕ → List ℕ → List ℕ → RunsAnswer → Type 0
+NextAnswered n r starts images = RunsAnswered (next_of n r starts images) starts images

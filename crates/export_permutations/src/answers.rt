@@ -1,21 +1,21 @@
-// The answer struct for the library's answer.
+// The answer struct for the library's answer, a run count.
 ghost use Rattle.std.specs.Prelude.{◌≡◌};
-ghost use Rattle.permutations.specs.Next.{next_says};
-ghost use Rattle.export_permutations.specs.Answers.{next_answer};
+ghost use Rattle.outcomes.specs.Refusal.{says};
+ghost use Rattle.export_permutations.specs.Answers.{runs_answer};
 
-use super::NextAnswer;
-use permutations::Next;
+use super::RunsAnswer;
+use outcomes::Refusal;
 
-pub(crate) fn of_next(next: Next) -> NextAnswer
-    ensures { result ≡ next_answer (next_says next) }
+pub(crate) fn of_runs(answer: Result<u32, Refusal>) -> RunsAnswer
+    ensures { result ≡ runs_answer (says answer) }
 {
-    match next {
-        Next::RunCount(count) => NextAnswer {
+    match answer {
+        Ok(count) => RunsAnswer {
             number: 0,
             place: 0,
             runs: count,
         },
-        Next::Refused(refusal) => NextAnswer {
+        Err(refusal) => RunsAnswer {
             number: refusal.number(),
             place: refusal.place(),
             runs: 0,

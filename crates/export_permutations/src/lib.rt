@@ -1,26 +1,17 @@
 // The next list and the fold as C functions on numbers and slices, for a host program in Rust or C: thin above the proved operations.
-// docs/BOUNDARY.md says what a caller owes and how an answer is read. Both stand in one crate, so that `lists::with_room` has two callers
-// and its large tables stay out of their frames (docs/DECISIONS.md, "Few runs get small tables").
+// docs/BOUNDARY.md says what a caller owes and how an answer is read.
 
 #![tactic(auto)]
 
 mod answers;
-mod written;
 
 ghost use Rattle.runs.specs.Runs.{runs};
 ghost use Rattle.folds.specs.Lent.{fold_of};
 ghost use Rattle.export_permutations.specs.Answers.{NextAnswered, RunsAnswered};
 
-// The answer: how many runs the next list has.
-#[repr(C)]
-#[derive(Clone, Copy)]
-pub struct NextAnswer {
-    pub number: u32,
-    pub place: u32,
-    pub runs: u32,
-}
+use runs::RunList;
 
-// The answer: how many runs the fold has.
+// The answer: how many runs the list has that was written.
 #[repr(C)]
 #[derive(Clone, Copy)]
 pub struct RunsAnswer {
@@ -37,11 +28,16 @@ pub extern "C" fn zibewoka_next_list(
     images: &[u32],
     to_starts: &mut [u32],
     to_images: &mut [u32],
-) -> NextAnswer
+) -> RunsAnswer
     ensures { NextAnswered n (runs starts.now images.now)
         to_starts.old to_images.old to_starts.new to_images.new result }
 {
-    answers::of_next(permutations::next_list(n, starts, images, to_starts, to_images))
+    let list = RunList {
+        n: n,
+        starts: starts,
+        images: images,
+    };
+    answers::of_runs(permutations::next_list(list, to_starts, to_images))
 }
 
 // Writes the folded list to two lent tables.
@@ -57,5 +53,10 @@ pub extern "C" fn zibewoka_fold(
         (fold_of n (runs starts.now images.now) to_starts.old to_images.old)
         to_starts.old to_images.old to_starts.new to_images.new result }
 {
-    written::of_written(folds::fold(n, starts, images, to_starts, to_images))
+    let list = RunList {
+        n: n,
+        starts: starts,
+        images: images,
+    };
+    answers::of_runs(folds::fold(list, to_starts, to_images))
 }

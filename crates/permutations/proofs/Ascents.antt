@@ -1,5 +1,6 @@
 -- Laws of the last ascent and of the last value above one: what a search from the end finds, and with one value more in front.
 use Prim.Native.Nat.{ℕ, zero, suc, ◌-◌, ◌≤◌, ◌<◌}
+use Rattle.std.specs.Prelude.{Some, None}
 use mathlib.Core.Path.{◌≡◌, refl, sym, ap, ◌∙◌}
 use mathlib.Core.Bool.{Bool, true, false}
 use mathlib.Core.Logic.{◌⊎◌, inl, inr}
@@ -12,7 +13,23 @@ use Rattle.order.specs.Lists.{Falling}
 use Rattle.order.proofs.Laws.{lt_or_le, pairwise_at}
 use Rattle.permutations.specs.Values.{value_at}
 use Rattle.permutations.specs.Next.{last_ascent, last_above, ascent_of, exchange_of}
-use Rattle.permutations.specs.Parts.{Change}
+use Rattle.permutations.specs.Parts.{Ascent, Change, if_place}
+
+-- what a search says of the place that is searched for: it is i, or there is none
+pub some_place : (i m : ℕ) → 0 < i → m ≡ i → Some i ≡ if_place m
+some_place zero m h e = absurd (omega arith)
+some_place (suc i) m h e = rw e refl
+
+pub no_place : (m : ℕ) → m ≡ 0 → None ≡ if_place m
+no_place m e = rw e refl
+
+place_some : (i m : ℕ) → Some i ≡ if_place m → (i ≡ m) × (0 < m)
+place_some i zero e = cc
+place_some i (suc m) e = let f : i ≡ suc m = cc in (f, omega arith)
+
+pub place_none : (m : ℕ) → None ≡ if_place m → m ≡ 0
+place_none zero e = refl
+place_none (suc m) e = cc
 
 module _ (l : List ℕ) where
   pub ascent_end : (i : ℕ) → i ≤ 0 → last_ascent l i ≡ 0
@@ -127,14 +144,22 @@ module _ (l : List ℕ) where
             above_miss (suc i) (omega arith) (low (suc i) (omega arith) (omega arith)) ∙ ap (last_above l v) e ∙ f b
 
   -- an ascent that is found, and the other place, are where values are changed
-  pub change : (ascent other : ℕ) → ascent ≡ ascent_of l → (ascent ≡ 0 → ⊥) → other ≡ exchange_of l ascent → Change l ascent other
-  change ascent other e n f =
-      let b = ascent_most (length l - 1) in
-      let r : value_at l (ascent - 1) < value_at l ascent = rw e (ascent_is (length l - 1) (omega arith)) in
+  pub ascent_at : (ascent : ℕ) → ascent ≡ ascent_of l → 0 < ascent → Ascent l ascent
+  ascent_at ascent e h = record {
+    some = h;
+    inside = omega (arith, ascent_most (length l - 1));
+    above = rw e (ascent_is (length l - 1) (omega arith));
+  }
+
+  pub found_ascent : (ascent : ℕ) → Some ascent ≡ if_place (ascent_of l) → (ascent ≡ ascent_of l) × Ascent l ascent
+  found_ascent ascent q = let p = place_some ascent (ascent_of l) q in (p.0, ascent_at ascent p.0 (omega arith))
+
+  pub change : (ascent other : ℕ) → Ascent l ascent → other ≡ exchange_of l ascent → Change l ascent other
+  change ascent other r f =
       record {
-        some = omega arith;
-        from = omega (arith, above_from (value_at l (ascent - 1)) (length l - 1) ascent (omega arith) (omega arith) r);
-        to = omega (arith, above_most (value_at l (ascent - 1)) (length l - 1));
+        some = r.some;
+        from = omega (arith, above_from (value_at l (ascent - 1)) (length l - 1) ascent r.some (omega (arith, r.inside)) r.above);
+        to = omega (arith, above_most (value_at l (ascent - 1)) (length l - 1), r.inside);
       }
 
 pub falling_flat : (l : List ℕ) → Falling l → ascent_of l ≡ 0

@@ -1,5 +1,6 @@
 -- Calls one after the other, from the identity: each permutation's list in turn.
 use Prim.Native.Nat.{ℕ, zero, suc, ◌-◌, ◌≤◌, ◌<◌}
+use Rattle.outcomes.specs.Refusal.{says}
 use mathlib.Core.Path.{◌≡◌, refl, sym, ap, ◌∙◌}
 use mathlib.Core.Bool.{Bool, false}
 use mathlib.Core.List.{List, [], ◌∷◌, map, Memᴰ}
@@ -17,7 +18,7 @@ use Rattle.folds.proofs.Maximal.{maximal_alike}
 use Rattle.folds.proofs.Keeping.{up_at, keep_first}
 use Rattle.folds.proofs.Tracing.{breaks_first}
 use Rattle.permutations.specs.Values.{value_at}
-use Rattle.permutations.specs.Next.{max_places, ascent_of, successor, next_runs, next_of, next_says}
+use Rattle.permutations.specs.Next.{max_places, ascent_of, successor, next_runs, next_of}
 use Rattle.permutations.specs.Every.{identity, lists_from, factorial}
 use Rattle.permutations.specs.Calls.{NextCall, left_by, handed_on, Calling, lists_by}
 use Rattle.permutations.specs.Parts.{Permutes}
@@ -97,12 +98,12 @@ pub by_contract : (n : ℕ) (r : Runs) (a b : List ℕ) → Long n (a ∷ b ∷ 
     → r ∷ lists_by cs ≡ lists_from n a b (length cs) r
 unfolding lists_by handed_on lists_from
 by_contract n r a b long [] c = refl
-by_contract n r a b long (x ∷ cs) c = go (next_says x.answer) refl (λ q. by_contract n q a b long cs) c.2
+by_contract n r a b long (x ∷ cs) c = go (says x.answer) refl (λ q. by_contract n q a b long cs) c.2
   where
     same : next_of n r x.to_starts x.to_images ≡ next_of n r a b
     same = room_alone n r x.to_starts x.to_images a b c.0 long
 
-    go : (o : Outcome ℕ) → next_says x.answer ≡ o
+    go : (o : Outcome ℕ) → says x.answer ≡ o
         → ((q : Runs) → Calling n q cs → q ∷ lists_by cs ≡ lists_from n a b (length cs) q)
         → Calling n (elim o as (λ _. Runs) [ done k ↦ left_by k x | refused k p ↦ r ]) cs
         → r ∷ elim o as (λ _. List Runs) [ done k ↦ left_by k x ∷ lists_by cs | refused k p ↦ [] ] ≡ lists_from n a b (suc (length cs)) r

@@ -1,5 +1,7 @@
 -- What one call gives: the next list, by the chain of all permutations; and 18 is of the last alone.
 use Prim.Native.Nat.{ℕ, ◌≤◌, ◌<◌}
+use Rattle.std.specs.Prelude.{Result}
+use Rattle.outcomes.specs.Refusal.{says}
 use mathlib.Core.Path.{◌≡◌, sym, ap, ◌∙◌, subst}
 use mathlib.Core.Bool.{true, false, false≢true}
 use mathlib.Core.Logic.{◌⊎◌, inl, inr, ⊎_elim, ◌≢◌}
@@ -19,8 +21,8 @@ use Rattle.runs.proofs.Accepted.{legal_accepted}
 use Rattle.runs.proofs.WritesList.{writes_list}
 use Rattle.folds.specs.Fold.{maximal_runs}
 use Rattle.permutations.specs.Values.{values_of, value_at, Before}
-use Rattle.permutations.specs.Next.{ascent_of, successor, falls, max_places, size_test, last_test, next_runs, next_of, next_says, NextListed}
-use Rattle.permutations.specs.declared.Next.{Next}
+use Rattle.permutations.specs.Next.{ascent_of, successor, falls, max_places, size_test, last_test, next_runs, next_of, NextListed}
+use Rattle.outcomes.specs.declared.Refusal.{Refusal}
 use Rattle.permutations.specs.Every.{OfFewestRuns, IsNext}
 use Rattle.permutations.specs.Parts.{Permutes, later_of, after_of}
 use Rattle.permutations.proofs.Ordering.{before_trans, before_itself, before_differs}
@@ -146,11 +148,11 @@ call_legal n r a b q e =
     rw d.4 (is_next n r d.0 (not_last n r d.0 d.3)).fewest_runs.legal
 
 -- a call that answers a run count, on its tables
-pub call_written : (n : ℕ) (r : Runs) (a b a' b' : List ℕ) (x : Next) → NextListed n r a b a' b' x → (k : ℕ) → next_says x ≡ done k
+pub call_written : (n : ℕ) (r : Runs) (a b a' b' : List ℕ) (x : Result ℕ Refusal) → NextListed n r a b a' b' x → (k : ℕ) → says x ≡ done k
     → let q = runs (take k a') (take k b') in
     (next_of n r a b ≡ done q) × (count_of q ≡ k) × (k ≤ n) × (drop k a' ≡ drop k a) × (drop k b' ≡ drop k b)
 call_written n r a b a' b' x c k e =
-    let w = writes_list next_says (next_of n r a b) a b a' b' x c k e in
+    let w = writes_list says (next_of n r a b) a b a' b' x c k e in
     let q = w.0 in
     let d = call_legal n r a b q w.1 in
     let i : length q.images ≡ k = d.paired ∙ w.2 in

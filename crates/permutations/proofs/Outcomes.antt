@@ -9,11 +9,9 @@ use lib.ListN.{length}
 use lib.Dec.{eqb}
 use borrow.Author.Tests.{ltb-false, eq-eqb, ne_eqb, lt-ltb, le-ltb}
 use Rattle.order.specs.Lists.{All}
-use Rattle.outcomes.specs.Outcome.{Outcome, done, refused, Test, map_done, short_test, judge, and_then, Long}
-use Rattle.outcomes.specs.declared.Checked.{Checked}
-use Rattle.outcomes.specs.declared.Checked.TheVariants.{Accepted, Refused as Stopped}
-use Rattle.lists.specs.Inverse.{inverse_runs, inverse_list_of}
-use Rattle.outcomes.specs.Refusal.{checked_says, number_of, place_of, refusal_says}
+use Rattle.outcomes.specs.Outcome.{Outcome, done, refused, Test, short_test, judge, and_then, Long}
+use Rattle.std.specs.Prelude.{Result, Err}
+use Rattle.outcomes.specs.Refusal.{says, number_of, place_of, refusal_says}
 use Rattle.outcomes.specs.declared.Refusal.{Refusal}
 use Rattle.outcomes.specs.declared.Refusal.TheVariants.{ShortTable, TooManyPlaces}
 use Rattle.outcomes.proofs.Judging.{done_refused, none_below, judge_append, judge_first, judge_past, judge_met, judge_done}
@@ -25,10 +23,8 @@ use Rattle.runs.proofs.Legality.{legal_few}
 use Rattle.runs.proofs.Accepted.{accepted_legal}
 use Rattle.runs.proofs.WritesList.{writes_refused}
 use Rattle.folds.specs.Fold.{maximal_runs}
-use Rattle.permutations.specs.declared.Next.{Next}
-use Rattle.permutations.specs.declared.Next.TheVariants.{Refused}
 use Rattle.permutations.specs.Values.{values_of, value_at}
-use Rattle.permutations.specs.Next.{ascent_of, successor, falls, max_places, size_test, last_test, later_tests, next_runs, next_of, next_says, NextListed}
+use Rattle.permutations.specs.Next.{ascent_of, successor, falls, max_places, size_test, last_test, later_tests, next_runs, next_of, NextListed}
 use Rattle.permutations.specs.Parts.{Permutes, NoneListed, later_of, after_of}
 use Rattle.permutations.proofs.Members.{values_length, permutes_distinct}
 use Rattle.permutations.proofs.Successors.{falls_ascent}
@@ -37,15 +33,15 @@ pub next_parts : (n : ℕ) (r : Runs) (a b : List ℕ) → next_of n r a b ≡ a
 unfolding next_of later_of
 next_parts n r a b = judge_append (check_tests n r) (later_tests n r a b) tt (next_runs n r)
 
--- a list of too many places or runs
-module _ (n : ℕ) (c : Checked) where
-  pub none_so : (x : Refusal) → c ≡ Stopped x → NoneListed n (checked_says c) (Refused x)
+-- a list of too many places or runs: its own refusal, or 17
+module _ (n : ℕ) (checked : Outcome (Unit {0})) where
+  pub none_so : (x : Refusal) → refusal_says x ≡ checked → NoneListed n checked (Err x)
   unfolding and_then
-  none_so x e = record { says = rw e }
+  none_so x e = record { says = ap (λ o. and_then o (λ _. refused 17 n)) e }
 
-  pub none_large : c ≡ Accepted → NoneListed n (checked_says c) (Refused (TooManyPlaces n))
+  pub none_large : done tt ≡ checked → NoneListed n checked (Err (TooManyPlaces n))
   unfolding and_then
-  none_large e = record { says = rw e }
+  none_large e = record { says = ap (λ o. and_then o (λ _. refused 17 n)) e }
 
 module _ (n : ℕ) (r : Runs) (a b : List ℕ) where
   -- where tests 1 to 6, 17 and 8 pass
@@ -74,56 +70,51 @@ module _ (n : ℕ) (r : Runs) (a b : List ℕ) where
       ∙ sym (next_parts n r c d)
 
   -- the answers
-  abbrev Later : List ℕ → List ℕ → Next → Type 0
-  Later = WritesList next_says count_of (later_of n r a b) a b
+  abbrev Later : List ℕ → List ℕ → Result ℕ Refusal → Type 0
+  Later = WritesList says count_of (later_of n r a b) a b
 
-  pub listed_refused : (x : Refusal) → refusal_says x ≡ check_of n r → NextListed n r a b a b (Refused x)
+  pub listed_refused : (x : Refusal) → refusal_says x ≡ check_of n r → NextListed n r a b a b (Err x)
   unfolding and_then
   listed_refused x e =
       writes_refused _ _ (next_of n r a b) a b _ (number_of x) (place_of x)
       (next_parts n r a b ∙ ap (λ o. and_then o (λ _. later_of n r a b)) (sym e)) refl
 
-  pub listed_later : (a' b' : List ℕ) (x : Next) → done tt ≡ check_of n r → Later a' b' x → NextListed n r a b a' b' x
-  listed_later a' b' x e w = subst (λ (o : Outcome Runs). WritesList next_says count_of o a b a' b' x) (sym (next_later e)) w
+  pub listed_later : (a' b' : List ℕ) (x : Result ℕ Refusal) → done tt ≡ check_of n r → Later a' b' x → NextListed n r a b a' b' x
+  listed_later a' b' x e w = subst (λ (o : Outcome Runs). WritesList says count_of o a b a' b' x) (sym (next_later e)) w
 
   -- of more than 7 places, or with more runs than that
-  module _ (x : Next) (o : Outcome (Unit {0})) (c : NoneListed n o x) where
-    pub listed_large : o ≡ check_of n r → max_places < n → NextListed n r a b a b x
+  module _ (x : Result ℕ Refusal) (c : NoneListed n (check_of n r) x) where
+    pub listed_large : max_places < n → NextListed n r a b a b x
     unfolding later_of judge and_then
-    listed_large f h = go o f c.says
+    listed_large h = go (check_of n r) refl c.says
       where
-        go : (p : Outcome (Unit {0})) → p ≡ check_of n r → next_says x ≡ and_then p (λ _. refused 17 n) → NextListed n r a b a b x
+        go : (p : Outcome (Unit {0})) → p ≡ check_of n r → says x ≡ and_then p (λ _. refused 17 n) → NextListed n r a b a b x
         go (done u) f e = writes_refused _ _ (next_of n r a b) a b _ 17 n (next_later f ∙ simp (lt-ltb max_places n h)) e
         go (refused k p) f e = writes_refused _ _ (next_of n r a b) a b _ k p
             (next_parts n r a b ∙ ap (λ o. and_then o (λ _. later_of n r a b)) (sym f)) e
 
-    pub listed_more_runs : (a' b' : List ℕ) → o ≡ map_done (λ q. tt) (inverse_list_of n r a' b') → n ≤ max_places → max_places < count_of r
-        → NextListed n r a b a b x
-    unfolding and_then map_done inverse_list_of
-    listed_more_runs a' b' f few h = go (check_of n r) refl
+    pub listed_more_runs : n ≤ max_places → max_places < count_of r → NextListed n r a b a b x
+    unfolding and_then
+    listed_more_runs few h = go (check_of n r) refl c.says
       where
-        go : (p : Outcome (Unit {0})) → check_of n r ≡ p → NextListed n r a b a b x
-        go (done u) g = absurd (omega (arith, legal_few n r (accepted_legal n r g).0))
-        go (refused k p) g =
-            let i : inverse_list_of n r a' b' ≡ refused k p =
-            judge_append (check_tests n r) (short_test (count_of r) (a' ∷ b' ∷ []) ∷ []) tt (inverse_runs r)
-            ∙ ap (λ o. and_then o (λ _. judge (short_test (count_of r) (a' ∷ b' ∷ []) ∷ []) (inverse_runs r))) g in
-            writes_refused _ _ (next_of n r a b) a b _ k p (next_parts n r a b ∙ ap (λ o. and_then o (λ _. later_of n r a b)) g)
-            (c.says ∙ ap (λ o. and_then o (λ _. refused 17 n)) (f ∙ ap (map_done (λ q. tt)) i))
+        go : (p : Outcome (Unit {0})) → check_of n r ≡ p → says x ≡ and_then p (λ _. refused 17 n) → NextListed n r a b a b x
+        go (done u) g e = absurd (omega (arith, legal_few n r (accepted_legal n r g).0))
+        go (refused k p) g e = writes_refused _ _ (next_of n r a b) a b _ k p
+            (next_parts n r a b ∙ ap (λ o. and_then o (λ _. later_of n r a b)) g) e
 
-  pub starts_short : n ≤ max_places → length a < n → Later a b (Refused (ShortTable n))
+  pub starts_short : n ≤ max_places → length a < n → Later a b (Err (ShortTable n))
   unfolding later_of judge
   starts_short few h = writes_refused _ _ (later_of n r a b) a b _ 8 n (simp (le-ltb max_places n few, lt-ltb (length a) n h)) refl
 
-  pub images_short : n ≤ max_places → n ≤ length a → length b < n → Later a b (Refused (ShortTable n))
+  pub images_short : n ≤ max_places → n ≤ length a → length b < n → Later a b (Err (ShortTable n))
   unfolding later_of judge
   images_short few l h =
       writes_refused _ _ (later_of n r a b) a b _ 8 n (simp (le-ltb max_places n few, le-ltb (length a) n l, lt-ltb (length b) n h)) refl
 
-  pub later_written : (l a' b' : List ℕ) (x : Next) → n ≤ max_places → n ≤ length a → n ≤ length b → l ≡ values_of n r
-      → WritesList next_says count_of (after_of l) a b a' b' x → Later a' b' x
+  pub later_written : (l a' b' : List ℕ) (x : Result ℕ Refusal) → n ≤ max_places → n ≤ length a → n ≤ length b → l ≡ values_of n r
+      → WritesList says count_of (after_of l) a b a' b' x → Later a' b' x
   later_written l a' b' x few h k e w =
-      subst (λ (o : Outcome Runs). WritesList next_says count_of o a b a' b' x) (ap after_of e ∙ sym (later_is few (h, (k, tt)))) w
+      subst (λ (o : Outcome Runs). WritesList says count_of o a b a' b' x) (ap after_of e ∙ sym (later_is few (h, (k, tt)))) w
 
 -- 18 by the values, and the list of the next ones
 module _ (l : List ℕ) (c : Permutes (length l) l) where

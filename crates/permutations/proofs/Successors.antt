@@ -15,7 +15,7 @@ use Rattle.order.proofs.Laws.{lt_or_le, all_at, all_split}
 use Rattle.permutations.specs.Values.{value_at}
 use Rattle.permutations.specs.Next.{last_ascent, last_above, ascent_of, exchange_of, changed, successor, falls}
 use Rattle.permutations.specs.Parts.{Change}
-use Rattle.permutations.proofs.Ascents.{ascent_hit, ascent_end, ascent_miss, falling_none, above_last, change, ascent_front, above_front, ascent_first}
+use Rattle.permutations.proofs.Ascents.{ascent_hit, ascent_end, ascent_miss, falling_none, above_last, ascent_at, change, ascent_front, above_front, ascent_first}
 
 -- b is what comes after a
 pub record Step (a b : List ℕ) : Type 0 where
@@ -31,7 +31,7 @@ module _ (v : ℕ) (a b : List ℕ) (s : Step a b) where
   O = exchange_of a R
 
   exchange : Change a R O
-  exchange = change a R O refl (λ z. omega (arith, s.rises)) refl
+  exchange = change a R O (ascent_at a R refl s.rises) refl
 
   size : suc (length a) - 1 ≡ suc (length a - 1)
   size = omega (arith, exchange.to)

@@ -1,7 +1,6 @@
 -- The changed values as a list of one run for each place, and its fold in the tables.
 use Prim.Native.Nat.{ℕ, zero, suc, ◌≤◌, ◌<◌}
 use mathlib.Core.Path.{◌≡◌, refl, sym, ap, ◌∙◌}
-use mathlib.Core.Logic.{◌≢◌}
 use mathlib.Core.List.{List, [], ◌∷◌}
 use native.Mathlib.Omega.{arith}
 use lib.ListN.{length, take}
@@ -16,11 +15,12 @@ use Rattle.folds.specs.Fold.{folded, maximal_runs}
 use Rattle.folds.specs.Parts.{Foldable, FoldWritten}
 use Rattle.folds.proofs.Maximal.{maximal_few}
 use Rattle.folds.proofs.Spreading.{spread_foldable, write_spread}
-use Rattle.permutations.specs.declared.Next.TheVariants.{RunCount, Refused}
+use Rattle.std.specs.Prelude.{Some, None, Ok, Err}
+use Rattle.outcomes.specs.Refusal.{says}
 use Rattle.permutations.specs.Values.{value_at}
-use Rattle.permutations.specs.Next.{ascent_of, exchange_of, changed, successor, max_places, next_says}
-use Rattle.permutations.specs.Parts.{Permutes, Writable, after_of}
-use Rattle.permutations.proofs.Ascents.{ascent_few}
+use Rattle.permutations.specs.Next.{ascent_of, exchange_of, changed, successor, max_places}
+use Rattle.permutations.specs.Parts.{Permutes, Writable, after_of, if_place}
+use Rattle.permutations.proofs.Ascents.{ascent_few, place_none, found_ascent}
 use Rattle.permutations.proofs.Permutations.{successor_permutes}
 use Rattle.permutations.proofs.Outcomes.{after_rises, after_falls}
 
@@ -39,18 +39,20 @@ pub record Ready (l a b after : List ℕ) : Type 0 where
   pub rises : 0 < ascent_of l
   pub is : take (length l) after ≡ successor l
 
-module _ (l a b : List ℕ) (w : Writable l a b) (ascent : ℕ) (e : ascent ≡ ascent_of l) where
-  pub written_last : ascent ≡ 0 → WritesList next_says count_of (after_of l) a b a b (Refused LastPermutation)
-  written_last z = writes_refused _ _ (after_of l) a b _ 18 0 (after_falls l w.permutes (sym e ∙ z)) refl
+module _ (l a b : List ℕ) (w : Writable l a b) where
+  pub written_last : None ≡ if_place (ascent_of l) → WritesList says count_of (after_of l) a b a b (Err LastPermutation)
+  written_last e = writes_refused _ _ (after_of l) a b _ 18 0 (after_falls l w.permutes (place_none _ e)) refl
 
-  pub ready : ascent ≢ 0 → (other : ℕ) → other ≡ exchange_of l ascent → (after : List ℕ) → take (length l) after ≡ changed l ascent other
-      → Ready l a b after
+  pub ready : (ascent : ℕ) → Some ascent ≡ if_place (ascent_of l) → (other : ℕ) → other ≡ exchange_of l ascent
+      → (after : List ℕ) → take (length l) after ≡ changed l ascent other → Ready l a b after
   unfolding successor
-  ready n other f after g = record {
-    writable = w;
-    rises = omega arith;
-    is = g ∙ ap (changed l ascent) f ∙ ap (λ (k : ℕ). changed l k (exchange_of l k)) e;
-  }
+  ready ascent q other f after g =
+      let e = found_ascent l ascent q in
+      record {
+        writable = w;
+        rises = omega (arith, e.0, e.1.some);
+        is = g ∙ ap (changed l ascent) f ∙ ap (λ (k : ℕ). changed l k (exchange_of l k)) e.0;
+      }
 
 module _ (l a b after : List ℕ) (r : Ready l a b after) where
   abbrev n : ℕ
@@ -89,7 +91,7 @@ module _ (l a b after : List ℕ) (r : Ready l a b after) where
     written_few =
         omega (arith, h.counted, ap count_of single_folded, maximal_few n (value_at (successor l)), r.writable.few)
 
-    pub written_next : WritesList next_says count_of (after_of l) a b a' b' (RunCount count)
+    pub written_next : WritesList says count_of (after_of l) a b a' b' (Ok count)
     written_next =
         writes_done _ _ (after_of l) a b _ (maximal_runs n (value_at (successor l))) a' b' (after_rises l r.writable.permutes r.rises)
         (h.starts_at_exit ∙ ap (λ (q : Runs). over q.starts a) single_folded)

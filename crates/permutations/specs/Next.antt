@@ -1,14 +1,13 @@
 -- The next list (document 02, A.3): that of the permutation after a list's, in maximal runs.
-use Rattle.std.specs.Prelude.{ℕ, zero, suc, ◌-◌, Bool, true, false, ◌&&◌, List, [], ◌∷◌, ◌++◌, reverse, length, take, drop, set, ltb}
-use Rattle.outcomes.specs.Outcome.{Outcome, done, Test, test, short_test, judge}
-use Rattle.outcomes.specs.Refusal.{refusal_says}
+use Rattle.std.specs.Prelude.{ℕ, zero, suc, ◌-◌, Bool, true, false, ◌&&◌, List, [], ◌∷◌, ◌++◌, reverse, length, take, drop, set, ltb, Result}
+use Rattle.outcomes.specs.Outcome.{Outcome, Test, test, short_test, judge}
+use Rattle.outcomes.specs.Refusal.{says}
+use Rattle.outcomes.specs.declared.Refusal.{Refusal}
 use Rattle.runs.specs.Runs.{Runs, count_of}
 use Rattle.runs.specs.Check.{check_tests}
 use Rattle.runs.specs.Written.{WritesList}
 use Rattle.folds.specs.Fold.{maximal_runs}
 use Rattle.permutations.specs.Values.{values_of, value_at}
-use Rattle.permutations.specs.declared.Next.{Next}
-use Rattle.permutations.specs.declared.Next.TheVariants.{RunCount, Refused}
 
 -- the last place from 1 to m whose value is above the one before it, or 0
 unfoldable pub last_ascent : List ℕ → ℕ → ℕ
@@ -69,11 +68,6 @@ next_runs n r = maximal_runs n (value_at (successor (values_of n r)))
 unfoldable pub next_of : ℕ → Runs → List ℕ → List ℕ → Outcome Runs
 next_of n r to_starts to_images = judge (next_tests n r to_starts to_images) (next_runs n r)
 
--- the outcome that each answer is: the next list's run count, or a number and a place
-abbrev pub next_says : Next → Outcome ℕ
-next_says (RunCount k) = done k
-next_says (Refused x) = refusal_says x
-
--- what `next_list` promises
-abbrev pub NextListed : ℕ → Runs → List ℕ → List ℕ → List ℕ → List ℕ → Next → Type 0
-NextListed n r to_starts to_images = WritesList next_says count_of (next_of n r to_starts to_images) to_starts to_images
+-- what `next_list` promises: it answers the next list's run count
+abbrev pub NextListed : ℕ → Runs → List ℕ → List ℕ → List ℕ → List ℕ → Result ℕ Refusal → Type 0
+NextListed n r to_starts to_images = WritesList says count_of (next_of n r to_starts to_images) to_starts to_images

@@ -1,12 +1,13 @@
 -- What the private parts of `next_list` ask and promise.
-use Rattle.std.specs.Prelude.{ℕ, ◌≤◌, ◌<◌, ◌≡◌, List, [], ◌∷◌, length}
+use Rattle.std.specs.Prelude.{ℕ, zero, suc, ◌-◌, ◌≤◌, ◌<◌, ◌≡◌, Option, Some, None, Result, List, [], ◌∷◌, length}
 use Rattle.outcomes.specs.Outcome.{Outcome, refused, judge, and_then}
+use Rattle.outcomes.specs.Refusal.{says as Refusal·says}
+use Rattle.outcomes.specs.declared.Refusal.{Refusal}
 use Rattle.runs.specs.Runs.{Runs, count_of, start_of, end_of}
 use Rattle.runs.specs.Legal.{Legal}
 use Rattle.folds.specs.Fold.{maximal_runs}
 use Rattle.permutations.specs.Values.{value_at}
-use Rattle.permutations.specs.Next.{max_places, successor, last_test, later_tests, next_runs, next_says}
-use Rattle.permutations.specs.declared.Next.{Next}
+use Rattle.permutations.specs.Next.{max_places, successor, last_test, later_tests, next_runs}
 
 -- the list is legal, and of few places
 pub record Small (n : ℕ) (r : Runs) : Type 0 where
@@ -26,6 +27,17 @@ pub record Near (n : ℕ) (r : Runs) (x p : ℕ) : Type 0 where
   pub run : x < count_of r
   pub from : start_of r x ≤ p
   pub to : p ≤ end_of n r x
+
+-- a place that a search answers with 0 where there is none
+abbrev pub if_place : ℕ → Option ℕ
+if_place zero = None
+if_place (suc i) = Some (suc i)
+
+-- the value at place i is above the one before it
+pub record Ascent (l : List ℕ) (i : ℕ) : Type 0 where
+  pub some : 0 < i
+  pub inside : i < length l
+  pub above : value_at l (i - 1) < value_at l i
 
 -- where values are changed: at an ascent, and at another place from there on
 pub record Change (l : List ℕ) (ascent other : ℕ) : Type 0 where
@@ -47,8 +59,8 @@ pub record Writable (l starts images : List ℕ) : Type 0 where
   pub images_room : length l ≤ length images
 
 -- the answer to a list of too many places or runs: the refusal that its check came to, or 17
-pub record NoneListed (n : ℕ) (checked : Outcome (Unit {0})) (answer : Next) : Type 0 where
-  pub says : next_says answer ≡ and_then checked (λ _. refused 17 n)
+pub record NoneListed (n : ℕ) (checked : Outcome (Unit {0})) (answer : Result ℕ Refusal) : Type 0 where
+  pub says : Refusal·says answer ≡ and_then checked (λ _. refused 17 n)
 
 -- what a call comes to after tests 1 to 6; and after 17 and 8, by the values alone
 unfoldable pub later_of : ℕ → Runs → List ℕ → List ℕ → Outcome Runs

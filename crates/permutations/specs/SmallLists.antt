@@ -1,12 +1,13 @@
 -- All that is promised of small lists beside demand 1 (document 02, A.3). Proved in proofs/Every.
-use Rattle.std.specs.Prelude.{ℕ, suc, ◌≤◌, ◌<◌, ◌≡◌, ◌⊎◌, ◌≢◌, List, [], ◌∷◌, length, take, drop}
+use Rattle.std.specs.Prelude.{ℕ, suc, ◌≤◌, ◌<◌, ◌≡◌, ◌⊎◌, ◌≢◌, List, [], ◌∷◌, length, take, drop, Result}
 use Rattle.order.specs.Lists.{down_to}
 use Rattle.outcomes.specs.Outcome.{done, refused, Long}
+use Rattle.outcomes.specs.Refusal.{says}
+use Rattle.outcomes.specs.declared.Refusal.{Refusal}
 use Rattle.runs.specs.Runs.{Runs, runs, count_of}
 use Rattle.runs.specs.Legal.{Legal}
 use Rattle.permutations.specs.Values.{values_of, Before}
-use Rattle.permutations.specs.Next.{max_places, successor, next_runs, next_of, next_says, NextListed}
-use Rattle.permutations.specs.declared.Next.{Next}
+use Rattle.permutations.specs.Next.{max_places, successor, next_runs, next_of, NextListed}
 use Rattle.permutations.specs.Every.{OfFewestRuns, IsNext, identity, lists_from, factorial, AllInOrder}
 use Rattle.permutations.specs.Calls.{NextCall, Calling, lists_by}
 
@@ -38,7 +39,7 @@ pub record SmallLists : Type 0 where
       → next_of n r a b ≡ next_of n s a b
   pub room : (n : ℕ) (r : Runs) (a b c d : List ℕ) → Long n (a ∷ b ∷ []) → Long n (c ∷ d ∷ []) → next_of n r a b ≡ next_of n r c d
   -- "gives the next one's run count, writes it to two lent tables of at least n entries and keeps the entries beyond it"
-  pub written : (n : ℕ) (r : Runs) (a b a' b' : List ℕ) (x : Next) → NextListed n r a b a' b' x → (k : ℕ) → next_says x ≡ done k
+  pub written : (n : ℕ) (r : Runs) (a b a' b' : List ℕ) (x : Result ℕ Refusal) → NextListed n r a b a' b' x → (k : ℕ) → says x ≡ done k
       → let q = runs (take k a') (take k b') in
       (next_of n r a b ≡ done q) × (count_of q ≡ k) × (k ≤ n) × (drop k a' ≡ drop k a) × (drop k b' ≡ drop k b)
   -- "From the identity each comes once, n! lists in all": n! - 1 calls do, and more make no difference

@@ -1,45 +1,37 @@
 // The next permutation of some values in lexicographic order, by Narayana's method (Knuth's Algorithm L): the value before the last
 // ascent changes places with the last value that is above it, and the values from the ascent on are reversed. Each value is worked
 // out by itself, from its place, so that nothing is moved about.
-ghost use Rattle.std.specs.Prelude.{◌≡◌, ◌-◌, ◌≤◌, ◌<◌, length, take};
+ghost use Rattle.std.specs.Prelude.{◌≡◌, ◌≤◌, ◌<◌, length, take};
 ghost use Rattle.permutations.specs.Values.{value_at};
-ghost use Rattle.permutations.specs.Next.{ascent_of, last_above, changed, max_places};
-ghost use Rattle.permutations.specs.Parts.{Change};
+ghost use Rattle.permutations.specs.Next.{ascent_of, exchange_of, changed, max_places};
+ghost use Rattle.permutations.specs.Parts.{Ascent, Change, if_place};
 
 use super::MAX_PLACES;
 
-// The last place whose value is above the one before it, or 0.
-pub(crate) fn last_ascent(values: &[u32]) -> usize
-    ensures { result ≡ ascent_of values.now }
+// The last place whose value is above the one before it.
+pub(crate) fn last_ascent(values: &[u32]) -> Option<usize>
+    ensures { result ≡ if_place (ascent_of values.now) }
 {
-    if values.len() == 0 {
-        return 0;
-    }
-    let mut i = values.len() - 1;
-    while 0 < i {
+    for i in (1..values.len()).rev() {
         if values[i - 1] < values[i] {
-            return i;
+            return Some(i);
         }
-        i -= 1;
     }
-    0
+    None
 }
 
-// The last place from 1 on whose value is above v, or 0.
-pub(crate) fn last_above(values: &[u32], v: u32) -> usize
-    ensures { result ≡ last_above values.now v (length values.now - 1) }
+// The last place whose value is above the one before an ascent. The ascent itself is such a place.
+pub(crate) fn last_above(values: &[u32], ascent: usize) -> usize
+    requires { Ascent values.now ascent }
+    ensures { result ≡ exchange_of values.now ascent }
 {
-    if values.len() == 0 {
-        return 0;
-    }
-    let mut i = values.len() - 1;
-    while 0 < i {
+    let v = values[ascent - 1];
+    for i in (ascent + 1..values.len()).rev() {
         if v < values[i] {
             return i;
         }
-        i -= 1;
     }
-    0
+    ascent
 }
 
 // The value at p after the change.
@@ -65,11 +57,9 @@ pub(crate) fn change(values: &[u32], ascent: usize, other: usize) -> [u32; MAX_P
     requires { Change values.now ascent other × (length values.now ≤ max_places) }
     ensures { take (length values.now) result ≡ changed values.now ascent other }
 {
-    let mut after: [u32; MAX_PLACES] = [0; MAX_PLACES];
-    let mut p: usize = 0;
-    while p < values.len() {
+    let mut after = [0; MAX_PLACES];
+    for p in 0..values.len() {
         after[p] = value_after(values, ascent, other, p);
-        p += 1;
     }
     after
 }

@@ -9,21 +9,15 @@ mod values;
 
 ghost use Rattle.std.specs.Prelude.{◌≡◌, ◌≤◌, length};
 ghost use Rattle.outcomes.specs.Outcome.{done};
-ghost use Rattle.outcomes.specs.Refusal.{checked_says};
-ghost use Rattle.runs.specs.Runs.{runs, count_of};
+ghost use Rattle.outcomes.specs.Refusal.{says};
+ghost use Rattle.runs.specs.Runs.{runs_in, count_of};
 ghost use Rattle.runs.specs.Check.{check_of};
 ghost use Rattle.runs.specs.Written.{WritesList};
-ghost use Rattle.permutations.specs.Next.{max_places, next_says, NextListed};
+ghost use Rattle.permutations.specs.Next.{max_places, NextListed};
 ghost use Rattle.permutations.specs.Parts.{Writable, NoneListed, later_of, after_of};
 
-use outcomes::{Checked, Refusal};
-
-// What becomes of a list whose next one is asked for.
-#[derive(Clone, Copy)]
-pub enum Next {
-    RunCount(u32),
-    Refused(Refusal),
-}
+use outcomes::Refusal;
+use runs::RunList;
 
 // The most places of a list whose next one is given, as a number and as a table's size.
 const MOST_PLACES: u32 = 7;
@@ -31,92 +25,80 @@ const MOST_PLACES: u32 = 7;
 const MAX_PLACES: usize = MOST_PLACES as usize;
 
 // Test 18, and the list of the next values. A list of one run for each place has these values; its fold is written.
-fn write_next(values: &[u32], to_starts: &mut [u32], to_images: &mut [u32]) -> Next
+fn write_next(values: &[u32], to_starts: &mut [u32], to_images: &mut [u32]) -> Result<u32, Refusal>
     requires { Writable values.now to_starts.old to_images.old }
-    ensures { WritesList next_says count_of (after_of values.now)
+    ensures { WritesList says count_of (after_of values.now)
         to_starts.old to_images.old to_starts.new to_images.new result }
 {
     let n = values.len();
-    let ascent = after::last_ascent(values);
-    if ascent == 0 {
-        return Next::Refused(Refusal::LastPermutation);
-    }
-    let other = after::last_above(values, values[ascent - 1]);
+    let Some(ascent) = after::last_ascent(values) else {
+        return Err(Refusal::LastPermutation);
+    };
+    let other = after::last_above(values, ascent);
     let changed = after::change(values, ascent, other);
-    let places: [u32; MAX_PLACES] = [0, 1, 2, 3, 4, 5, 6];
-    let count = folds::write_folded(&places[..n], &changed[..n], to_starts, to_images);
-    let size = count as u32;
-    Next::RunCount(size)
+    let places = [0, 1, 2, 3, 4, 5, 6];
+    let list = RunList {
+        n: n as u32,
+        starts: &places[..n],
+        images: &changed[..n],
+    };
+    let count = folds::write_folded(list, to_starts, to_images);
+    Ok(count as u32)
 }
 
 // Tests 8 and 18 of an accepted list of few places, and the next one.
 fn next_accepted(
-    n: u32,
-    starts: &[u32],
-    images: &[u32],
+    list: RunList<'_>,
     to_starts: &mut [u32],
     to_images: &mut [u32],
-) -> Next
-    requires { (done tt ≡ check_of n (runs starts.now images.now)) × (n ≤ max_places) }
-    ensures { WritesList next_says count_of
-        (later_of n (runs starts.now images.now) to_starts.old to_images.old)
+) -> Result<u32, Refusal>
+    requires { (done tt ≡ check_of list.n (runs_in list)) × (list.n ≤ max_places) }
+    ensures { WritesList says count_of
+        (later_of list.entry.n (runs_in list.entry) to_starts.old to_images.old)
         to_starts.old to_images.old to_starts.new to_images.new result }
 {
-    let size = n as usize;
-    if to_starts.len() < size {
-        return Next::Refused(Refusal::ShortTable(n));
+    let size = list.n as usize;
+    if to_starts.len() < size || to_images.len() < size {
+        return Err(Refusal::ShortTable(list.n));
     }
-    if to_images.len() < size {
-        return Next::Refused(Refusal::ShortTable(n));
-    }
-    let values = values::of_places(n, starts, images);
+    let values = values::of_places(list);
     write_next(&values[..size], to_starts, to_images)
 }
 
 // Tests 1 to 6 of a list of few runs, in little room.
-fn check_few(n: u32, starts: &[u32], images: &[u32]) -> Checked
-    requires { length starts.now ≤ max_places }
-    ensures { checked_says result ≡ check_of n (runs starts.now images.now) }
+fn check_few(list: RunList<'_>) -> Result<(), Refusal>
+    requires { length list.starts.now ≤ max_places }
+    ensures { says result ≡ check_of list.entry.n (runs_in list.entry) }
 {
-    let mut order: [u32; MAX_PLACES] = [0; MAX_PLACES];
-    let mut spare: [u32; MAX_PLACES] = [0; MAX_PLACES];
-    runs::check_order(n, starts, images, runs::MOST_RUNS, &mut order, &mut spare)
+    let mut order = [0; MAX_PLACES];
+    let mut spare = [0; MAX_PLACES];
+    runs::check_order(list, runs::MOST_RUNS, &mut order, &mut spare)
 }
 
-// The answer to a list of more than seven places or runs: its own refusal, or 17, which only one of more places can come to.
-fn refuse(n: u32, checked: Checked) -> Next
-    ensures { NoneListed n (checked_says checked) result }
+// The answer to a list of more than seven places or runs: its own refusal, or 17, which only one of more places can come to. The tables
+// that `lists::check` needs stay out of the frame of `next_list` (docs/DECISIONS.md, "Few runs get small tables").
+#[inline(never)]
+fn refuse(list: RunList<'_>) -> Result<u32, Refusal>
+    ensures { NoneListed list.entry.n (check_of list.entry.n (runs_in list.entry)) result }
 {
-    match checked {
-        Checked::Refused(refusal) => Next::Refused(refusal),
-        Checked::Accepted => Next::Refused(Refusal::TooManyPlaces(n)),
-    }
+    lists::check(list)?;
+    Err(Refusal::TooManyPlaces(list.n))
 }
 
 // Writes the next list to the first entries of two tables of at least n entries, and leaves the others. Answers how many runs it has.
-// Tests 1 to 6, 17, 8 and 18; a refused call changes nothing.
+// Tests 1 to 6, 17, 8 and 18; a refused call changes nothing. More than seven runs on at most seven places: one of tests 1 to 4 refuses
+// the list.
 pub fn next_list(
-    n: u32,
-    starts: &[u32],
-    images: &[u32],
+    list: RunList<'_>,
     to_starts: &mut [u32],
     to_images: &mut [u32],
-) -> Next
-    ensures { NextListed n (runs starts.now images.now)
+) -> Result<u32, Refusal>
+    ensures { NextListed list.entry.n (runs_in list.entry)
         to_starts.old to_images.old to_starts.new to_images.new result }
 {
-    if MOST_PLACES < n {
-        return refuse(n, lists::check(n, starts, images));
+    if MOST_PLACES < list.n || MAX_PLACES < list.starts.len() {
+        return refuse(list);
     }
-    // More than seven runs, and at most seven places: one of tests 1 to 4 refuses the list, so that test 8 never looks at the empty
-    // tables. It is not `check` that is asked, so that the large tables which both need to work in stay out of this function's frame
-    // (docs/DECISIONS.md, "Few runs get small tables").
-    if MAX_PLACES < starts.len() {
-        return refuse(n, lists::inverse_list(n, starts, images, &mut [], &mut []));
-    }
-    let checked = check_few(n, starts, images);
-    match checked {
-        Checked::Refused(refusal) => Next::Refused(refusal),
-        Checked::Accepted => next_accepted(n, starts, images, to_starts, to_images),
-    }
+    check_few(list)?;
+    next_accepted(list, to_starts, to_images)
 }
