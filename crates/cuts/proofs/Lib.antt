@@ -11,3 +11,4 @@ pub mod Ahead
 pub mod Looking
 pub mod Progress
 pub mod Light
+pub mod Turns

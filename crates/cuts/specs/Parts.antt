@@ -1,15 +1,32 @@
 -- The pieces that cuts make of a list's runs: what the private searches for them ask and promise.
 use Rattle.std.specs.Prelude.{ℕ, ◌+◌, ◌-◌, ◌*◌, ◌≤◌, ◌<◌, ◌≡◌, true, false, List, get_or, ltb}
 use Rattle.order.specs.Lists.{All, bit, count_below}
-use Rattle.runs.specs.Runs.{Runs, count_of, start_of, image_of, image_end, map_of}
+use Rattle.merging.specs.Merged.{Starts}
+use Rattle.runs.specs.Runs.{Runs, runs_in, count_of, start_of, image_of, image_end, map_of}
 use Rattle.runs.specs.Weight.{weight}
 use Rattle.cuts.specs.Cuts.{with_cuts}
+use Rattle.cuts.specs.Ranks.{Ranked}
+use Rattle.cuts.specs.declared.CutRuns.{CutRuns}
+use Rattle.cuts.specs.declared.Entries.{Entries}
 use Rattle.cuts.specs.declared.Piece.{Piece}
 use Rattle.cuts.specs.declared.Spot.{Spot}
 use Rattle.cuts.specs.declared.Here.{Here}
 use Rattle.cuts.specs.declared.Looked.{Looked}
 use Rattle.cuts.specs.declared.Front.{Front}
 use Rattle.cuts.specs.declared.Stand.{Stand}
+
+-- the starts and cuts of a list with cuts
+abbrev pub entries_in : CutRuns → Entries
+entries_in l = record { n = l.list.n; starts = l.list.starts; cuts = l.cuts }
+
+-- the list after the cuts
+abbrev pub after_cuts : CutRuns → Runs
+after_cuts l = with_cuts l.list.n (runs_in l.list) l.cuts.now
+
+-- what the parts of the sweep know of it: its runs are ranked, and its starts and cuts are those of one list
+pub record InOrder (l : CutRuns) : Type 0 where
+  pub ranked : Ranked l.list.n (runs_in l.list) l.order.now l.ranked.now
+  pub starts : Starts l.list.n l.list.starts.now l.cuts.now
 
 -- an interval of q has its image at p
 pub record Begins (q : Runs) (p : ℕ) : Type 0 where

@@ -13,10 +13,41 @@ mod pieces;
 mod sweep;
 
 ghost use Rattle.runs.specs.Runs.{runs_in};
+ghost use Rattle.std.specs.Prelude.{◌≡◌};
 ghost use Rattle.cuts.specs.Cuts.{Cuttable, BalancingCuts};
+ghost use Rattle.cuts.specs.Parts.{entries_in};
 
 use merging::Mark;
 use runs::RunList;
+
+// A list whose runs stand in `order` in rising order of image, with their images in that order in `ranked`, and cuts in it.
+#[derive(Clone, Copy)]
+struct CutRuns<'a> {
+    list: RunList<'a>,
+    order: &'a [u32],
+    ranked: &'a [u32],
+    cuts: &'a [u32],
+}
+
+// The starts of a list and the cuts in it, which are looked at as one rising sequence that ends at n.
+#[derive(Clone, Copy)]
+struct Entries<'a> {
+    n: u32,
+    starts: &'a [u32],
+    cuts: &'a [u32],
+}
+
+impl<'a> CutRuns<'a> {
+    fn entries(self) -> Entries<'a>
+        ensures { result ≡ entries_in self.entry }
+    {
+        Entries {
+            n: self.list.n,
+            starts: self.list.starts,
+            cuts: self.cuts,
+        }
+    }
+}
 
 // A place, and the run that has it.
 #[derive(Clone, Copy)]
@@ -85,13 +116,5 @@ pub fn find_cuts(
 {
     sorting::gather(list.images, order, ranked);
     let k = list.images.len();
-    sweep::sweep(
-        list.n,
-        list.starts,
-        list.images,
-        &order[..k],
-        &ranked[..k],
-        d as usize,
-        working,
-    )
+    sweep::sweep(list, &order[..k], &ranked[..k], d as usize, working)
 }

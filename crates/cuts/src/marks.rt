@@ -5,113 +5,111 @@ ghost use Rattle.merging.specs.Merged.{merged, Starts};
 ghost use Rattle.merging.specs.Marks.{At};
 ghost use Rattle.cuts.specs.Marks.{Skips, Lookable, Reaches, Looks};
 
-use super::Looked;
+use super::{Entries, Looked};
 use merging::Mark;
 use order::entry_or;
 
-// The mark before the first entry at or above `t`.
-pub(crate) fn mark_at(starts: &[u32], cuts: &[u32], t: u32) -> Mark
-    requires { Sorted starts.now × Sorted cuts.now }
-    ensures { (result.starts ≡ count_below t starts.now) × (result.cuts ≡ count_below t cuts.now) }
-{
-    let before = searching::count_below(starts, t);
-    Mark {
-        starts: before,
-        cuts: searching::count_below(cuts, t),
-    }
-}
-
-// The mark `count` entries on, or sooner, before the first entry that is not below `to`.
-pub(crate) fn skip(n: u32, starts: &[u32], cuts: &[u32], mark: Mark, count: usize, to: u32) -> Mark
-    requires { Starts n starts.now cuts.now × At n starts.now cuts.now mark (mark.starts + mark.cuts)
-        × (mark.starts + mark.cuts ≤ count_below to (merged starts.now cuts.now)) × (to ≤ n) }
-    ensures { Skips n starts.now cuts.now mark count to result }
-{
-    let mut at = mark;
-    let mut i = 0;
-    while i < count {
-        let step = merging::step(n, starts, cuts, at);
-        if to <= step.entry {
-            return at;
+impl Entries<'_> {
+    // The mark before the first entry at or above `t`.
+    pub(crate) fn mark_at(self, t: u32) -> Mark
+        requires { Sorted self.starts.now × Sorted self.cuts.now }
+        ensures { (result.starts ≡ count_below t self.entry.starts.now)
+            × (result.cuts ≡ count_below t self.entry.cuts.now) }
+    {
+        Mark {
+            starts: searching::count_below(self.starts, t),
+            cuts: searching::count_below(self.cuts, t),
         }
-        at = step.mark;
-        i += 1;
     }
-    at
-}
 
-// Two looks of `d` entries each, from the mark on up to `to`.
-fn look_at_both(n: u32, starts: &[u32], cuts: &[u32], mark: Mark, d: usize, to: u32) -> Looked
-    requires { Lookable n starts.now cuts.now mark d to }
-    ensures { Looks n starts.now cuts.now mark d to result }
-{
-    let middle = skip(n, starts, cuts, mark, d, to);
-    let last = skip(n, starts, cuts, middle, d, to);
-    if last.starts + last.cuts < mark.starts + mark.cuts + 2 * d {
-        return Looked {
-            heavy: false,
-            to,
-            mark: last,
-        };
-    }
-    Looked {
-        heavy: true,
-        to: merging::entry_at(n, starts, cuts, middle),
-        mark: middle,
-    }
-}
-
-// How many starts are below `to`, from index `from` on and at most `most` of them.
-fn starts_below(n: u32, starts: &[u32], from: usize, most: usize, to: u32) -> usize
-    requires { Sorted starts.now × (from ≤ count_below to starts.now) × (to ≤ n) }
-    ensures { Reaches starts.now from most to result }
-{
-    let mut passed = 0;
-    while passed < most {
-        if to <= entry_or(starts, from + passed, n) {
-            return passed;
+    // The mark `count` entries on, or sooner, before the first entry that is not below `to`.
+    fn skip(self, mark: Mark, count: usize, to: u32) -> Mark
+        requires { Starts self.n self.starts.now self.cuts.now
+            × At self.n self.starts.now self.cuts.now mark (mark.starts + mark.cuts)
+            × (mark.starts + mark.cuts ≤ count_below to (merged self.starts.now self.cuts.now)) × (to ≤ self.n) }
+        ensures { Skips self.entry.n self.entry.starts.now self.entry.cuts.now mark count to result }
+    {
+        let mut at = mark;
+        for _ in 0..count {
+            let step = merging::step(self.n, self.starts, self.cuts, at);
+            if to <= step.entry {
+                return at;
+            }
+            at = step.mark;
         }
-        passed += 1;
+        at
     }
-    passed
-}
 
-// The same where no cut is below `to` from the mark on, so that the starts alone tell.
-fn look_at_starts(n: u32, starts: &[u32], cuts: &[u32], mark: Mark, d: usize, to: u32) -> Looked
-    requires { Lookable n starts.now cuts.now mark d to × (to ≤ get_or cuts.now mark.cuts n) }
-    ensures { Looks n starts.now cuts.now mark d to result }
-{
-    let from = mark.starts;
-    let passed = starts_below(n, starts, from, 2 * d, to);
-    if passed < 2 * d {
-        let last = Mark {
-            starts: from + passed,
-            cuts: mark.cuts,
-        };
-        return Looked {
-            heavy: false,
-            to,
-            mark: last,
-        };
+    // Two looks of `d` entries each, from the mark on up to `to`.
+    fn look_at_both(self, mark: Mark, d: usize, to: u32) -> Looked
+        requires { Lookable self.n self.starts.now self.cuts.now mark d to }
+        ensures { Looks self.entry.n self.entry.starts.now self.entry.cuts.now mark d to result }
+    {
+        let middle = self.skip(mark, d, to);
+        let last = self.skip(middle, d, to);
+        if last.starts + last.cuts < mark.starts + mark.cuts + 2 * d {
+            return Looked {
+                heavy: false,
+                to,
+                mark: last,
+            };
+        }
+        Looked {
+            heavy: true,
+            to: merging::entry_at(self.n, self.starts, self.cuts, middle),
+            mark: middle,
+        }
     }
-    let middle = Mark {
-        starts: from + d,
-        cuts: mark.cuts,
-    };
-    Looked {
-        heavy: true,
-        to: starts[from + d],
-        mark: middle,
-    }
-}
 
-// Whether 2d starts and cuts or more are below `to` from the mark on, and which one of them comes after d.
-pub(crate) fn look(n: u32, starts: &[u32], cuts: &[u32], mark: Mark, d: usize, to: u32) -> Looked
-    requires { Lookable n starts.now cuts.now mark d to }
-    ensures { Looks n starts.now cuts.now mark d to result }
-{
-    if to <= entry_or(cuts, mark.cuts, n) {
-        return look_at_starts(n, starts, cuts, mark, d, to);
+    // How many starts are below `to`, from index `from` on and at most `most` of them.
+    fn starts_below(self, from: usize, most: usize, to: u32) -> usize
+        requires { Sorted self.starts.now × (from ≤ count_below to self.starts.now) × (to ≤ self.n) }
+        ensures { Reaches self.entry.starts.now from most to result }
+    {
+        for passed in 0..most {
+            if to <= entry_or(self.starts, from + passed, self.n) {
+                return passed;
+            }
+        }
+        most
     }
-    look_at_both(n, starts, cuts, mark, d, to)
+
+    // The same where no cut is below `to` from the mark on, so that the starts alone tell.
+    fn look_at_starts(self, mark: Mark, d: usize, to: u32) -> Looked
+        requires { Lookable self.n self.starts.now self.cuts.now mark d to × (to ≤ get_or self.cuts.now mark.cuts self.n) }
+        ensures { Looks self.entry.n self.entry.starts.now self.entry.cuts.now mark d to result }
+    {
+        let from = mark.starts;
+        let passed = self.starts_below(from, 2 * d, to);
+        if passed < 2 * d {
+            return Looked {
+                heavy: false,
+                to,
+                mark: Mark {
+                    starts: from + passed,
+                    cuts: mark.cuts,
+                },
+            };
+        }
+        Looked {
+            heavy: true,
+            to: self.starts[from + d],
+            mark: Mark {
+                starts: from + d,
+                cuts: mark.cuts,
+            },
+        }
+    }
+
+    // Whether 2d starts and cuts or more are below `to` from the mark on, and which one of them comes after d.
+    pub(crate) fn look(self, mark: Mark, d: usize, to: u32) -> Looked
+        requires { Lookable self.n self.starts.now self.cuts.now mark d to }
+        ensures { Looks self.entry.n self.entry.starts.now self.entry.cuts.now mark d to result }
+    {
+        if to <= entry_or(self.cuts, mark.cuts, self.n) {
+            self.look_at_starts(mark, d, to)
+        } else {
+            self.look_at_both(mark, d, to)
+        }
+    }
 }

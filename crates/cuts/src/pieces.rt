@@ -1,13 +1,11 @@
 // The pieces that cuts make of a list's runs: at the front of the sweep known, behind it found by binary search.
 ghost use Rattle.std.specs.Prelude.{◌≡◌, ◌+◌, ◌-◌, ◌≤◌, ◌<◌, length, get_or};
 ghost use Rattle.order.specs.Lists.{count_below};
-ghost use Rattle.runs.specs.Runs.{runs};
-ghost use Rattle.merging.specs.Merged.{Starts};
-ghost use Rattle.cuts.specs.Cuts.{with_cuts};
-ghost use Rattle.cuts.specs.Ranks.{Ranked, Ranking, SentTo};
-ghost use Rattle.cuts.specs.Parts.{Begins, PieceAt, HereAt, FrontAt, Higher, Around, BehindAt, AfterCut};
+ghost use Rattle.runs.specs.Runs.{runs_in};
+ghost use Rattle.cuts.specs.Ranks.{Ranking, SentTo};
+ghost use Rattle.cuts.specs.Parts.{InOrder, after_cuts, Begins, PieceAt, HereAt, FrontAt, Higher, Around, BehindAt, AfterCut};
 
-use super::{Front, Here, Origin, Piece, Spot, Stand, fronts, marks};
+use super::{CutRuns, Front, Here, Origin, Piece, Spot, Stand, fronts};
 use merging::Mark;
 use order::entry_or;
 
@@ -19,145 +17,101 @@ fn run_at_rank(order: &[u32], ranked: &[u32], q: u32) -> usize
     order[searching::count_below(ranked, q + 1) - 1] as usize
 }
 
-// The place that the list's function sends to `q`, and its run.
-fn origin_of(
-    n: u32,
-    starts: &[u32],
-    images: &[u32],
-    order: &[u32],
-    ranked: &[u32],
-    q: u32,
-) -> Origin
-    requires { Ranked n (runs starts.now images.now) order.now ranked.now × (q < n) }
-    ensures { SentTo n (runs starts.now images.now) q result }
-{
-    let x = run_at_rank(order, ranked, q);
-    Origin {
-        run: x,
-        place: starts[x] + (q - images[x]),
-    }
-}
-
 // The last of the first `count` cuts, or `start` where that is higher.
 fn later_start(start: u32, cuts: &[u32], count: usize) -> u32
     requires { count ≤ length cuts.now }
     ensures { Higher start cuts.now count result }
 {
     if count == 0 {
-        return start;
-    }
-    let cut = cuts[count - 1];
-    if start < cut { cut } else { start }
-}
-
-// Where the image begins in which `u` lies, and the piece that it is of.
-fn piece_around(
-    n: u32,
-    starts: &[u32],
-    images: &[u32],
-    order: &[u32],
-    ranked: &[u32],
-    cuts: &[u32],
-    u: u32,
-) -> Spot
-    requires { Ranked n (runs starts.now images.now) order.now ranked.now
-        × Starts n starts.now cuts.now × (u < n) }
-    ensures { Around n
-        (with_cuts n (runs starts.now images.now) cuts.now) u result }
-{
-    let origin = origin_of(n, starts, images, order, ranked, u);
-    let x = origin.run;
-    let count = searching::count_below(cuts, origin.place + 1);
-    let start = later_start(starts[x], cuts, count);
-    let after = Mark {
-        starts: x + 1,
-        cuts: count,
-    };
-    let end = merging::entry_at(n, starts, cuts, after);
-    let p = u - (origin.place - start);
-    let piece = Piece {
-        start,
-        to: p + (end - start),
-    };
-    Spot { p, piece }
-}
-
-// The piece at the front: no cut lies ahead, so that it ends with its run.
-fn front_piece(
-    n: u32,
-    starts: &[u32],
-    images: &[u32],
-    order: &[u32],
-    ranked: &[u32],
-    cuts: &[u32],
-    front: Front,
-) -> Piece
-    requires { Ranked n (runs starts.now images.now) order.now ranked.now × Starts n starts.now cuts.now
-        × FrontAt n (runs starts.now images.now) ranked.now cuts.now front
-        × Begins (with_cuts n (runs starts.now images.now) cuts.now) front.q }
-    ensures { PieceAt n
-        (with_cuts n (runs starts.now images.now) cuts.now) front.q result }
-{
-    let rank = front.rank;
-    let x = order[rank] as usize;
-    Piece {
-        start: starts[x] + (front.q - ranked[rank]),
-        to: entry_or(ranked, rank + 1, n),
+        start
+    } else {
+        start.max(cuts[count - 1])
     }
 }
 
-// The piece where the sweep stands, and the mark before its image: known at the front, and behind it the mark is searched for.
-pub(crate) fn here(
-    n: u32,
-    starts: &[u32],
-    images: &[u32],
-    order: &[u32],
-    ranked: &[u32],
-    cuts: &[u32],
-    at: Stand,
-) -> Here
-    requires { Ranked n (runs starts.now images.now) order.now ranked.now × Starts n starts.now cuts.now
-        × FrontAt n (runs starts.now images.now) ranked.now cuts.now at.front
-        × BehindAt n (with_cuts n (runs starts.now images.now) cuts.now) at }
-    ensures { HereAt n (runs starts.now images.now) cuts.now at.p result }
-{
-    let front = at.front;
-    if at.p == front.q {
-        let mark = front.mark;
-        let piece = front_piece(n, starts, images, order, ranked, cuts, front);
-        return Here { piece, mark };
+impl CutRuns<'_> {
+    // The place that the list's function sends to `q`, and its run.
+    fn origin_of(self, q: u32) -> Origin
+        requires { InOrder self × (q < self.list.n) }
+        ensures { SentTo self.entry.list.n (runs_in self.entry.list) q result }
+    {
+        let x = run_at_rank(self.order, self.ranked, q);
+        Origin {
+            run: x,
+            place: self.list.starts[x] + (q - self.list.images[x]),
+        }
     }
-    let mark = marks::mark_at(starts, cuts, at.p);
-    let piece = at.piece;
-    Here { piece, mark }
-}
 
-// Where to go on after a cut that added `u`: at the front, or where the image behind it begins in which `u` lies. There a piece may
-// be heavy now.
-pub(crate) fn after_cut(
-    n: u32,
-    starts: &[u32],
-    images: &[u32],
-    order: &[u32],
-    ranked: &[u32],
-    cuts: &[u32],
-    front: Front,
-    u: u32,
-) -> Stand
-    requires { Ranked n (runs starts.now images.now) order.now ranked.now × Starts n starts.now cuts.now
-        × (u < n) × (front.mark.cuts < 9223372036854775808) }
-    ensures { AfterCut n
-        (with_cuts n (runs starts.now images.now) cuts.now) front u result }
-{
-    let counted = fronts::count_cut(front, u);
-    if counted.q <= u {
-        return fronts::at_front(counted);
+    // Where the image begins in which `u` lies, and the piece that it is of.
+    fn piece_around(self, u: u32) -> Spot
+        requires { InOrder self × (u < self.list.n) }
+        ensures { Around self.entry.list.n (after_cuts self.entry) u result }
+    {
+        let origin = self.origin_of(u);
+        let count = searching::count_below(self.cuts, origin.place + 1);
+        let start = later_start(self.list.starts[origin.run], self.cuts, count);
+        let after = Mark {
+            starts: origin.run + 1,
+            cuts: count,
+        };
+        let end = merging::entry_at(self.list.n, self.list.starts, self.cuts, after);
+        let p = u - (origin.place - start);
+        Spot {
+            p,
+            piece: Piece {
+                start,
+                to: p + (end - start),
+            },
+        }
     }
-    let spot = piece_around(n, starts, images, order, ranked, cuts, u);
-    let piece = spot.piece;
-    Stand {
-        p: spot.p,
-        piece,
-        front: counted,
+
+    // The piece at the front: no cut lies ahead, so that it ends with its run.
+    fn front_piece(self, front: Front) -> Piece
+        requires { InOrder self × FrontAt self.list.n (runs_in self.list) self.ranked.now self.cuts.now front
+            × Begins (after_cuts self) front.q }
+        ensures { PieceAt self.entry.list.n (after_cuts self.entry) front.q result }
+    {
+        let rank = front.rank;
+        let x = self.order[rank] as usize;
+        Piece {
+            start: self.list.starts[x] + (front.q - self.ranked[rank]),
+            to: entry_or(self.ranked, rank + 1, self.list.n),
+        }
+    }
+
+    // The piece where the sweep stands, and the mark before its image: known at the front, and behind it the mark is searched for.
+    pub(crate) fn here(self, at: Stand) -> Here
+        requires { InOrder self × FrontAt self.list.n (runs_in self.list) self.ranked.now self.cuts.now at.front
+            × BehindAt self.list.n (after_cuts self) at }
+        ensures { HereAt self.entry.list.n (runs_in self.entry.list) self.entry.cuts.now at.p result }
+    {
+        if at.p == at.front.q {
+            return Here {
+                piece: self.front_piece(at.front),
+                mark: at.front.mark,
+            };
+        }
+        Here {
+            piece: at.piece,
+            mark: self.entries().mark_at(at.p),
+        }
+    }
+
+    // Where to go on after a cut that added `u`: at the front, or where the image behind it begins in which `u` lies. There a piece
+    // may be heavy now.
+    pub(crate) fn after_cut(self, front: Front, u: u32) -> Stand
+        requires { InOrder self × (u < self.list.n) × (front.mark.cuts < 9223372036854775808) }
+        ensures { AfterCut self.entry.list.n (after_cuts self.entry) front u result }
+    {
+        let counted = fronts::count_cut(front, u);
+        if counted.q <= u {
+            return fronts::at_front(counted);
+        }
+        let spot = self.piece_around(u);
+        Stand {
+            p: spot.p,
+            piece: spot.piece,
+            front: counted,
+        }
     }
 }
