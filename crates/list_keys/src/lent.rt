@@ -1,6 +1,7 @@
 // The calls that are lent tables or a text, of at most 256 entries.
 use super::answers;
 use rows::out;
+use runs::RunList;
 use std::io;
 
 // Lends a table to a call that prints its answer, and prints what the table holds then.
@@ -38,9 +39,7 @@ pub(crate) fn two<F: FnOnce(&mut [u32], &mut [u32]) -> io::Result<()>>(
 // Balances into four lent tables, with a working table.
 pub(crate) fn balance(
     rt: &impl Print,
-    n: u32,
-    starts: &[u32],
-    images: &[u32],
+    list: RunList<'_>,
     d: u32,
     sizes: [u32; 5],
 ) -> io::Result<()> {
@@ -55,9 +54,9 @@ pub(crate) fn balance(
     let to_lengths = &mut to_lengths[..rows::size(sizes[3])];
     let working = &mut working[..rows::size(sizes[4])];
     let answer = balance::balance(
-        n, starts, images, d, to_starts, to_images, to_holders, to_lengths, working,
+        list, d, to_starts, to_images, to_holders, to_lengths, working,
     );
-    answers::balanced(rt, answer)?;
+    answers::count(rt, answer)?;
     out::now(rt, to_starts)?;
     out::now(rt, to_images)?;
     out::now(rt, to_holders)?;

@@ -18,45 +18,38 @@ mod answers;
 mod lent;
 
 use rows::{Row, out};
+use runs::RunList;
 use std::io;
 
-// Runs what is called.
+// The list that a row lends.
+fn list<'a>(n: u32, starts: &'a [u32], images: &'a [u32]) -> RunList<'a> {
+    RunList { n, starts, images }
+}
+
+// Runs what is called: a and b are starts and images.
 fn call(rt: &impl Print, row: &Row<'_>) -> io::Result<()> {
     match (row.word(), row.numbers(), row.slices()) {
-        (b"check", &[n], [a, b]) => answers::checked(rt, lists::check(n, a, b)),
-        (b"inverse-list", &[n, size, size_2], [starts, images]) => {
-            lent::two(rt, size, size_2, |to_starts, to_images| {
-                let answer = lists::inverse_list(n, starts, images, to_starts, to_images);
-                answers::checked(rt, answer)
-            })
-        }
+        (b"check", &[n], [a, b]) => answers::checked(rt, lists::check(list(n, a, b))),
+        (b"inverse-list", &[n, size, size_2], [a, b]) => lent::two(rt, size, size_2, |s, i| {
+            answers::checked(rt, lists::inverse_list(list(n, a, b), s, i))
+        }),
         (b"balance", &[n, d, size, size_2, size_3, size_4, size_5], [a, b]) => {
-            lent::balance(rt, n, a, b, d, [size, size_2, size_3, size_4, size_5])
+            let sizes = [size, size_2, size_3, size_4, size_5];
+            lent::balance(rt, list(n, a, b), d, sizes)
         }
         (b"file", &[count, size], [words]) => lent::file(rt, count, size, words),
-        (b"next-list", &[n, size, size_2], [starts, images]) => {
-            lent::two(rt, size, size_2, |to_starts, to_images| {
-                let answer = permutations::next_list(n, starts, images, to_starts, to_images);
-                answers::next(rt, answer)
-            })
-        }
-        (b"forecast", &[n, d, size], [starts, images]) => lent::one(rt, size, |working| {
-            answers::size(rt, forecasts::forecast(n, starts, images, d, working))
+        (b"next-list", &[n, size, size_2], [a, b]) => lent::two(rt, size, size_2, |s, i| {
+            answers::count(rt, permutations::next_list(list(n, a, b), s, i))
         }),
-        (b"least-degree", &[n, entries, size], [starts, images]) => {
-            lent::one(rt, size, |working| {
-                answers::degree(
-                    rt,
-                    forecasts::least_degree(n, starts, images, entries, working),
-                )
-            })
-        }
-        (b"fold", &[n, size, size_2], [starts, images]) => {
-            lent::two(rt, size, size_2, |to_starts, to_images| {
-                let answer = folds::fold(n, starts, images, to_starts, to_images);
-                answers::written(rt, answer)
-            })
-        }
+        (b"forecast", &[n, d, size], [a, b]) => lent::one(rt, size, |working| {
+            answers::size(rt, forecasts::forecast(list(n, a, b), d, working))
+        }),
+        (b"least-degree", &[n, entries, size], [a, b]) => lent::one(rt, size, |working| {
+            answers::degree(rt, forecasts::least_degree(list(n, a, b), entries, working))
+        }),
+        (b"fold", &[n, size, size_2], [a, b]) => lent::two(rt, size, size_2, |s, i| {
+            answers::count(rt, folds::fold(list(n, a, b), s, i))
+        }),
         _ => out::no_call(rt),
     }
 }

@@ -8,17 +8,9 @@ pub fn text(rt: &impl Print, s: &[u8]) -> io::Result<()> {
     rt.write_all(s)
 }
 
-pub fn number(rt: &impl Print, v: u64) -> io::Result<()> {
-    print!(rt; " {v}")
-}
-
-pub fn end(rt: &impl Print) -> io::Result<()> {
-    println!(rt)
-}
-
 pub fn line(rt: &impl Print, s: &[u8]) -> io::Result<()> {
     text(rt, s)?;
-    end(rt)
+    println!(rt)
 }
 
 // The answer of a row that is no call.
@@ -58,22 +50,13 @@ pub fn refusal(rt: &impl Print, r: Refusal) -> io::Result<()> {
     println!(rt; " {} {}", r.number(), r.place())
 }
 
-// 0 and a value.
-pub fn one(rt: &impl Print, a: u64) -> io::Result<()> {
-    values(rt, &[0, a])
-}
-
-// The same with two values.
-pub fn two(rt: &impl Print, a: u64, b: u64) -> io::Result<()> {
-    values(rt, &[0, a, b])
-}
-
-// The same with three values.
-pub fn three(rt: &impl Print, a: u64, b: u64, c: u64) -> io::Result<()> {
-    values(rt, &[0, a, b, c])
-}
-
-// The same with four values.
-pub fn four(rt: &impl Print, a: u64, b: u64, c: u64, d: u64) -> io::Result<()> {
-    values(rt, &[0, a, b, c, d])
+// 0 and the values of an answer, or its refusal.
+pub fn answer<const N: usize>(rt: &impl Print, a: Result<[u64; N], Refusal>) -> io::Result<()> {
+    match a {
+        Err(r) => refusal(rt, r),
+        Ok(done) => {
+            print!(rt; " 0")?;
+            values(rt, &done)
+        }
+    }
 }

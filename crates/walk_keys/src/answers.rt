@@ -1,66 +1,46 @@
 // What each call answers, as the rest of a line.
-use bookmarks::{Bookmark, Marked};
-use preimages::Inverted;
+use bookmarks::Marked;
+use outcomes::Refusal;
+use preimages::Source;
 use rows::out;
 use std::io;
-use walks::{Found, Moved};
-use weights::{Stretched, Weighed};
+use walks::Step;
+use weights::Stretch;
 
-pub(crate) fn found(rt: &impl Print, a: Found) -> io::Result<()> {
-    match a {
-        Found::Refused(r) => out::refusal(rt, r),
-        Found::At(x) => out::one(rt, x as u64),
-    }
+pub(crate) fn number(rt: &impl Print, a: Result<u32, Refusal>) -> io::Result<()> {
+    out::answer(rt, a.map(|x| [u64::from(x)]))
 }
 
-pub(crate) fn moved(rt: &impl Print, a: Moved) -> io::Result<()> {
-    match a {
-        Moved::Refused(r) => out::refusal(rt, r),
-        Moved::To(t) => out::four(
-            rt,
-            t.place as u64,
-            t.interval as u64,
-            t.distance as u64,
-            t.count,
-        ),
-    }
+fn values_of(s: Step) -> [u64; 4] {
+    [
+        u64::from(s.place),
+        u64::from(s.interval),
+        u64::from(s.distance),
+        s.count,
+    ]
 }
 
-pub(crate) fn inverted(rt: &impl Print, a: Inverted) -> io::Result<()> {
-    match a {
-        Inverted::Refused(r) => out::refusal(rt, r),
-        Inverted::From(t) => out::two(rt, t.place as u64, t.interval as u64),
-    }
+pub(crate) fn moved(rt: &impl Print, a: Result<Step, Refusal>) -> io::Result<()> {
+    out::answer(rt, a.map(values_of))
 }
 
-pub(crate) fn weighed(rt: &impl Print, a: Weighed) -> io::Result<()> {
-    match a {
-        Weighed::Refused(r) => out::refusal(rt, r),
-        Weighed::Weight(w) => out::one(rt, w as u64),
-    }
+pub(crate) fn inverted(rt: &impl Print, a: Result<Source, Refusal>) -> io::Result<()> {
+    out::answer(
+        rt,
+        a.map(|s| [u64::from(s.place), u64::from(s.interval)]),
+    )
 }
 
-pub(crate) fn stretched(rt: &impl Print, a: Stretched) -> io::Result<()> {
-    match a {
-        Stretched::Refused(r) => out::refusal(rt, r),
-        Stretched::At(s) => out::two(rt, s.first as u64, s.count as u64),
-    }
+pub(crate) fn stretched(rt: &impl Print, a: Result<Stretch, Refusal>) -> io::Result<()> {
+    out::answer(rt, a.map(|s| [u64::from(s.first), u64::from(s.count)]))
 }
 
-// What a bookmark holds after its move: place, interval, distance, moves, and how many starts these read.
-fn mark(rt: &impl Print, b: Bookmark) -> io::Result<()> {
-    out::text(rt, b"now")?;
-    out::number(rt, b.place as u64)?;
-    out::number(rt, b.interval as u64)?;
-    out::number(rt, b.distance as u64)?;
-    out::number(rt, b.moves as u64)?;
-    out::number(rt, b.count)?;
-    out::end(rt)
-}
-
+// The answer, and what a bookmark holds after its move: place, interval, distance, moves, and how many starts these read.
 pub(crate) fn marked(rt: &impl Print, m: Marked) -> io::Result<()> {
-    let answer = m.moved;
-    let after = m.bookmark;
-    moved(rt, answer)?;
-    mark(rt, after)
+    let b = m.bookmark;
+    moved(rt, m.moved)?;
+    println!(rt;
+        "now {} {} {} {} {}",
+        b.place, b.interval, b.distance, b.moves, b.count
+    )
 }

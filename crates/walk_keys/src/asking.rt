@@ -1,7 +1,8 @@
 // Questions together, as a row asks them: about at most eight places.
-use questions::{Answered, Question};
+use questions::{Question, Unanswered};
 use rows::out;
 use std::{array, io};
+use tables::MoveTable;
 
 // A record for each of the first eight places, with sevens in the fields to be filled in. Those that have no place are not
 // lent.
@@ -17,11 +18,11 @@ fn records_of(places: &[u32]) -> [Question; 8] {
 }
 
 // The answer, as the rest of a line.
-fn answer(rt: &impl Print, a: Answered) -> io::Result<()> {
+fn answer(rt: &impl Print, a: Result<u32, Unanswered>) -> io::Result<()> {
     match a {
-        Answered::Passed(c) => out::one(rt, c as u64),
-        Answered::Refused(r) => out::refusal(rt, r),
-        Answered::PlaceOrder(i) => out::values(rt, &[16, i as u64]),
+        Ok(c) => out::values(rt, &[0, c]),
+        Err(Unanswered::Refused(r)) => out::refusal(rt, r),
+        Err(Unanswered::PlaceOrder(i)) => out::values(rt, &[16, i]),
     }
 }
 
@@ -35,25 +36,9 @@ fn now(rt: &impl Print, q: &Question) -> io::Result<()> {
 }
 
 // Asks about the places together, and prints the answer and the records that were lent, a line each.
-pub(crate) fn questions(
-    rt: &impl Print,
-    n: u32,
-    starts: &[u32],
-    images: &[u32],
-    holders: &[u32],
-    lengths: &[u32],
-    places: &[u32],
-) -> io::Result<()> {
+pub(crate) fn questions(rt: &impl Print, table: MoveTable<'_>, places: &[u32]) -> io::Result<()> {
     let count = places.len().min(8);
-    let few = few_questions::answer_few(
-        n,
-        starts,
-        images,
-        holders,
-        lengths,
-        records_of(places),
-        count,
-    );
+    let few = few_questions::answer_few(table, records_of(places), count);
     answer(rt, few.answered)?;
     for q in &few.questions[..count] {
         now(rt, q)?;

@@ -24,21 +24,30 @@ mod asking;
 use bookmarks::Bookmark;
 use rows::{Row, out};
 use std::io;
+use tables::MoveTable;
+
+// The table that a row lends.
+fn table<'a>(
+    n: u32,
+    starts: &'a [u32],
+    images: &'a [u32],
+    holders: &'a [u32],
+    lengths: &'a [u32],
+) -> MoveTable<'a> {
+    MoveTable {
+        n,
+        starts,
+        images,
+        holders,
+        lengths,
+    }
+}
 
 // Moves a bookmark m times, but at least once.
-fn advance_often(
-    rt: &impl Print,
-    n: u32,
-    starts: &[u32],
-    images: &[u32],
-    holders: &[u32],
-    lengths: &[u32],
-    fresh: Bookmark,
-    m: u32,
-) -> io::Result<()> {
-    let mut marked = bookmarks::advanced(n, starts, images, holders, lengths, fresh);
+fn advance_often(rt: &impl Print, table: MoveTable<'_>, fresh: Bookmark, m: u32) -> io::Result<()> {
+    let mut marked = bookmarks::advanced(table, fresh);
     for _ in 1..m {
-        marked = bookmarks::advanced(n, starts, images, holders, lengths, marked.bookmark);
+        marked = bookmarks::advanced(table, marked.bookmark);
     }
     answers::marked(rt, marked)
 }
@@ -46,11 +55,7 @@ fn advance_often(
 // Runs what is called of a bookmark.
 fn mark(rt: &impl Print, row: &Row<'_>) -> io::Result<()> {
     match (row.word(), row.numbers(), row.slices()) {
-        (
-            b"bookmark",
-            &[n, place, interval, distance, moves, high, low],
-            [starts, images, holders, lengths],
-        ) => {
+        (b"bookmark", &[n, place, interval, distance, moves, high, low], [a, b, c, d]) => {
             let count = (u64::from(high) << 32) | u64::from(low);
             let before = Bookmark {
                 place,
@@ -59,12 +64,9 @@ fn mark(rt: &impl Print, row: &Row<'_>) -> io::Result<()> {
                 moves,
                 count,
             };
-            answers::marked(
-                rt,
-                bookmarks::advanced(n, starts, images, holders, lengths, before),
-            )
+            answers::marked(rt, bookmarks::advanced(table(n, a, b, c, d), before))
         }
-        (b"trail", &[n, place, interval, distance, m], [starts, images, holders, lengths]) => {
+        (b"trail", &[n, place, interval, distance, m], [a, b, c, d]) => {
             let fresh = Bookmark {
                 place,
                 interval,
@@ -72,7 +74,7 @@ fn mark(rt: &impl Print, row: &Row<'_>) -> io::Result<()> {
                 moves: 0,
                 count: 0,
             };
-            advance_often(rt, n, starts, images, holders, lengths, fresh, m)
+            advance_often(rt, table(n, a, b, c, d), fresh, m)
         }
         _ => out::no_call(rt),
     }
@@ -81,26 +83,30 @@ fn mark(rt: &impl Print, row: &Row<'_>) -> io::Result<()> {
 // Runs what is called: a, b, c and d are starts, images, holders and lengths, and e the places of questions.
 fn call(rt: &impl Print, row: &Row<'_>) -> io::Result<()> {
     match (row.word(), row.numbers(), row.slices()) {
-        (b"find", &[n, p], [a, b, c, d]) => answers::found(rt, walks::find(n, a, b, c, d, p)),
-        (b"move", &[n, p, q], [a, b, c, d]) => {
-            answers::moved(rt, walks::move_query(n, a, b, c, d, p, q))
+        (b"find", &[n, i], [a, b, c, d]) => {
+            answers::number(rt, walks::find(table(n, a, b, c, d), i))
         }
-        (b"moves", &[n, p, q, r], [a, b, c, d]) => {
-            answers::moved(rt, walks::repeated_moves(n, a, b, c, d, p, q, r))
+        (b"move", &[n, x, i], [a, b, c, d]) => {
+            answers::moved(rt, walks::move_query(table(n, a, b, c, d), x, i))
         }
-        (b"inverse", &[n, p], [a, b, c, d]) => {
-            answers::inverted(rt, preimages::inverse(n, a, b, c, d, p))
+        (b"moves", &[n, x, i, m], [a, b, c, d]) => {
+            answers::moved(rt, walks::repeated_moves(table(n, a, b, c, d), x, i, m))
         }
-        (b"weight", &[n, p], [a, b, c, d]) => {
-            answers::weighed(rt, weights::weight(n, a, b, c, d, p))
+        (b"inverse", &[n, j], [a, b, c, d]) => {
+            answers::inverted(rt, preimages::inverse(table(n, a, b, c, d), j))
         }
-        (b"starts-under", &[n, p], [a, b, c, d]) => {
-            out::stretch(rt, weights::starts_under(n, a, b, c, d, p))
+        (b"weight", &[n, x], [a, b, c, d]) => {
+            answers::number(rt, weights::weight(table(n, a, b, c, d), x))
         }
-        (b"under", &[n, p], [a, b, c, d]) => {
-            answers::stretched(rt, weights::under(n, a, b, c, d, p))
+        (b"starts-under", &[n, x], [a, b, c, d]) => {
+            out::stretch(rt, weights::starts_under(table(n, a, b, c, d), x))
         }
-        (b"questions", &[n], [a, b, c, d, e]) => asking::questions(rt, n, a, b, c, d, e),
+        (b"under", &[n, x], [a, b, c, d]) => {
+            answers::stretched(rt, weights::under(table(n, a, b, c, d), x))
+        }
+        (b"questions", &[n], [a, b, c, d, e]) => {
+            asking::questions(rt, table(n, a, b, c, d), e)
+        }
         _ => mark(rt, row),
     }
 }
