@@ -26,11 +26,7 @@ pub struct ListAnswer {
 pub extern "C" fn zibewoka_check(n: u32, starts: &[u32], images: &[u32]) -> ListAnswer
     ensures { result ≡ list_answer (check_of n (runs starts.now images.now)) }
 {
-    let list = RunList {
-        n: n,
-        starts: starts,
-        images: images,
-    };
+    let list = RunList { n, starts, images };
     answers::of_list(lists::check(list))
 }
 
@@ -47,10 +43,6 @@ pub extern "C" fn zibewoka_inverse_list(
     ensures { InverseListAnswered n (runs starts.now images.now)
         to_starts.old to_images.old to_starts.new to_images.new result }
 {
-    let list = RunList {
-        n: n,
-        starts: starts,
-        images: images,
-    };
+    let list = RunList { n, starts, images };
     answers::of_list(lists::inverse_list(list, to_starts, to_images))
 }

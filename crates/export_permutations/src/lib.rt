@@ -32,11 +32,7 @@ pub extern "C" fn zibewoka_next_list(
     ensures { NextAnswered n (runs starts.now images.now)
         to_starts.old to_images.old to_starts.new to_images.new result }
 {
-    let list = RunList {
-        n: n,
-        starts: starts,
-        images: images,
-    };
+    let list = RunList { n, starts, images };
     answers::of_runs(permutations::next_list(list, to_starts, to_images))
 }
 
@@ -53,10 +49,6 @@ pub extern "C" fn zibewoka_fold(
         (fold_of n (runs starts.now images.now) to_starts.old to_images.old)
         to_starts.old to_images.old to_starts.new to_images.new result }
 {
-    let list = RunList {
-        n: n,
-        starts: starts,
-        images: images,
-    };
+    let list = RunList { n, starts, images };
     answers::of_runs(folds::fold(list, to_starts, to_images))
 }

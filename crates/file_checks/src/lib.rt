@@ -38,8 +38,8 @@ fn check_in<const N: usize>(file: &[u8], header: Header) -> Result<Header, Refus
     files::read_list(file, k, starts, images);
     lists::check(RunList {
         n: header.n,
-        starts: starts,
-        images: images,
+        starts,
+        images,
     })?;
     check_degree(header)
 }

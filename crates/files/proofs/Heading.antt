@@ -19,25 +19,13 @@ use Rattle.files.specs.declared.Header.{Header}
 
 -- where the starts and the images stand
 module _ (k : ℕ) (bytes : List ℕ) where
-  pub layout_starts : (w : ℕ) → w ≡ word_of bytes 3 → (w ≡ 20 → ⊥) → refused 15 12 ≡ layout_of k bytes
-  unfolding layout_of layout_tests judge
-  layout_starts w e h = rw (← e, ne_eqb w 20 h)
-
   module _ (w : ℕ) (e : w ≡ word_of bytes 3) (a : w ≡ 20) where
     starts_at : eqb (word_of bytes 3) 20 ≡ true
     starts_at = eq-eqb _ _ (sym e ∙ a)
 
-    pub layout_images : (v : ℕ) → v ≡ word_of bytes 4 → (v ≡ 20 + 4 * k → ⊥) → refused 15 16 ≡ layout_of k bytes
-    unfolding layout_of layout_tests judge
-    layout_images v f h = rw (starts_at, ← f, ne_eqb v (20 + 4 * k) h)
-
     module _ (v : ℕ) (f : v ≡ word_of bytes 4) (b : v ≡ 20 + 4 * k) where
       images_at : eqb (word_of bytes 4) (20 + 4 * k) ≡ true
       images_at = eq-eqb _ _ (sym f ∙ b)
-
-      pub layout_long : (length bytes ≡ 20 + 8 * k → ⊥) → refused 15 20 ≡ layout_of k bytes
-      unfolding layout_of layout_tests judge
-      layout_long h = rw (starts_at, images_at, ne_eqb (length bytes) (20 + 8 * k) h)
 
       pub layout_right : length bytes ≡ 20 + 8 * k → done tt ≡ layout_of k bytes
       unfolding layout_of layout_tests judge

@@ -1,5 +1,5 @@
 -- The loop that writes the folded list: each turn takes one run more, and of the runs taken those that begin one are written.
-use Prim.Native.Nat.{ℕ, zero, suc, ◌+◌, ◌-◌, ◌≤◌, ◌<◌}
+use Prim.Native.Nat.{ℕ, ◌+◌, ◌-◌, ◌≤◌, ◌<◌}
 use mathlib.Core.Path.{◌≡◌, refl, sym, ap, ◌∙◌}
 use mathlib.Core.Bool.{Bool, true, false, not}
 use mathlib.Core.List.{List, [], ◌∷◌, map}
@@ -16,15 +16,10 @@ use Rattle.outcomes.specs.Outcome.{Long}
 use Rattle.outcomes.specs.Search.{keep}
 use Rattle.runs.specs.Runs.{Runs, count_of, start_of, image_of, carry}
 use Rattle.folds.specs.Fold.{begins, heads, folded}
-use Rattle.folds.specs.Parts.{Foldable, FoldWritten}
+use Rattle.folds.specs.Parts.{FoldWritten}
 use Rattle.folds.proofs.Keeping.{up_at, keep_few, kept_to, kept_next, kept_below}
 
 -- the test of one run
-pub rises : (r : Runs) → Foldable r → (x : ℕ) → (x ≡ 0 → ⊥) → x < count_of r → start_of r (x - 1) ≤ start_of r x
-rises r p zero h l = absurd (h refl)
-rises r p (suc x) h l =
-    let e : suc x - 1 ≡ x = omega arith in rw e (omega (arith, p.rising x l))
-
 pub begins_first : (r : Runs) (x : ℕ) → x ≡ 0 → true ≡ begins r x
 unfolding begins
 begins_first r x e = rw e

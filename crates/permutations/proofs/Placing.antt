@@ -10,7 +10,7 @@ use Rattle.outcomes.specs.Outcome.{done}
 use Rattle.runs.specs.Runs.{Runs, count_of, start_of, image_of, map_of}
 use Rattle.runs.specs.Check.{check_of}
 use Rattle.runs.proofs.Accepted.{accepted_legal}
-use Rattle.runs.proofs.Legality.{homes, map_at, end_next, end_last}
+use Rattle.runs.proofs.Legality.{homes, map_at, end_next}
 use Rattle.runs.proofs.Bijection.{map_below}
 use Rattle.permutations.specs.Values.{values_of}
 use Rattle.permutations.specs.Next.{max_places}
@@ -26,14 +26,6 @@ module _ (n : ℕ) (r : Runs) (x p : ℕ) (c : Near n r x p) where
         from = l;
         to = omega (arith, (homes n r c.legal).lasting (x + 1) h, end_next n r x (omega arith), ap (start_of r) e, c.to);
       }
-
-  pub near_here : x + 1 < count_of r → p < start_of r (x + 1) → HasPlace n r x p
-  near_here h l =
-      let e : x + 1 ≡ suc x = add-one x in
-      record { run = c.run; from = c.from; to = omega (arith, end_next n r x (omega arith), ap (start_of r) e) }
-
-  pub near_last : count_of r ≤ x + 1 → HasPlace n r x p
-  near_last h = record { run = c.run; from = c.from; to = omega (arith, end_last n r x (omega arith), c.place) }
 
 -- the places up to p are done, and the next one is near run x
 pub record Placing (n : ℕ) (r : Runs) (values₀ values : List ℕ) (x p : ℕ) : Type 0 where

@@ -1,20 +1,19 @@
 -- The changed values as a list of one run for each place, and its fold in the tables.
 use Prim.Native.Nat.{ℕ, zero, suc, ◌≤◌, ◌<◌}
-use mathlib.Core.Path.{◌≡◌, refl, sym, ap, ◌∙◌}
-use mathlib.Core.List.{List, [], ◌∷◌}
+use mathlib.Core.Path.{◌≡◌, refl, ap, ◌∙◌}
+use mathlib.Core.List.{List, ◌∷◌}
 use native.Mathlib.Omega.{arith}
 use lib.ListN.{length, take}
-use lib.Seq.{length-take-le}
 use Rattle.order.specs.Lists.{up_from, up_to}
-use Rattle.outcomes.specs.Outcome.{done, Long, over}
+use Rattle.outcomes.specs.Outcome.{done, over}
 use Rattle.outcomes.specs.declared.Refusal.TheVariants.{LastPermutation}
 use Rattle.runs.specs.Runs.{Runs, runs, count_of}
 use Rattle.runs.specs.Written.{WritesList}
 use Rattle.runs.proofs.WritesList.{writes_refused, writes_done}
 use Rattle.folds.specs.Fold.{folded, maximal_runs}
-use Rattle.folds.specs.Parts.{Foldable, FoldWritten}
+use Rattle.folds.specs.Parts.{FoldWritten}
 use Rattle.folds.proofs.Maximal.{maximal_few}
-use Rattle.folds.proofs.Spreading.{spread_foldable, write_spread}
+use Rattle.folds.proofs.Spreading.{write_spread}
 use Rattle.std.specs.Prelude.{Some, None, Ok, Err}
 use Rattle.outcomes.specs.Refusal.{says}
 use Rattle.permutations.specs.Values.{value_at}
@@ -29,9 +28,6 @@ take_up : (n m a : ℕ) → n ≤ m → take n (up_from a m) ≡ up_from a n
 take_up zero m a h = refl
 take_up (suc n) zero a h = absurd (omega arith)
 take_up (suc n) (suc m) a h = ap (λ (l : List ℕ). a ∷ l) (take_up n m (suc a) (omega arith))
-
-pub places_size : (n : ℕ) → n ≤ max_places → n ≡ length (take n (up_to max_places))
-places_size n h = sym (length-take-le n (up_to max_places) h)
 
 -- the values ascent somewhere, and the next ones stand in front of `after`
 pub record Ready (l a b after : List ℕ) : Type 0 where
@@ -70,16 +66,6 @@ module _ (l a b after : List ℕ) (r : Ready l a b after) where
 
   single_is : single ≡ runs (up_to n) (successor l)
   single_is = λ i. runs (take_up n max_places 0 r.writable.few i) (r.is i)
-
-  pub after_size : n ≡ length (take n after)
-  after_size = sym (ap length r.is ∙ permutes.size)
-
-  pub single_asked : Foldable single × Long (length single.starts) (a ∷ b ∷ [])
-  single_asked =
-      let s = places_size n r.writable.few in (
-        rw single_is (spread_foldable n (successor l) permutes.size),
-        (omega (arith, r.writable.starts_room), (omega (arith, r.writable.images_room), tt)),
-      )
 
   single_folded : folded single ≡ maximal_runs n (value_at (successor l))
   single_folded =
