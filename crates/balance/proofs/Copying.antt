@@ -5,7 +5,7 @@ use mathlib.Core.List.{List}
 use native.Mathlib.Numerals.{add-one}
 use native.Mathlib.Omega.{arith}
 use lib.ListN.{length, drop, get_or, set, length-drop}
-use lib.Seq.{get_or-drop, paste, paste-zero, paste-suc, length-paste}
+use lib.Seq.{get_or-drop, paste, paste-suc}
 
 -- i entries are copied
 pub record Copying (l s₀ : List ℕ) (x at : ℕ) (s : List ℕ) (i : ℕ) : Type 0 where
@@ -13,15 +13,7 @@ pub record Copying (l s₀ : List ℕ) (x at : ℕ) (s : List ℕ) (i : ℕ) : T
   pub room : at + (length l - x) ≤ length s₀
   pub is : s ≡ paste s₀ at (drop x l) i
 
-pub copying_none : (l s₀ : List ℕ) (x at : ℕ) → x ≤ length l → at + (length l - x) ≤ length s₀ → Copying l s₀ x at s₀ 0
-copying_none l s₀ x at h k = record { within = omega arith; room = k; is = paste-zero s₀ at (drop x l) }
-
 module _ (l s₀ : List ℕ) (x at : ℕ) (s : List ℕ) (i : ℕ) (c : Copying l s₀ x at s i) where
-  pub copying_length : length s ≡ length s₀
-  copying_length =
-      ap length c.is ∙ length-paste s₀ at (drop x l) i (omega (arith, c.within, c.room))
-      (omega (arith, c.within, length-drop x l))
-
   pub copying_next : x + i < length l → Copying l s₀ x at (set s (at + i) (get_or l (x + i) 0)) (i + 1)
   copying_next h = record {
     within = omega arith;

@@ -19,23 +19,6 @@ use Rattle.cuts.proofs.Certain.{balanced_least, balanced_uncut}
 use Rattle.bounds.specs.Bound.{RuledOut, Opens}
 use Rattle.bounds.specs.Parts.{PerDegree, certain_of, Above, FirstWithin}
 
--- degrees passed whose totals are above
-pub above_none : (totals : List ℕ) (low spare : ℕ) → low ≤ 64 → Above totals low spare low
-above_none totals low spare h =
-    record { from = omega arith; most = omega arith; above = λ d l m. absurd (omega arith) }
-
-pub above_next : (totals : List ℕ) (low spare to : ℕ) → Above totals low spare to → to ≤ 64
-    → spare < get_or totals (to - 2) 0 → Above totals low spare (to + 1)
-above_next totals low spare to a h b = record {
-  from = omega (arith, a.from);
-  most = omega arith;
-  above = λ d l m. at d l (lt_or_le d to) (omega arith);
-}
-  where
-    at : (d : ℕ) → low ≤ d → (d < to) ⊎ (to ≤ d) → d ≤ to → spare < get_or totals (d - 2) 0
-    at d l (inl k) m = a.above d l k
-    at d l (inr k) m = let e : d ≡ to = omega arith in rw e b
-
 -- a sum over the indexes below k, as a list and as a count
 sum_shift : (g : ℕ → ℕ) (a k : ℕ) → sum_of g (up_from (suc a) k) ≡ sum_of (λ x. g (suc x)) (up_from a k)
 sum_shift g a zero = refl

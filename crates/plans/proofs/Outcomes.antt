@@ -25,10 +25,6 @@ module _ (d k room : ℕ) where
   unfolding sized_of judge
   sized_degree e = rw e
 
-  pub sized_short : no_degree d ≡ false → room < working_size d k → sized_of d k room ≡ refused 8 (working_size d k)
-  unfolding sized_of judge
-  sized_short e f = rw (e, lt-ltb room (working_size d k) f)
-
   pub sized_done : no_degree d ≡ false → working_size d k ≤ room → sized_of d k room ≡ done tt
   unfolding sized_of judge
   sized_done e f = rw (e, le-ltb room (working_size d k) f)

@@ -21,12 +21,12 @@ overflow_add-self c =
 pub returns-then-self-cuts : goal.returns-then-self-cuts
 returns-then-self-cuts c =
     seeking_found _ _ _ _ _ _ _ c.requires.0 _ _ c.loop-d.invariant (omega (arith, c.requires.1.most)) _ _
-    c.find_cuts-cuts.ensures c.if-self-cuts.true
+    c.find_cuts-cuts.ensures (omega arith)
 
 pub loop-d-preserved : goal.loop-d-preserved
 loop-d-preserved c =
     seeking_next _ _ _ _ _ _ _ c.requires.0 _ _ c.loop-d.invariant (omega (arith, c.requires.1.most)) _ _
-    c.find_cuts-cuts.ensures (omega arith) c.if-self-cuts.false
+    c.find_cuts-cuts.ensures (omega arith) (omega arith)
 
 pub returns-then-first-le-MOST_DEGREE : goal.returns-then-first-le-MOST_DEGREE
 returns-then-first-le-MOST_DEGREE c =
