@@ -42,6 +42,8 @@ use Rattle.forecasts.specs.Sizing.{forecast_of, Forecasts}
 use Rattle.forecasts.specs.Seeking.{least_degree_of, Seeks}
 use Rattle.forecasts.proofs.Outcomes.{forecast_planned, degree_sought}
 use Rattle.files.specs.File.{count_tests, layout_tests, header_tests, body_tests, file_tests, file_of}
+use Rattle.forecasts.specs.declared.BalancedSize.{BalancedSize}
+use Rattle.forecasts.specs.declared.LeastDegree.{LeastDegree}
 use Rattle.demands.specs.Judged.{NoneOf, RefusedBy, Judged}
 use Rattle.demands.specs.Demands.{KeptUnless, Demand1}
 

@@ -54,18 +54,18 @@ module _ (n : ℕ) (r : Runs) (d room : ℕ) (f : BalancedSize) (e : forecast_of
     short_is : any_short (size_at n r d) (all_columns entry.tables) ≡ any_short f.intervals (all_columns entry.tables)
     short_is = ap (λ (g : BalancedSize). any_short g.intervals (all_columns entry.tables)) told.1
 
-    says : says answer ≡ map_done interval_count (fill_of (size_at n r d) (tables_of n (balanced d n r)) entry.tables)
-    says = b.says ∙ ap (map_done interval_count) (balance_passed n r d entry (planned (length entry.working) h))
+    answer_is : says answer ≡ map_done interval_count (fill_of (size_at n r d) (tables_of n (balanced d n r)) entry.tables)
+    answer_is = b.says ∙ ap (map_done interval_count) (balance_passed n r d entry (planned (length entry.working) h))
 
     told_balancing : (Long f.intervals (all_columns entry.tables) → says answer ≡ done f.intervals)
         × (any_short f.intervals (all_columns entry.tables) ≡ true → says answer ≡ refused 8 f.intervals)
     unfolding map_done
     told_balancing = (
-      λ l. says
+      λ l. answer_is
           ∙ rw (fill_done _ (tables_of n (balanced d n r)) entry.tables
           (short_is ∙ below_none f.intervals (map length (all_columns entry.tables)) l))
           (ap (λ (g : BalancedSize). done g.intervals) told.1),
-      λ z. says ∙ rw (fill_short _ (tables_of n (balanced d n r)) entry.tables (short_is ∙ z))
+      λ z. answer_is ∙ rw (fill_short _ (tables_of n (balanced d n r)) entry.tables (short_is ∙ z))
           (ap (λ (g : BalancedSize). refused 8 g.intervals) told.1),
     )
 
