@@ -20,7 +20,8 @@ ghost use Rattle.cuts.specs.Parts.{entries_in};
 use merging::Mark;
 use runs::RunList;
 
-// A list whose runs stand in `order` in rising order of image, with their images in that order in `ranked`, and cuts in it.
+// A list whose runs stand in `order` in rising order of image, with their images in that order in `ranked`, and cuts in it. That this
+// is so stays a clause (`InOrder`): as a ghost field it was tried, and antt finds no proof that `Strict` has one proof at most.
 #[derive(Clone, Copy)]
 struct CutRuns<'a> {
     list: RunList<'a>,

@@ -33,7 +33,7 @@ pub overflow_sub-x : goal.overflow_sub-x
 overflow_sub-x c =
     let e = c.copy_up_to-x.ensures in
     let p = writing_up_to _ _ _ _ _ c.requires.0 c.requires.1 _ _ _ _ c.loop-c.invariant c.loop-c-test.true _ e.0 _ _ e.1 e.2 in
-    (has_cut _ _ _ _ _ c.requires.0 c.requires.1 _ _ _ _ p.1 c.loop-c-test.true p.0).0
+    omega (arith, (has_cut _ _ _ _ _ c.requires.0 c.requires.1 _ _ _ _ p.1 c.loop-c-test.true p.0).0)
 
 pub image_of-requires : goal.image_of-requires
 image_of-requires c =
