@@ -14,17 +14,11 @@ pub(crate) fn count(rt: &impl Print, a: Result<u32, Refusal>) -> io::Result<()> 
 }
 
 pub(crate) fn size(rt: &impl Print, a: Result<BalancedSize, Refusal>) -> io::Result<()> {
-    out::answer(
-        rt,
-        a.map(|s| [u64::from(s.intervals), u64::from(s.cuts)]),
-    )
+    out::answer(rt, a.map(|s| [u64::from(s.intervals), u64::from(s.cuts)]))
 }
 
 pub(crate) fn degree(rt: &impl Print, a: Result<LeastDegree, Refusal>) -> io::Result<()> {
-    out::answer(
-        rt,
-        a.map(|d| [u64::from(d.degree), u64::from(d.intervals)]),
-    )
+    out::answer(rt, a.map(|d| [u64::from(d.degree), u64::from(d.intervals)]))
 }
 
 pub(crate) fn file(rt: &impl Print, a: Result<Header, Refusal>) -> io::Result<()> {

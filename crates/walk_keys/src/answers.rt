@@ -25,10 +25,7 @@ pub(crate) fn moved(rt: &impl Print, a: Result<Step, Refusal>) -> io::Result<()>
 }
 
 pub(crate) fn inverted(rt: &impl Print, a: Result<Source, Refusal>) -> io::Result<()> {
-    out::answer(
-        rt,
-        a.map(|s| [u64::from(s.place), u64::from(s.interval)]),
-    )
+    out::answer(rt, a.map(|s| [u64::from(s.place), u64::from(s.interval)]))
 }
 
 pub(crate) fn stretched(rt: &impl Print, a: Result<Stretch, Refusal>) -> io::Result<()> {

@@ -104,9 +104,7 @@ fn call(rt: &impl Print, row: &Row<'_>) -> io::Result<()> {
         (b"under", &[n, x], [a, b, c, d]) => {
             answers::stretched(rt, weights::under(table(n, a, b, c, d), x))
         }
-        (b"questions", &[n], [a, b, c, d, e]) => {
-            asking::questions(rt, table(n, a, b, c, d), e)
-        }
+        (b"questions", &[n], [a, b, c, d, e]) => { asking::questions(rt, table(n, a, b, c, d), e) }
         _ => mark(rt, row),
     }
 }
