@@ -3,13 +3,14 @@
 
 #![tactic(auto)]
 
-mod answers;
-mod sizes;
-
+ghost use Rattle.std.specs.Prelude.{◌≡◌};
+ghost use Rattle.outcomes.specs.Refusal.{says};
 ghost use Rattle.runs.specs.Runs.{runs};
 ghost use Rattle.balance.specs.Lent.{lent};
-ghost use Rattle.export_balance.specs.Answers.{BalanceAnswered, ForecastAnswered, DegreeAnswered};
+ghost use Rattle.export_balance.specs.Answers.{balance_answer, forecast_answer, degree_answer, BalanceAnswered, ForecastAnswered, DegreeAnswered};
 
+use forecasts::{BalancedSize, LeastDegree};
+use outcomes::Refusal;
 use runs::RunList;
 
 // The answer of balance: how many intervals the balanced list has.
@@ -19,6 +20,25 @@ pub struct BalanceAnswer {
     pub number: u32,
     pub place: u32,
     pub intervals: u32,
+}
+
+impl From<Result<u32, Refusal>> for BalanceAnswer {
+    ghost from_gives = { λ balanced r. r ≡ balance_answer (says balanced) };
+
+    fn from(balanced: Result<u32, Refusal>) -> BalanceAnswer {
+        match balanced {
+            Ok(count) => BalanceAnswer {
+                number: 0,
+                place: 0,
+                intervals: count,
+            },
+            Err(refusal) => BalanceAnswer {
+                number: refusal.number(),
+                place: refusal.place(),
+                intervals: 0,
+            },
+        }
+    }
 }
 
 // The answer of the forecast: how many intervals the balanced list has, and how many cuts make them.
@@ -31,6 +51,27 @@ pub struct ForecastAnswer {
     pub cuts: u32,
 }
 
+impl From<Result<BalancedSize, Refusal>> for ForecastAnswer {
+    ghost from_gives = { λ forecasted r. r ≡ forecast_answer (says forecasted) };
+
+    fn from(forecasted: Result<BalancedSize, Refusal>) -> ForecastAnswer {
+        match forecasted {
+            Ok(size) => ForecastAnswer {
+                number: 0,
+                place: 0,
+                intervals: size.intervals,
+                cuts: size.cuts,
+            },
+            Err(refusal) => ForecastAnswer {
+                number: refusal.number(),
+                place: refusal.place(),
+                intervals: 0,
+                cuts: 0,
+            },
+        }
+    }
+}
+
 // The answer of the search: a degree, and how many intervals the list balanced at it has.
 #[repr(C)]
 #[derive(Clone, Copy)]
@@ -39,6 +80,27 @@ pub struct DegreeAnswer {
     pub place: u32,
     pub degree: u32,
     pub intervals: u32,
+}
+
+impl From<Result<LeastDegree, Refusal>> for DegreeAnswer {
+    ghost from_gives = { λ sought r. r ≡ degree_answer (says sought) };
+
+    fn from(sought: Result<LeastDegree, Refusal>) -> DegreeAnswer {
+        match sought {
+            Ok(least) => DegreeAnswer {
+                number: 0,
+                place: 0,
+                degree: least.degree,
+                intervals: least.intervals,
+            },
+            Err(refusal) => DegreeAnswer {
+                number: refusal.number(),
+                place: refusal.place(),
+                degree: 0,
+                intervals: 0,
+            },
+        }
+    }
 }
 
 // Balances a list into four lent tables, over a lent working table.
@@ -61,7 +123,7 @@ pub extern "C" fn zibewoka_balance(
         working.new) result }
 {
     let list = RunList { n, starts, images };
-    answers::of_balance(balance::balance(
+    BalanceAnswer::from(balance::balance(
         list, d, to_starts, to_images, to_holders, to_lengths, working,
     ))
 }
@@ -79,7 +141,7 @@ pub extern "C" fn zibewoka_forecast(
         working.old working.new result }
 {
     let list = RunList { n, starts, images };
-    sizes::of_size(forecasts::forecast(list, d, working))
+    ForecastAnswer::from(forecasts::forecast(list, d, working))
 }
 
 // The least degree at which a list is small enough, over a lent working table.
@@ -95,5 +157,5 @@ pub extern "C" fn zibewoka_least_degree(
         working.old working.new result }
 {
     let list = RunList { n, starts, images };
-    sizes::of_degree(forecasts::least_degree(list, entries, working))
+    DegreeAnswer::from(forecasts::least_degree(list, entries, working))
 }

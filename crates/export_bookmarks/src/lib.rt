@@ -3,13 +3,15 @@
 
 #![tactic(auto)]
 
-mod answers;
-
+ghost use Rattle.std.specs.Prelude.{◌≡◌};
+ghost use Rattle.outcomes.specs.Refusal.{says};
 ghost use Rattle.tables.specs.Tables.{tables};
-ghost use Rattle.export_bookmarks.specs.Answers.{AdvancesHost};
+ghost use Rattle.export_bookmarks.specs.Answers.{advance_answer, AdvancesHost};
 
 use bookmarks::Bookmark;
+use outcomes::Refusal;
 use tables::MoveTable;
+use walks::Step;
 
 // The answer: how many starts the move itself read. The bookmark tells the place, the interval and the distance, so that the
 // answer's own place is 0 where it is done.
@@ -19,6 +21,25 @@ pub struct AdvanceAnswer {
     pub number: u32,
     pub place: u32,
     pub count: u64,
+}
+
+impl From<Result<Step, Refusal>> for AdvanceAnswer {
+    ghost from_gives = { λ moved r. r ≡ advance_answer (says moved) };
+
+    fn from(moved: Result<Step, Refusal>) -> AdvanceAnswer {
+        match moved {
+            Ok(step) => AdvanceAnswer {
+                number: 0,
+                place: 0,
+                count: step.count,
+            },
+            Err(refusal) => AdvanceAnswer {
+                number: refusal.number(),
+                place: refusal.place(),
+                count: 0,
+            },
+        }
+    }
 }
 
 // One move of a bookmark that its owner lends.
@@ -40,5 +61,5 @@ pub extern "C" fn zibewoka_advance(
         holders,
         lengths,
     };
-    answers::of_moved(bookmarks::advance(table, bookmark))
+    AdvanceAnswer::from(bookmarks::advance(table, bookmark))
 }

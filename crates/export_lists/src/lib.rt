@@ -3,14 +3,14 @@
 
 #![tactic(auto)]
 
-mod answers;
-
 ghost use Rattle.std.specs.Prelude.{◌≡◌};
+ghost use Rattle.outcomes.specs.Refusal.{says};
 ghost use Rattle.runs.specs.Runs.{runs};
 ghost use Rattle.runs.specs.Check.{check_of};
 ghost use Rattle.export_lists.specs.Answers.{list_answer};
 ghost use Rattle.export_lists.specs.Lent.{InverseListAnswered};
 
+use outcomes::Refusal;
 use runs::RunList;
 
 // The answer of check and inverse list.
@@ -21,17 +21,34 @@ pub struct ListAnswer {
     pub place: u32,
 }
 
+impl From<Result<(), Refusal>> for ListAnswer {
+    ghost from_gives = { λ answer r. r ≡ list_answer (says answer) };
+
+    fn from(answer: Result<(), Refusal>) -> ListAnswer {
+        match answer {
+            Ok(()) => ListAnswer {
+                number: 0,
+                place: 0,
+            },
+            Err(refusal) => ListAnswer {
+                number: refusal.number(),
+                place: refusal.place(),
+            },
+        }
+    }
+}
+
 // Whether a list is legal and has at most 16,384 runs.
 #[unsafe(no_mangle)]
 pub extern "C" fn zibewoka_check(n: u32, starts: &[u32], images: &[u32]) -> ListAnswer
     ensures { result ≡ list_answer (check_of n (runs starts.now images.now)) }
 {
     let list = RunList { n, starts, images };
-    answers::of_list(lists::check(list))
+    ListAnswer::from(lists::check(list))
 }
 
 // Writes the inverse list to two lent tables.
-#[tactic(auto, using(crate::proofs::Answering::list_answer_map))]
+#[tactic(auto, unfolding(outcomes::specs::Outcome::map_done))]
 #[unsafe(no_mangle)]
 pub extern "C" fn zibewoka_inverse_list(
     n: u32,
@@ -44,5 +61,5 @@ pub extern "C" fn zibewoka_inverse_list(
         to_starts.old to_images.old to_starts.new to_images.new result }
 {
     let list = RunList { n, starts, images };
-    answers::of_list(lists::inverse_list(list, to_starts, to_images))
+    ListAnswer::from(lists::inverse_list(list, to_starts, to_images))
 }

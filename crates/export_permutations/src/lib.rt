@@ -3,12 +3,13 @@
 
 #![tactic(auto)]
 
-mod answers;
-
+ghost use Rattle.std.specs.Prelude.{◌≡◌};
+ghost use Rattle.outcomes.specs.Refusal.{says};
 ghost use Rattle.runs.specs.Runs.{runs};
 ghost use Rattle.folds.specs.Lent.{fold_of};
-ghost use Rattle.export_permutations.specs.Answers.{NextAnswered, RunsAnswered};
+ghost use Rattle.export_permutations.specs.Answers.{runs_answer, NextAnswered, RunsAnswered};
 
+use outcomes::Refusal;
 use runs::RunList;
 
 // The answer: how many runs the list has that was written.
@@ -18,6 +19,25 @@ pub struct RunsAnswer {
     pub number: u32,
     pub place: u32,
     pub runs: u32,
+}
+
+impl From<Result<u32, Refusal>> for RunsAnswer {
+    ghost from_gives = { λ answer r. r ≡ runs_answer (says answer) };
+
+    fn from(answer: Result<u32, Refusal>) -> RunsAnswer {
+        match answer {
+            Ok(count) => RunsAnswer {
+                number: 0,
+                place: 0,
+                runs: count,
+            },
+            Err(refusal) => RunsAnswer {
+                number: refusal.number(),
+                place: refusal.place(),
+                runs: 0,
+            },
+        }
+    }
 }
 
 // Writes the next list to two lent tables.
@@ -33,7 +53,7 @@ pub extern "C" fn zibewoka_next_list(
         to_starts.old to_images.old to_starts.new to_images.new result }
 {
     let list = RunList { n, starts, images };
-    answers::of_runs(permutations::next_list(list, to_starts, to_images))
+    RunsAnswer::from(permutations::next_list(list, to_starts, to_images))
 }
 
 // Writes the folded list to two lent tables.
@@ -50,5 +70,5 @@ pub extern "C" fn zibewoka_fold(
         to_starts.old to_images.old to_starts.new to_images.new result }
 {
     let list = RunList { n, starts, images };
-    answers::of_runs(folds::fold(list, to_starts, to_images))
+    RunsAnswer::from(folds::fold(list, to_starts, to_images))
 }

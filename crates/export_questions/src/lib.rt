@@ -5,12 +5,12 @@
 
 #![tactic(auto)]
 
-mod answers;
-
+ghost use Rattle.std.specs.Prelude.{◌≡◌};
 ghost use Rattle.tables.specs.Tables.{tables};
-ghost use Rattle.export_questions.specs.Answers.{AnswersHost};
+ghost use Rattle.questions.specs.Questions.{answered_says};
+ghost use Rattle.export_questions.specs.Answers.{questions_answer, AnswersHost};
 
-use questions::Question;
+use questions::{Question, Unanswered};
 use tables::MoveTable;
 
 // The answer: the count is of the starts passed in finding. A record's index may pass 32 bits, so that the place has 64.
@@ -20,6 +20,30 @@ pub struct QuestionsAnswer {
     pub number: u32,
     pub count: u32,
     pub place: u64,
+}
+
+impl From<Result<u32, Unanswered>> for QuestionsAnswer {
+    ghost from_gives = { λ answered r. r ≡ questions_answer (answered_says answered) };
+
+    fn from(answered: Result<u32, Unanswered>) -> QuestionsAnswer {
+        match answered {
+            Ok(count) => QuestionsAnswer {
+                number: 0,
+                count,
+                place: 0,
+            },
+            Err(Unanswered::PlaceOrder(index)) => QuestionsAnswer {
+                number: 16,
+                count: 0,
+                place: index as u64,
+            },
+            Err(Unanswered::Refused(refusal)) => QuestionsAnswer {
+                number: refusal.number(),
+                count: 0,
+                place: u64::from(refusal.place()),
+            },
+        }
+    }
 }
 
 // Fills the records in, or leaves them all.
@@ -41,5 +65,5 @@ pub extern "C" fn zibewoka_questions(
         holders,
         lengths,
     };
-    answers::of_questions(questions::answer(table, questions))
+    QuestionsAnswer::from(questions::answer(table, questions))
 }
