@@ -102,7 +102,7 @@ fn write_holders_and_lengths(list: RunList<'_>, to_holders: &mut [u32], to_lengt
         × (to_lengths.new ≡ over (lengths_of list.entry.n list.entry.starts.now) to_lengths.old) }
 {
     let room = &mut to_lengths[..list.starts.len()];
-    holders::write_holders(list.n, list.starts, list.images, to_holders, room);
+    holders::write_holders(list, to_holders, room);
     write_lengths(list.n, list.starts, to_lengths);
 }
 

@@ -3,6 +3,8 @@ ghost use Rattle.std.specs.Prelude.{◌≡◌, ◌*◌, ◌≤◌, ◌<◌, leng
 ghost use Rattle.holders.specs.Buckets.{bucket_of, Scaled, Tops};
 ghost use Rattle.holders.specs.Parts.{Roomy, Bucketed, Noted, Raised};
 
+use runs::RunList;
+
 // The scale at which the places below n lie in `size` buckets.
 fn scale_of(n: u32, size: usize) -> u64
     requires { (0 < size) × (size ≤ n) }
@@ -44,12 +46,12 @@ fn raise(tops: &mut [u32])
 }
 
 // Notes for each bucket the last run that starts in it or before it. Answers the scale.
-pub(crate) fn note_tops(n: u32, starts: &[u32], tops: &mut [u32]) -> u64
-    requires { Roomy n starts.now tops.old }
-    ensures { Tops n result starts.now tops.new }
+pub(crate) fn note_tops(list: RunList<'_>, tops: &mut [u32]) -> u64
+    requires { Roomy list.n list.starts.now tops.old }
+    ensures { Tops list.entry.n result list.entry.starts.now tops.new }
 {
-    let scale = scale_of(n, starts.len());
-    note_runs(starts, scale, tops);
+    let scale = scale_of(list.n, list.starts.len());
+    note_runs(list.starts, scale, tops);
     raise(tops);
     scale
 }

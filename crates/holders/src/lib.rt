@@ -13,9 +13,11 @@ ghost use Rattle.std.specs.Prelude.{◌≡◌, map, ◌+◌, ◌≤◌, ◌<◌,
 ghost use Rattle.order.specs.Lists.{count_below};
 ghost use Rattle.outcomes.specs.Outcome.{over};
 ghost use Rattle.runs.specs.Legal.{Legal};
-ghost use Rattle.runs.specs.Runs.{runs, run_at};
+ghost use Rattle.runs.specs.Runs.{runs_in, run_at};
 ghost use Rattle.holders.specs.Buckets.{Tops};
 ghost use Rattle.holders.specs.Parts.{NotBelow};
+
+use runs::RunList;
 
 // The run before `top` where that one starts above `p`, else `top`. It subtracts what it compares and does not jump, since a
 // processor could not foresee where to.
@@ -42,28 +44,28 @@ fn holder_up_to(starts: &[u32], p: u32, top: usize) -> usize
 }
 
 // Writes the holders with the buckets noted in `tops`.
-fn write_by_tops(n: u32, starts: &[u32], images: &[u32], scale: u64, tops: &[u32], to: &mut [u32])
-    requires { Legal n (runs starts.now images.now) × Tops n scale starts.now tops.now
-        × (length starts.now ≤ length to.old) }
+fn write_by_tops(list: RunList<'_>, scale: u64, tops: &[u32], to: &mut [u32])
+    requires { Legal list.n (runs_in list) × Tops list.n scale list.starts.now tops.now
+        × (length list.starts.now ≤ length to.old) }
     ensures { to.new ≡ over
-        (map (run_at n (runs starts.now images.now)) images.now)
+        (map (run_at list.entry.n (runs_in list.entry)) list.entry.images.now)
         to.old }
 {
     // No `zip` with `to`: tried at sorting's `gather`, and the proof didn't close, since nothing says what such a loop leaves in `to`.
-    for (x, p) in images.iter().enumerate() {
+    for (x, p) in list.images.iter().enumerate() {
         let top = tops[buckets::bucket_of(scale, *p)];
-        to[x] = holder_up_to(starts, *p, top as usize) as u32;
+        to[x] = holder_up_to(list.starts, *p, top as usize) as u32;
     }
 }
 
 // Writes the holder of each image. `room` is to work in, and may hold any numbers afterwards. Public for our own crates.
-pub fn write_holders(n: u32, starts: &[u32], images: &[u32], to: &mut [u32], room: &mut [u32])
-    requires { Legal n (runs starts.now images.now) × (length starts.now ≤ length to.old)
-        × (length room.old ≡ length starts.now) }
+pub fn write_holders(list: RunList<'_>, to: &mut [u32], room: &mut [u32])
+    requires { Legal list.n (runs_in list) × (length list.starts.now ≤ length to.old)
+        × (length room.old ≡ length list.starts.now) }
     ensures { to.new ≡ over
-        (map (run_at n (runs starts.now images.now)) images.now)
+        (map (run_at list.entry.n (runs_in list.entry)) list.entry.images.now)
         to.old }
 {
-    let scale = buckets::note_tops(n, starts, room);
-    write_by_tops(n, starts, images, scale, room, to);
+    let scale = buckets::note_tops(list, room);
+    write_by_tops(list, scale, room, to);
 }
