@@ -7,7 +7,7 @@ use Rattle.runs.specs.Weight.{weight}
 use Rattle.cuts.specs.Cuts.{with_cuts}
 use Rattle.cuts.specs.Ranks.{Ranked}
 use Rattle.cuts.specs.declared.CutRuns.{CutRuns}
-use Rattle.cuts.specs.declared.Entries.{Entries}
+use Rattle.merging.specs.declared.Entries.{Entries}
 use Rattle.cuts.specs.declared.Piece.{Piece}
 use Rattle.cuts.specs.declared.Spot.{Spot}
 use Rattle.cuts.specs.declared.Here.{Here}

@@ -3,7 +3,7 @@ ghost use Rattle.std.specs.Prelude.{◌≡◌, ◌≤◌, ◌<◌};
 ghost use Rattle.runs.specs.Runs.{runs_in};
 ghost use Rattle.cuts.specs.Parts.{InOrder, after_cuts, Edge, FrontAt, AtFront, Passes, PassesLight, Counts};
 
-use super::{CutRuns, Front, Looked, Piece, Stand};
+use super::{CutRuns, Front, Looked, Piece, Stand, marks};
 use merging::Mark;
 use order::entry_or;
 
@@ -85,7 +85,7 @@ impl CutRuns<'_> {
         let mut at = front;
         while at.q < self.list.n {
             let to = entry_or(self.ranked, at.rank + 1, self.list.n);
-            let looked = entries.look(at.mark, d, to);
+            let looked = marks::look(entries, at.mark, d, to);
             if looked.heavy {
                 return at;
             }

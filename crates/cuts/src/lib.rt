@@ -17,7 +17,7 @@ ghost use Rattle.std.specs.Prelude.{◌≡◌};
 ghost use Rattle.cuts.specs.Cuts.{Cuttable, BalancingCuts};
 ghost use Rattle.cuts.specs.Parts.{entries_in};
 
-use merging::Mark;
+use merging::{Entries, Mark};
 use runs::RunList;
 
 // A list whose runs stand in `order` in rising order of image, with their images in that order in `ranked`, and cuts in it. That this
@@ -27,14 +27,6 @@ struct CutRuns<'a> {
     list: RunList<'a>,
     order: &'a [u32],
     ranked: &'a [u32],
-    cuts: &'a [u32],
-}
-
-// The starts of a list and the cuts in it, which are looked at as one rising sequence that ends at n.
-#[derive(Clone, Copy)]
-struct Entries<'a> {
-    n: u32,
-    starts: &'a [u32],
     cuts: &'a [u32],
 }
 

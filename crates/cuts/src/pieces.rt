@@ -5,7 +5,7 @@ ghost use Rattle.runs.specs.Runs.{runs_in};
 ghost use Rattle.cuts.specs.Ranks.{Ranking, SentTo};
 ghost use Rattle.cuts.specs.Parts.{InOrder, after_cuts, Begins, PieceAt, HereAt, FrontAt, Higher, Around, BehindAt, AfterCut};
 
-use super::{CutRuns, Front, Here, Origin, Piece, Spot, Stand, fronts};
+use super::{CutRuns, Front, Here, Origin, Piece, Spot, Stand, fronts, marks};
 use merging::Mark;
 use order::entry_or;
 
@@ -54,7 +54,7 @@ impl CutRuns<'_> {
             starts: origin.run + 1,
             cuts: count,
         };
-        let end = merging::entry_at(self.list.n, self.list.starts, self.cuts, after);
+        let end = self.entries().entry_at(after);
         let p = u - (origin.place - start);
         Spot {
             p,
@@ -93,7 +93,7 @@ impl CutRuns<'_> {
         }
         Here {
             piece: at.piece,
-            mark: self.entries().mark_at(at.p),
+            mark: marks::mark_at(self.entries(), at.p),
         }
     }
 

@@ -4,7 +4,7 @@ ghost use Rattle.runs.specs.Runs.{runs_in};
 ghost use Rattle.cuts.specs.Ranks.{Ranked};
 ghost use Rattle.cuts.specs.Cuts.{BalancingCuts};
 
-use super::{CutRuns, fronts};
+use super::{CutRuns, fronts, marks};
 use runs::RunList;
 
 // Cuts pieces until none is heavy, each time the heavy one with the lowest image: the cuts come to stand in
@@ -33,7 +33,7 @@ pub(crate) fn sweep(
             cuts,
         };
         let here = before.here(at);
-        let looked = before.entries().look(here.mark, d, here.piece.to);
+        let looked = marks::look(before.entries(), here.mark, d, here.piece.to);
         let front = fronts::pass(at, looked);
         if looked.heavy {
             let u = here.piece.start + (looked.to - at.p);

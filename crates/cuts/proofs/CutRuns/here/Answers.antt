@@ -4,7 +4,7 @@ use Rattle.order.specs.Lists.{count_below}
 use Rattle.order.proofs.Laws.{strict_sorted}
 use Rattle.runs.specs.Runs.{runs_in}
 use Rattle.cuts.specs.Parts.{after_cuts, Begins, HereAt}
-use Rattle.cuts.specs.declared.Entries.{Entries}
+use Rattle.merging.specs.declared.Entries.{Entries}
 use Rattle.cuts.proofs.CutRuns.here.Goals as goal
 
 pub front_piece-requires : goal.front_piece-requires

@@ -33,30 +33,30 @@ later_start-start-requires c = omega (arith, count_le_length (c.origin_of-origin
 pub entry_at-end-requires : goal.entry_at-end-requires
 entry_at-end-requires c =
     let s = c.requires.0.starts in
-    (s, at_own _ _ _ s _ _ (at_counts _ _ _ s _ _ c.origin_of-origin.ensures.counted c.count_below-count.ensures))
+    rw c.entries.ensures (s, at_own _ _ _ s _ _ (at_counts _ _ _ s _ _ c.origin_of-origin.ensures.counted c.count_below-count.ensures))
 
 pub overflow_sub-p : goal.overflow_sub-p
 overflow_sub-p c =
     (around _ _ _ _ _ c.requires.0.ranked c.requires.0.starts _ _ c.origin_of-origin.ensures _ _ _ c.count_below-count.ensures
-    c.later_start-start.ensures c.entry_at-end.ensures).0
+    c.later_start-start.ensures (rw c.entries.ensures at c.entry_at-end.ensures)).0
 
 pub overflow_sub-p-2 : goal.overflow_sub-p-2
 overflow_sub-p-2 c =
     (around _ _ _ _ _ c.requires.0.ranked c.requires.0.starts _ _ c.origin_of-origin.ensures _ _ _ c.count_below-count.ensures
-    c.later_start-start.ensures c.entry_at-end.ensures).1
+    c.later_start-start.ensures (rw c.entries.ensures at c.entry_at-end.ensures)).1
 
 pub overflow_sub-result : goal.overflow_sub-result
 overflow_sub-result c =
     (around _ _ _ _ _ c.requires.0.ranked c.requires.0.starts _ _ c.origin_of-origin.ensures _ _ _ c.count_below-count.ensures
-    c.later_start-start.ensures c.entry_at-end.ensures).2
+    c.later_start-start.ensures (rw c.entries.ensures at c.entry_at-end.ensures)).2
 
 pub overflow_add-result : goal.overflow_add-result
 overflow_add-result c =
     let a = around _ _ _ _ _ c.requires.0.ranked c.requires.0.starts _ _ c.origin_of-origin.ensures _ _ _ c.count_below-count.ensures
-    c.later_start-start.ensures c.entry_at-end.ensures in
+    c.later_start-start.ensures (rw c.entries.ensures at c.entry_at-end.ensures) in
     omega (arith, a.3)
 
 pub returns : goal.returns
 returns c =
     (around _ _ _ _ _ c.requires.0.ranked c.requires.0.starts _ _ c.origin_of-origin.ensures _ _ _ c.count_below-count.ensures
-    c.later_start-start.ensures c.entry_at-end.ensures).4
+    c.later_start-start.ensures (rw c.entries.ensures at c.entry_at-end.ensures)).4

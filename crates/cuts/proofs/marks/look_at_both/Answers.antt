@@ -2,16 +2,16 @@
 use Rattle.std.proofs.Common.{arith}
 use Rattle.merging.proofs.Merged.{merged_length}
 use Rattle.cuts.proofs.Looking.{look_light, look_heavy}
-use Rattle.cuts.proofs.Entries.look_at_both.Goals as goal
+use Rattle.cuts.proofs.marks.look_at_both.Goals as goal
 
 pub overflow_add-last : goal.overflow_add-last
-overflow_add-last c = omega (arith, merged_length c.args.self.starts.now c.args.self.cuts.now, c.skip-last.ensures.at.within)
+overflow_add-last c = omega (arith, merged_length c.args.entries.starts.now c.args.entries.cuts.now, c.skip-last.ensures.at.within)
 
 pub overflow_add-mark : goal.overflow_add-mark
-overflow_add-mark c = omega (arith, merged_length c.args.self.starts.now c.args.self.cuts.now, c.requires.at.within)
+overflow_add-mark c = omega (arith, merged_length c.args.entries.starts.now c.args.entries.cuts.now, c.requires.at.within)
 
 pub overflow_add-mark-2 : goal.overflow_add-mark-2
-overflow_add-mark-2 c = omega (arith, merged_length c.args.self.starts.now c.args.self.cuts.now, c.requires.at.within, c.requires.most)
+overflow_add-mark-2 c = omega (arith, merged_length c.args.entries.starts.now c.args.entries.cuts.now, c.requires.at.within, c.requires.most)
 
 pub returns-then-last-mark : goal.returns-then-last-mark
 returns-then-last-mark c =

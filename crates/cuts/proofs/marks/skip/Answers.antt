@@ -1,6 +1,6 @@
 use Rattle.std.proofs.Common.{arith}
 use Rattle.merging.proofs.Merged.{at_sum, at_own, at_stop, at_go}
-use Rattle.cuts.proofs.Entries.skip.Goals as goal
+use Rattle.cuts.proofs.marks.skip.Goals as goal
 
 pub step-step-requires : goal.step-step-requires
 step-step-requires c = (c.requires.0, c.loop.invariant.0)
