@@ -17,6 +17,7 @@ use runs::RunList;
 
 // A degree before which all are ruled out, and one from there on at which the list is known not to be cut; 65 for either, if there
 // is none.
+// No Option stands for none, since 65 ends the range of degrees that the search counts through, and an Option would be turned back into it.
 #[derive(Clone, Copy)]
 pub struct First {
     pub degree: u32,

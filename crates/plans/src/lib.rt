@@ -22,6 +22,7 @@ use outcomes::Refusal;
 use runs::RunList;
 
 // More entries than any list has intervals.
+// It is a number and no Option, so that one plan does for three calls: balancing, the forecast and the search for a degree.
 pub const NO_LIMIT: u32 = u32::MAX;
 
 // A degree, and how many cuts stand in the working table for it.
