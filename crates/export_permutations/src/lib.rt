@@ -9,7 +9,7 @@ ghost use Rattle.runs.specs.Runs.{runs};
 ghost use Rattle.folds.specs.Lent.{fold_of};
 ghost use Rattle.export_permutations.specs.Answers.{NextAnswered, RunsAnswered};
 
-use runs::RunList;
+use runs::{RunList, RunListMut};
 
 // The answer: how many runs the list has that was written.
 #[repr(C)]
@@ -33,7 +33,11 @@ pub extern "C" fn zibewoka_next_list(
         to_starts.old to_images.old to_starts.new to_images.new result }
 {
     let list = RunList { n, starts, images };
-    answers::of_runs(permutations::next_list(list, to_starts, to_images))
+    let mut to = RunListMut {
+        starts: to_starts,
+        images: to_images,
+    };
+    answers::of_runs(permutations::next_list(list, &mut to))
 }
 
 // Writes the folded list to two lent tables.
@@ -50,5 +54,9 @@ pub extern "C" fn zibewoka_fold(
         to_starts.old to_images.old to_starts.new to_images.new result }
 {
     let list = RunList { n, starts, images };
-    answers::of_runs(folds::fold(list, to_starts, to_images))
+    let mut to = RunListMut {
+        starts: to_starts,
+        images: to_images,
+    };
+    answers::of_runs(folds::fold(list, &mut to))
 }
