@@ -11,7 +11,7 @@ ghost use Rattle.export_lists.specs.Answers.{list_answer};
 ghost use Rattle.export_lists.specs.Lent.{InverseListAnswered};
 
 use outcomes::Refusal;
-use runs::RunList;
+use runs::{RunList, RunListMut};
 
 // The answer of check and inverse list.
 #[repr(C)]
@@ -61,5 +61,9 @@ pub extern "C" fn zibewoka_inverse_list(
         to_starts.old to_images.old to_starts.new to_images.new result }
 {
     let list = RunList { n, starts, images };
-    ListAnswer::from(lists::inverse_list(list, to_starts, to_images))
+    let mut to = RunListMut {
+        starts: to_starts,
+        images: to_images,
+    };
+    ListAnswer::from(lists::inverse_list(list, &mut to))
 }

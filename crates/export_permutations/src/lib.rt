@@ -10,7 +10,7 @@ ghost use Rattle.folds.specs.Lent.{fold_of};
 ghost use Rattle.export_permutations.specs.Answers.{runs_answer, NextAnswered, RunsAnswered};
 
 use outcomes::Refusal;
-use runs::RunList;
+use runs::{RunList, RunListMut};
 
 // The answer: how many runs the list has that was written.
 #[repr(C)]
@@ -53,7 +53,11 @@ pub extern "C" fn zibewoka_next_list(
         to_starts.old to_images.old to_starts.new to_images.new result }
 {
     let list = RunList { n, starts, images };
-    RunsAnswer::from(permutations::next_list(list, to_starts, to_images))
+    let mut to = RunListMut {
+        starts: to_starts,
+        images: to_images,
+    };
+    RunsAnswer::from(permutations::next_list(list, &mut to))
 }
 
 // Writes the folded list to two lent tables.
@@ -70,5 +74,9 @@ pub extern "C" fn zibewoka_fold(
         to_starts.old to_images.old to_starts.new to_images.new result }
 {
     let list = RunList { n, starts, images };
-    RunsAnswer::from(folds::fold(list, to_starts, to_images))
+    let mut to = RunListMut {
+        starts: to_starts,
+        images: to_images,
+    };
+    RunsAnswer::from(folds::fold(list, &mut to))
 }

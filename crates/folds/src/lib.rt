@@ -10,13 +10,13 @@ ghost use Rattle.outcomes.specs.Outcome.{Long};
 ghost use Rattle.outcomes.specs.Refusal.{says};
 ghost use Rattle.runs.specs.Runs.{runs_in, count_of};
 ghost use Rattle.runs.specs.Check.{max_runs, check_of};
-ghost use Rattle.runs.specs.Written.{WritesList, if_room};
+ghost use Rattle.runs.specs.Written.{WritesList, SameTables, if_room};
 ghost use Rattle.folds.specs.Fold.{begins, folded};
 ghost use Rattle.folds.specs.Lent.{Folds};
 ghost use Rattle.folds.specs.Parts.{Foldable, FoldWritten};
 
 use outcomes::Refusal;
-use runs::RunList;
+use runs::{RunList, RunListMut};
 
 // Whether run x begins a run of the fold. The list need not be legal, so an image and a length may come to more than 32
 // bits hold.
@@ -33,17 +33,20 @@ fn is_head(list: RunList<'_>, x: usize) -> bool
 
 // Writes the folded list to the first entries of two tables, and leaves the others. Answers how many runs it has. Public
 // for our own crates, which hold lists whose starts they know to rise.
-pub fn write_folded(list: RunList<'_>, to_starts: &mut [u32], to_images: &mut [u32]) -> usize
+pub fn write_folded(list: RunList<'_>, to: &mut RunListMut<'_>) -> usize
     requires { Foldable (runs_in list)
-        × Long (length list.starts.now) (to_starts.old ∷ to_images.old ∷ []) }
-    ensures { FoldWritten (runs_in list.entry)
-        to_starts.old to_images.old to_starts.new to_images.new result }
+        × Long (length list.starts.now) (to.old.starts.now ∷ to.old.images.now ∷ []) }
+    ensures written { FoldWritten (runs_in list.entry)
+        to.old.starts.now to.old.images.now to.new.starts.now to.new.images.now result }
+    ensures lent { SameTables to.old to.new }
 {
+    let starts = &mut *to.starts;
+    let images = &mut *to.images;
     let mut m = 0;
     for x in 0..list.starts.len() {
         if is_head(list, x) {
-            to_starts[m] = list.starts[x];
-            to_images[m] = list.images[x];
+            starts[m] = list.starts[x];
+            images[m] = list.images[x];
             m += 1;
         }
     }
@@ -53,19 +56,19 @@ pub fn write_folded(list: RunList<'_>, to_starts: &mut [u32], to_images: &mut [u
 // Test 8 of an accepted list, and its fold where the tables have room.
 fn fold_accepted(
     list: RunList<'_>,
-    to_starts: &mut [u32],
-    to_images: &mut [u32],
+    to: &mut RunListMut<'_>,
 ) -> Result<u32, Refusal>
     requires { Foldable (runs_in list) × (length list.starts.now ≤ max_runs) }
-    ensures { WritesList says count_of
-        (if_room (count_of (runs_in list.entry)) (folded (runs_in list.entry)) to_starts.old to_images.old)
-        to_starts.old to_images.old to_starts.new to_images.new result }
+    ensures written { WritesList says count_of
+        (if_room (count_of (runs_in list.entry)) (folded (runs_in list.entry)) to.old.starts.now to.old.images.now)
+        to.old.starts.now to.old.images.now to.new.starts.now to.new.images.now result }
+    ensures lent { SameTables to.old to.new }
 {
     let k = list.starts.len();
-    if to_starts.len() < k || to_images.len() < k {
+    if to.starts.len() < k || to.images.len() < k {
         return Err(Refusal::ShortTable(k as u32));
     }
-    let count = write_folded(list, to_starts, to_images);
+    let count = write_folded(list, to);
     Ok(count as u32)
 }
 
@@ -84,10 +87,11 @@ fn check(list: RunList<'_>) -> Result<(), Refusal>
 
 // Writes the folded list to the first entries of two tables of at least k entries, and leaves the others. Answers how many runs it
 // has. Tests 1 to 6 and 8; a refused call changes nothing.
-pub fn fold(list: RunList<'_>, to_starts: &mut [u32], to_images: &mut [u32]) -> Result<u32, Refusal>
-    ensures { Folds list.entry.n (runs_in list.entry)
-        to_starts.old to_images.old to_starts.new to_images.new result }
+pub fn fold(list: RunList<'_>, to: &mut RunListMut<'_>) -> Result<u32, Refusal>
+    ensures folded { Folds list.entry.n (runs_in list.entry)
+        to.old.starts.now to.old.images.now to.new.starts.now to.new.images.now result }
+    ensures lent { SameTables to.old to.new }
 {
     check(list)?;
-    fold_accepted(list, to_starts, to_images)
+    fold_accepted(list, to)
 }

@@ -1,7 +1,7 @@
 // The calls that are lent tables or a text, of at most 256 entries.
 use super::answers;
 use rows::out;
-use runs::RunList;
+use runs::{RunList, RunListMut};
 use std::io;
 
 // Lends a table to a call that prints its answer, and prints what the table holds then.
@@ -18,8 +18,8 @@ pub(crate) fn one<F: FnOnce(&mut [u32]) -> io::Result<()>>(
     out::now(rt, table)
 }
 
-// The same with two tables.
-pub(crate) fn two<F: FnOnce(&mut [u32], &mut [u32]) -> io::Result<()>>(
+// The same with the two tables of a run list.
+pub(crate) fn two<F: FnOnce(&mut RunListMut<'_>) -> io::Result<()>>(
     rt: &impl Print,
     size: u32,
     size_2: u32,
@@ -29,11 +29,13 @@ pub(crate) fn two<F: FnOnce(&mut [u32], &mut [u32]) -> io::Result<()>>(
 {
     let mut starts = [7u32; 256];
     let mut images = [7u32; 256];
-    let starts = &mut starts[..rows::size(size)];
-    let images = &mut images[..rows::size(size_2)];
-    answer(starts, images)?;
-    out::now(rt, starts)?;
-    out::now(rt, images)
+    let mut to = RunListMut {
+        starts: &mut starts[..rows::size(size)],
+        images: &mut images[..rows::size(size_2)],
+    };
+    answer(&mut to)?;
+    out::now(rt, to.starts)?;
+    out::now(rt, to.images)
 }
 
 // Balances into four lent tables, with a working table.

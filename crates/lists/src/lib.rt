@@ -9,10 +9,11 @@ ghost use Rattle.std.specs.Prelude.{◌≡◌, ◌≤◌, length};
 ghost use Rattle.outcomes.specs.Refusal.{says};
 ghost use Rattle.runs.specs.Runs.{runs_in, shift_from};
 ghost use Rattle.runs.specs.Check.{max_runs, check_of};
+ghost use Rattle.runs.specs.Written.{SameTables};
 ghost use Rattle.lists.specs.Inverse.{InverseListed};
 
 use outcomes::Refusal;
-use runs::RunList;
+use runs::{RunList, RunListMut};
 
 // Tests 1 to 6, in tables of N entries.
 fn check_in<const N: usize>(list: RunList<'_>) -> Result<(), Refusal>
@@ -37,31 +38,31 @@ fn check_apart<const N: usize>(list: RunList<'_>) -> Result<(), Refusal>
 // Tests 1 to 6 and 8 and the inverse list, in tables of N entries.
 fn invert_in<const N: usize>(
     list: RunList<'_>,
-    to_starts: &mut [u32],
-    to_images: &mut [u32],
+    to: &mut RunListMut<'_>,
 ) -> Result<(), Refusal>
     requires { (N ≤ max_runs) × (length list.starts.now ≤ max_runs → length list.starts.now ≤ N) }
-    ensures { InverseListed list.entry.n (runs_in list.entry)
-        to_starts.old to_images.old to_starts.new to_images.new result }
+    ensures listed { InverseListed list.entry.n (runs_in list.entry)
+        to.old.starts.now to.old.images.now to.new.starts.now to.new.images.now result }
+    ensures lent { SameTables to.old to.new }
 {
     let mut order = [0; N];
     let mut spare = [0; N];
     runs::check_order(list, runs::MOST_RUNS, &mut order, &mut spare)?;
-    inverse::write(list, &order, to_starts, to_images)
+    inverse::write(list, &order, to)
 }
 
 // The same with a frame of its own.
 #[inline(never)]
 fn invert_apart<const N: usize>(
     list: RunList<'_>,
-    to_starts: &mut [u32],
-    to_images: &mut [u32],
+    to: &mut RunListMut<'_>,
 ) -> Result<(), Refusal>
     requires { (N ≤ max_runs) × (length list.starts.now ≤ max_runs → length list.starts.now ≤ N) }
-    ensures { InverseListed list.entry.n (runs_in list.entry)
-        to_starts.old to_images.old to_starts.new to_images.new result }
+    ensures listed { InverseListed list.entry.n (runs_in list.entry)
+        to.old.starts.now to.old.images.now to.new.starts.now to.new.images.now result }
+    ensures lent { SameTables to.old to.new }
 {
-    invert_in::<N>(list, to_starts, to_images)
+    invert_in::<N>(list, to)
 }
 
 // Whether the list is legal and has at most 16,384 runs. Tests 1 to 6; O(k log k) for every input.
@@ -85,23 +86,23 @@ pub fn check(list: RunList<'_>) -> Result<(), Refusal>
 // Writes the inverse list to the first k entries of two tables, and leaves the others. Tests 1 to 6 and 8.
 pub fn inverse_list(
     list: RunList<'_>,
-    to_starts: &mut [u32],
-    to_images: &mut [u32],
+    to: &mut RunListMut<'_>,
 ) -> Result<(), Refusal>
-    ensures { InverseListed list.entry.n (runs_in list.entry)
-        to_starts.old to_images.old to_starts.new to_images.new result }
+    ensures listed { InverseListed list.entry.n (runs_in list.entry)
+        to.old.starts.now to.old.images.now to.new.starts.now to.new.images.now result }
+    ensures lent { SameTables to.old to.new }
 {
     let k = list.starts.len();
     if k <= runs::FEW_RUNS {
-        invert_in::<{ runs::FEW_RUNS }>(list, to_starts, to_images)
+        invert_in::<{ runs::FEW_RUNS }>(list, to)
     } else if k <= runs::MORE_RUNS {
-        invert_in::<{ runs::MORE_RUNS }>(list, to_starts, to_images)
+        invert_in::<{ runs::MORE_RUNS }>(list, to)
     } else if k <= runs::SOME_RUNS {
-        invert_apart::<{ runs::SOME_RUNS }>(list, to_starts, to_images)
+        invert_apart::<{ runs::SOME_RUNS }>(list, to)
     } else if k <= runs::MANY_RUNS {
-        invert_apart::<{ runs::MANY_RUNS }>(list, to_starts, to_images)
+        invert_apart::<{ runs::MANY_RUNS }>(list, to)
     } else {
-        invert_apart::<{ runs::MAX_RUNS }>(list, to_starts, to_images)
+        invert_apart::<{ runs::MAX_RUNS }>(list, to)
     }
 }
 

@@ -12,12 +12,12 @@ ghost use Rattle.outcomes.specs.Outcome.{done};
 ghost use Rattle.outcomes.specs.Refusal.{says};
 ghost use Rattle.runs.specs.Runs.{runs_in, count_of};
 ghost use Rattle.runs.specs.Check.{check_of};
-ghost use Rattle.runs.specs.Written.{WritesList};
+ghost use Rattle.runs.specs.Written.{WritesList, SameTables};
 ghost use Rattle.permutations.specs.Next.{max_places, NextListed};
 ghost use Rattle.permutations.specs.Parts.{Writable, NoneListed, later_of, after_of};
 
 use outcomes::Refusal;
-use runs::RunList;
+use runs::{RunList, RunListMut};
 
 // The most places of a list whose next one is given, as a number and as a table's size.
 const MOST_PLACES: u32 = 7;
@@ -25,10 +25,11 @@ const MOST_PLACES: u32 = 7;
 const MAX_PLACES: usize = MOST_PLACES as usize;
 
 // Test 18, and the list of the next values. A list of one run for each place has these values; its fold is written.
-fn write_next(values: &[u32], to_starts: &mut [u32], to_images: &mut [u32]) -> Result<u32, Refusal>
-    requires { Writable values.now to_starts.old to_images.old }
-    ensures { WritesList says count_of (after_of values.now)
-        to_starts.old to_images.old to_starts.new to_images.new result }
+fn write_next(values: &[u32], to: &mut RunListMut<'_>) -> Result<u32, Refusal>
+    requires { Writable values.now to.old.starts.now to.old.images.now }
+    ensures written { WritesList says count_of (after_of values.now)
+        to.old.starts.now to.old.images.now to.new.starts.now to.new.images.now result }
+    ensures lent { SameTables to.old to.new }
 {
     let n = values.len();
     let Some(ascent) = after::last_ascent(values) else {
@@ -42,27 +43,27 @@ fn write_next(values: &[u32], to_starts: &mut [u32], to_images: &mut [u32]) -> R
         starts: &places[..n],
         images: &changed[..n],
     };
-    let count = folds::write_folded(list, to_starts, to_images);
+    let count = folds::write_folded(list, to);
     Ok(count as u32)
 }
 
 // Tests 8 and 18 of an accepted list of few places, and the next one.
 fn next_accepted(
     list: RunList<'_>,
-    to_starts: &mut [u32],
-    to_images: &mut [u32],
+    to: &mut RunListMut<'_>,
 ) -> Result<u32, Refusal>
     requires { (done tt ≡ check_of list.n (runs_in list)) × (list.n ≤ max_places) }
-    ensures { WritesList says count_of
-        (later_of list.entry.n (runs_in list.entry) to_starts.old to_images.old)
-        to_starts.old to_images.old to_starts.new to_images.new result }
+    ensures written { WritesList says count_of
+        (later_of list.entry.n (runs_in list.entry) to.old.starts.now to.old.images.now)
+        to.old.starts.now to.old.images.now to.new.starts.now to.new.images.now result }
+    ensures lent { SameTables to.old to.new }
 {
     let size = list.n as usize;
-    if to_starts.len() < size || to_images.len() < size {
+    if to.starts.len() < size || to.images.len() < size {
         return Err(Refusal::ShortTable(list.n));
     }
     let values = values::of_places(list);
-    write_next(&values[..size], to_starts, to_images)
+    write_next(&values[..size], to)
 }
 
 // Tests 1 to 6 of a list of few runs, in little room.
@@ -90,15 +91,15 @@ fn refuse(list: RunList<'_>) -> Result<u32, Refusal>
 // the list.
 pub fn next_list(
     list: RunList<'_>,
-    to_starts: &mut [u32],
-    to_images: &mut [u32],
+    to: &mut RunListMut<'_>,
 ) -> Result<u32, Refusal>
-    ensures { NextListed list.entry.n (runs_in list.entry)
-        to_starts.old to_images.old to_starts.new to_images.new result }
+    ensures listed { NextListed list.entry.n (runs_in list.entry)
+        to.old.starts.now to.old.images.now to.new.starts.now to.new.images.now result }
+    ensures lent { SameTables to.old to.new }
 {
     if MOST_PLACES < list.n || MAX_PLACES < list.starts.len() {
         return refuse(list);
     }
     check_few(list)?;
-    next_accepted(list, to_starts, to_images)
+    next_accepted(list, to)
 }

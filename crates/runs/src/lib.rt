@@ -22,6 +22,13 @@ pub struct RunList<'a> {
     pub images: &'a [u32],
 }
 
+// Two tables that a caller lends for the starts and the images of the runs of a list that is to be written.
+#[derive(Drop)]
+pub struct RunListMut<'a> {
+    pub starts: &'a mut [u32],
+    pub images: &'a mut [u32],
+}
+
 // The most runs that a list may have, as a limit and as a table's size.
 pub const MOST_RUNS: u32 = 16384;
 

@@ -4,4 +4,4 @@ use Rattle.folds.proofs.Heads.{Heading}
 use Rattle.folds.proofs.write_folded.Given as goal
 
 abbrev pub invariant-loop-x : goal.invariant-loop-x
-invariant-loop-x l = Heading (runs_in l.list) l.fn.to_starts l.fn.to_images l.to_starts l.to_images l.m l.x
+invariant-loop-x l = Heading (runs_in l.list) l.fn.to.starts.now l.fn.to.images.now l.starts l.images l.m l.x

@@ -3,13 +3,13 @@ use Rattle.std.proofs.Common.{refl, arith}
 use Rattle.runs.proofs.WritesList.{starts_short, images_short}
 use Rattle.lists.proofs.Writing.{ordered_gathers, written}
 use Rattle.lists.proofs.inverse.write.Goals as goal
-use Rattle.lists.proofs.inverse.write.Goals.{then-to_starts-k-via-then-to_starts-k, then-to_starts-k-via-else-to_starts-k+then-to_images-k}
+use Rattle.lists.proofs.inverse.write.Goals.{then-to-k-via-then-to-k, then-to-k-via-else-to-k+then-to-k-2}
 
-pub returns-then-to_starts-k : goal.returns-then-to_starts-k
-returns-then-to_starts-k c =
-    elim c.then-to_starts-k.branch [
-      | then-to_starts-k-via-then-to_starts-k w ↦ starts_short _ _ _ _ _ _ _ refl (omega arith)
-      | then-to_starts-k-via-else-to_starts-k+then-to_images-k w ↦ images_short _ _ _ _ _ _ _ refl (omega arith) (omega arith)
+pub returns-then-to-k-clause-listed : goal.returns-then-to-k-clause-listed
+returns-then-to-k-clause-listed c =
+    elim c.then-to-k.branch [
+      | then-to-k-via-then-to-k w ↦ starts_short _ _ _ _ _ _ _ refl (omega arith)
+      | then-to-k-via-else-to-k+then-to-k-2 w ↦ images_short _ _ _ _ _ _ _ refl (omega arith) (omega arith)
     ]
 
 pub gather-requires : goal.gather-requires
@@ -22,5 +22,5 @@ gather-requires-2 c =
     let o = c.requires.0 in
     ordered_gathers _ _ o _ _ (omega arith) (omega arith)
 
-pub returns : goal.returns
-returns c = written _ _ _ (omega arith) (omega arith) _ _ _ c.requires.0 c.gather.ensures c.gather-2.ensures
+pub returns-clause-listed : goal.returns-clause-listed
+returns-clause-listed c = written _ _ _ (omega arith) (omega arith) _ _ _ c.requires.0 c.gather.ensures c.gather-2.ensures
