@@ -73,7 +73,7 @@ pub(crate) fn count_cut(front: Front, u: u32) -> Front
 
 impl CutRuns<'_> {
     // The front moved on past light pieces: to the first one that is heavy, or to n. It is a loop of its own, since the sweep's keeps
-    // more at hand than a processor has registers.
+    // more at hand than a processor has registers. It counts no index.
     pub(crate) fn pass_light(self, d: usize, front: Front) -> Front
         requires { InOrder self × FrontAt self.list.n (runs_in self.list) self.ranked.now self.cuts.now front
             × Edge self.list.n (after_cuts self) front.q

@@ -21,7 +21,7 @@ use merging::{Entries, Mark};
 use runs::RunList;
 
 // A list whose runs stand in `order` in rising order of image, with their images in that order in `ranked`, and cuts in it. That this
-// is so stays a clause (`InOrder`): as a ghost field it was tried, and antt finds no proof that `Strict` has one proof at most.
+// is so stays a clause (`InOrder`): as a ghost field it was tried, and no proof closed that two proofs of a strict order are one.
 #[derive(Clone, Copy)]
 struct CutRuns<'a> {
     list: RunList<'a>,
@@ -72,6 +72,7 @@ struct Here {
 
 // What two looks along the starts under a piece's image tell: whether it is heavy, and how far it is passed. That is where it is
 // to be cut if it is heavy, and else the end of its image. The mark stands before that place.
+// A flag tells the two cases apart, since both have the same fields.
 #[derive(Clone, Copy)]
 struct Looked {
     heavy: bool,

@@ -10,7 +10,8 @@ use runs::RunList;
 // Cuts pieces until none is heavy, each time the heavy one with the lowest image: the cuts come to stand in
 // `working`, in rising order. Answers how many there are. Before the front only the piece at `p` may be heavy, and a cut
 // there can make one piece before it heavy again: the one under whose image the new start lies. A cut at the front takes it on to
-// the second part. No cut lies ahead of the front, so that nothing is searched for there.
+// the second part. No cut lies ahead of the front, so that nothing is searched for there. The loop counts no index. The cuts are a part
+// of the working table with their count beside it, since the C interface lends that table.
 pub(crate) fn sweep(
     list: RunList<'_>,
     order: &[u32],

@@ -2,8 +2,7 @@
 -- they say. That every call stays in bounds and ends is what the checker proves of each function; here stands what its contract's
 -- definitions come to. What is promised of legal lists beside them stands in lists/specs/LegalLists, of small lists in
 -- permutations/specs/SmallLists, and of long files in listings/specs/Listing.
-use Rattle.std.specs.Prelude.{ℕ, suc, ◌+◌, ◌*◌, ◌^◌, ◌≤◌, ◌<◌, ◌≡◌, true, false, ◌↔◌, ◌⊎◌, List, [], ◌∷◌, ◌++◌, map, length, replicate}
-use Rattle.std.specs.Prelude.{Result}
+use Rattle.std.specs.Prelude.{ℕ, suc, ◌+◌, ◌*◌, ◌^◌, ◌≤◌, ◌<◌, ◌≡◌, true, false, ◌↔◌, ◌⊎◌, List, [], ◌∷◌, ◌++◌, map, length, replicate, Result}
 use Rattle.outcomes.specs.Refusal.{says}
 use Rattle.outcomes.specs.declared.Refusal.{Refusal}
 use Rattle.questions.specs.declared.Unanswered.{Unanswered}

@@ -1,6 +1,5 @@
 -- What demand 1 is to say of folds (document 02, A.8): the order of their tests, and what a refusal leaves.
-use Rattle.std.specs.Prelude.{ℕ, ◌≡◌, List, [], ◌∷◌}
-use Rattle.std.specs.Prelude.{Result}
+use Rattle.std.specs.Prelude.{ℕ, ◌≡◌, List, [], ◌∷◌, Result}
 use Rattle.outcomes.specs.Refusal.{says}
 use Rattle.outcomes.specs.declared.Refusal.{Refusal}
 use Rattle.outcomes.specs.Outcome.{refused}

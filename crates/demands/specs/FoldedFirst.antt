@@ -1,6 +1,5 @@
 -- What a fold and then balancing come to (document 02, A.8), over the contracts of both calls.
-use Rattle.std.specs.Prelude.{ℕ, ◌≤◌, ◌≡◌, List, take}
-use Rattle.std.specs.Prelude.{Result}
+use Rattle.std.specs.Prelude.{ℕ, ◌≤◌, ◌≡◌, List, take, Result}
 use Rattle.outcomes.specs.Refusal.{says}
 use Rattle.outcomes.specs.declared.Refusal.{Refusal}
 use Rattle.outcomes.specs.Outcome.{done, Long}

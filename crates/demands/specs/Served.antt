@@ -1,6 +1,5 @@
 -- The same calls served by tables, each from where the one before left off.
-use Rattle.std.specs.Prelude.{ℕ, zero, suc, List, [], ◌∷◌}
-use Rattle.std.specs.Prelude.{Result}
+use Rattle.std.specs.Prelude.{ℕ, zero, suc, List, [], ◌∷◌, Result}
 use Rattle.outcomes.specs.Refusal.{says}
 use Rattle.outcomes.specs.declared.Refusal.{Refusal}
 use Rattle.outcomes.specs.Outcome.{Outcome, done, refused}

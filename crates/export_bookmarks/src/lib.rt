@@ -1,5 +1,6 @@
 // A bookmark's move as a C function on numbers, slices and a lent bookmark, for a host program in Rust or C: thin above the proved
 // operation. docs/BOUNDARY.md says what a caller owes and how an answer is read.
+// Each slice is a parameter of its own, since that is the C interface.
 
 #![tactic(auto)]
 

@@ -1,5 +1,6 @@
 // Check and the inverse list as C functions on numbers and slices, for a host program in Rust or C: thin above the proved
 // operations. docs/BOUNDARY.md says what a caller owes and how an answer is read.
+// Each slice is a parameter of its own, since that is the C interface.
 
 #![tactic(auto)]
 

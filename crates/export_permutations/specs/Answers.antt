@@ -16,9 +16,6 @@ pub record RunsAnswered (o : Outcome Runs) (starts images starts' images' : List
   pub starts_at_exit : starts' ≡ filled (λ q. q.starts) o starts
   pub images_at_exit : images' ≡ filled (λ q. q.images) o images
 
--- the answer of the next list, and what its call promises
-abbrev pub next_answer : Outcome ℕ → RunsAnswer
-next_answer o = runs_answer o
-
+-- what the call of the next list promises
 abbrev pub NextAnswered : ℕ → Runs → List ℕ → List ℕ → List ℕ → List ℕ → RunsAnswer → Type 0
 NextAnswered n r starts images = RunsAnswered (next_of n r starts images) starts images

@@ -1,5 +1,6 @@
 // Questions together as a C function on numbers and slices, for a host program in Rust or C: thin above the proved
 // operation. docs/BOUNDARY.md says what a caller owes and how an answer is read.
+// Each slice is a parameter of its own, since that is the C interface.
 //
 // The records are a slice too, and are filled in where they lie. A refusal's `place` is a place, an interval or a record's index.
 

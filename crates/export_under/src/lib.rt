@@ -1,5 +1,6 @@
 // The starts under an image as a C function on numbers and slices, for a host program in Rust or C: thin above the proved
 // operation. docs/BOUNDARY.md says what a caller owes and how an answer is read.
+// Each slice is a parameter of its own, since that is the C interface.
 //
 // A part of a slice has no C form, so it passes as an index and a count. The export has an archive of its own so that
 // `weights::weight`, which it calls, has one caller here and one in that of the walks: with two the compiler makes it a

@@ -1,6 +1,6 @@
 // Questions together for a program that has few of them: it hands its records over and gets them back, by value.
 //
-// An array has a fixed number of records: a count says how many of them are asked about. specs/Few says what becomes of each.
+// An array has a fixed number of records, since the library has no heap: a count says how many of them are asked about. specs/Few says what becomes of each.
 
 #![tactic(auto)]
 

@@ -5,7 +5,7 @@ use runs::{RunList, RunListMut};
 use std::io;
 
 // Lends a table to a call that prints its answer, and prints what the table holds then.
-pub(crate) fn one<F: FnOnce(&mut [u32]) -> io::Result<()>>(
+pub(crate) fn with_table<F: FnOnce(&mut [u32]) -> io::Result<()>>(
     rt: &impl Print,
     size: u32,
     answer: F,
@@ -19,7 +19,7 @@ pub(crate) fn one<F: FnOnce(&mut [u32]) -> io::Result<()>>(
 }
 
 // The same with the two tables of a run list.
-pub(crate) fn two<F: FnOnce(&mut RunListMut<'_>) -> io::Result<()>>(
+pub(crate) fn with_tables<F: FnOnce(&mut RunListMut<'_>) -> io::Result<()>>(
     rt: &impl Print,
     size: u32,
     size_2: u32,

@@ -30,7 +30,7 @@ fn list<'a>(n: u32, starts: &'a [u32], images: &'a [u32]) -> RunList<'a> {
 fn call(rt: &impl Print, row: &Row<'_>) -> io::Result<()> {
     match (row.word(), row.numbers(), row.slices()) {
         (b"check", &[n], [a, b]) => answers::checked(rt, lists::check(list(n, a, b))),
-        (b"inverse-list", &[n, size, size_2], [a, b]) => lent::two(rt, size, size_2, |to| {
+        (b"inverse-list", &[n, size, size_2], [a, b]) => lent::with_tables(rt, size, size_2, |to| {
             answers::checked(rt, lists::inverse_list(list(n, a, b), to))
         }),
         (b"balance", &[n, d, size, size_2, size_3, size_4, size_5], [a, b]) => {
@@ -38,16 +38,16 @@ fn call(rt: &impl Print, row: &Row<'_>) -> io::Result<()> {
             lent::balance(rt, list(n, a, b), d, sizes)
         }
         (b"file", &[count, size], [words]) => lent::file(rt, count, size, words),
-        (b"next-list", &[n, size, size_2], [a, b]) => lent::two(rt, size, size_2, |to| {
+        (b"next-list", &[n, size, size_2], [a, b]) => lent::with_tables(rt, size, size_2, |to| {
             answers::count(rt, permutations::next_list(list(n, a, b), to))
         }),
-        (b"forecast", &[n, d, size], [a, b]) => lent::one(rt, size, |working| {
+        (b"forecast", &[n, d, size], [a, b]) => lent::with_table(rt, size, |working| {
             answers::size(rt, forecasts::forecast(list(n, a, b), d, working))
         }),
-        (b"least-degree", &[n, entries, size], [a, b]) => lent::one(rt, size, |working| {
+        (b"least-degree", &[n, entries, size], [a, b]) => lent::with_table(rt, size, |working| {
             answers::degree(rt, forecasts::least_degree(list(n, a, b), entries, working))
         }),
-        (b"fold", &[n, size, size_2], [a, b]) => lent::two(rt, size, size_2, |to| {
+        (b"fold", &[n, size, size_2], [a, b]) => lent::with_tables(rt, size, size_2, |to| {
             answers::count(rt, folds::fold(list(n, a, b), to))
         }),
         _ => out::no_call(rt),

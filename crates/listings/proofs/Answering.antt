@@ -6,7 +6,7 @@ use mathlib.Core.Bool.{Bool, true, false}
 use native.Mathlib.Omega.{arith}
 use native.Mathlib.Nat.{div-le_of_le-mul}
 use Rattle.outcomes.specs.Outcome.{Outcome, done, refused, Long, map_done, and_then}
-use Rattle.outcomes.specs.Refusal.{number_of, place_of}
+use Rattle.outcomes.specs.Refusal.{number_of, place_of, says}
 use Rattle.runs.specs.Runs.{Runs, count_of}
 use Rattle.runs.specs.Check.{check_of}
 use Rattle.outcomes.specs.declared.Refusal.{Refusal}
@@ -17,7 +17,6 @@ use Rattle.runs.proofs.Accepted.{accepted_legal}
 use Rattle.tables.specs.Tables.{Tables, tables_of}
 use Rattle.cuts.specs.Balance.{balanced, bound_of}
 use Rattle.std.specs.Prelude.{Result, Ok, Err}
-use Rattle.outcomes.specs.Refusal.{says}
 use Rattle.balance.specs.Lent.{Lent, lent_columns, Room, first_of, balance_of, interval_count, Balances}
 use Rattle.plans.proofs.Outcomes.{sized_degree, planned_refused, planned_accepted}
 use Rattle.balance.proofs.Outcomes.{balance_refused, balance_done, room_in_bound}

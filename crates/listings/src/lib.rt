@@ -13,7 +13,7 @@ ghost use Rattle.outcomes.specs.Refusal.{number_of, place_of};
 ghost use Rattle.runs.specs.Runs.{runs};
 ghost use Rattle.tables.specs.Tables.{tables_in};
 ghost use Rattle.text.specs.Text.{refusal_text};
-ghost use Rattle.text.specs.Page.{Writes};
+ghost use Rattle.text.specs.Page.{SamePage, Writes};
 ghost use Rattle.files.specs.Words.{runs_of};
 ghost use Rattle.files.specs.Parts.{Laid, ListRoom, listed_of, body_of};
 ghost use Rattle.listings.specs.Listing.{max_listed, list_text, listing_of, FileListed};
@@ -41,7 +41,8 @@ pub const DECIDING_BYTES: usize = 8213;
 // Writes the line of a refusal at the page's start.
 fn refusal_line(page: &mut Page<'_>, r: Refusal)
     requires { IsFresh page.old }
-    ensures { Writes page.old (refusal_text (number_of r) (place_of r)) page.new }
+    ensures wrote { Writes page.old (refusal_text (number_of r) (place_of r)) page.new }
+    ensures lent { SamePage page.old page.new }
 {
     page.refusal(r.number(), r.place());
 }
@@ -49,7 +50,8 @@ fn refusal_line(page: &mut Page<'_>, r: Refusal)
 // Writes what balancing answered: the listing of the tables that it filled, or its refusal.
 fn answer_text(page: &mut Page<'_>, h: Header, answer: Result<u32, Refusal>, lent: MoveTable<'_>)
     requires { Answered h.n answer (tables_in lent) × IsFresh page.old }
-    ensures { Writes page.old (answer_text h answer (runs lent.entry.starts.now lent.entry.images.now)) page.new }
+    ensures wrote { Writes page.old (answer_text h answer (runs lent.entry.starts.now lent.entry.images.now)) page.new }
+    ensures lent { SamePage page.old page.new }
 {
     match answer {
         Err(r) => refusal_line(page, r),
@@ -60,7 +62,8 @@ fn answer_text(page: &mut Page<'_>, h: Header, answer: Result<u32, Refusal>, len
 // Balances a list, and writes its listing or the refusal: tests 1 to 7, for 8 cannot apply to so few runs.
 fn list_runs(page: &mut Page<'_>, h: Header, starts: &[u32], images: &[u32])
     requires { (length starts.now ≤ max_listed) × IsFresh page.old }
-    ensures { Writes page.old (list_text (runs starts.now images.now) (listed_of h (runs starts.now images.now))) page.new }
+    ensures wrote { Writes page.old (list_text (runs starts.now images.now) (listed_of h (runs starts.now images.now))) page.new }
+    ensures lent { SamePage page.old page.new }
 {
     let list = RunList {
         n: h.n,
@@ -94,7 +97,8 @@ fn list_runs(page: &mut Page<'_>, h: Header, starts: &[u32], images: &[u32])
 // Reads the list of a file whose header is right, and writes its listing or the refusal, with room for the list.
 fn list_read(page: &mut Page<'_>, file: &[u8], h: Header, starts: &mut [u32], images: &mut [u32])
     requires { Laid max_listed file.now h × ListRoom file.now h.k starts.old images.old × IsFresh page.old }
-    ensures { Writes page.old (list_text (runs_of file.now) (body_of file.now)) page.new }
+    ensures wrote { Writes page.old (list_text (runs_of file.now) (body_of file.now)) page.new }
+    ensures lent { SamePage page.old page.new }
 {
     files::read_list(file, h.k as usize, starts, images);
     list_runs(page, h, starts, images);
@@ -103,7 +107,8 @@ fn list_read(page: &mut Page<'_>, file: &[u8], h: Header, starts: &mut [u32], im
 // The same, with room of its own.
 fn list_body(page: &mut Page<'_>, file: &[u8], h: Header)
     requires { Laid max_listed file.now h × IsFresh page.old }
-    ensures { Writes page.old (list_text (runs_of file.now) (body_of file.now)) page.new }
+    ensures wrote { Writes page.old (list_text (runs_of file.now) (body_of file.now)) page.new }
+    ensures lent { SamePage page.old page.new }
 {
     let k = h.k as usize;
     let mut starts = [0; MAX_LISTED];
@@ -114,7 +119,8 @@ fn list_body(page: &mut Page<'_>, file: &[u8], h: Header)
 // Writes the listing of a file at the page's start.
 fn listing(page: &mut Page<'_>, file: &[u8])
     requires { IsFresh page.old }
-    ensures { Writes page.old (listing_of file.now) page.new }
+    ensures wrote { Writes page.old (listing_of file.now) page.new }
+    ensures lent { SamePage page.old page.new }
 {
     match files::read_header(file, MAX_LISTED) {
         Err(r) => refusal_line(page, r),

@@ -5,7 +5,7 @@ ghost use Rattle.runs.specs.Runs.{runs};
 ghost use Rattle.tables.specs.Tables.{tables_in};
 ghost use Rattle.runs.specs.Weight.{weight};
 ghost use Rattle.text.specs.Text.{texts};
-ghost use Rattle.text.specs.Page.{HasRoom, Writes};
+ghost use Rattle.text.specs.Page.{HasRoom, SamePage, Writes};
 ghost use Rattle.listings.specs.Listing.{row_of, table_text};
 ghost use Rattle.listings.specs.Parts.{max_row, IsFresh, Listed, Tabled};
 
@@ -26,7 +26,8 @@ fn weight_of(table: MoveTable<'_>, x: u32) -> u32
 fn interval_row(page: &mut Page<'_>, table: MoveTable<'_>, x: u32)
     requires { Listed table.n (tables_in table) × (x < length table.starts.now)
         × HasRoom page.old (row_of table.n (runs table.starts.now table.images.now) x) }
-    ensures { Writes page.old (row_of table.entry.n (runs table.entry.starts.now table.entry.images.now) x) page.new }
+    ensures wrote { Writes page.old (row_of table.entry.n (runs table.entry.starts.now table.entry.images.now) x) page.new }
+    ensures lent { SamePage page.old page.new }
 {
     let i = x as usize;
     let start = table.starts[i];
@@ -39,7 +40,10 @@ fn interval_row(page: &mut Page<'_>, table: MoveTable<'_>, x: u32)
 // Writes the lines of all intervals.
 fn rows(page: &mut Page<'_>, table: MoveTable<'_>)
     requires { Listed table.n (tables_in table) × (page.old.at + max_row * length table.starts.now ≤ length page.old.bytes.now) }
-    ensures { Writes page.old (texts (row_of table.entry.n (runs table.entry.starts.now table.entry.images.now)) (up_to (length table.entry.starts.now))) page.new }
+    ensures wrote { Writes page.old
+        (texts (row_of table.entry.n (runs table.entry.starts.now table.entry.images.now)) (up_to (length table.entry.starts.now)))
+        page.new }
+    ensures lent { SamePage page.old page.new }
 {
     for x in 0..table.starts.len() {
         interval_row(page, table, x as u32);
@@ -49,7 +53,8 @@ fn rows(page: &mut Page<'_>, table: MoveTable<'_>)
 // Writes the listing of a balanced list's tables, the first `size` entries of each column, at the page's start.
 pub(crate) fn table(page: &mut Page<'_>, h: Header, size: u32, lent: MoveTable<'_>)
     requires { Tabled h.n size (tables_in lent) × IsFresh page.old }
-    ensures { Writes page.old (table_text h (runs (take size lent.entry.starts.now) (take size lent.entry.images.now))) page.new }
+    ensures wrote { Writes page.old (table_text h (runs (take size lent.entry.starts.now) (take size lent.entry.images.now))) page.new }
+    ensures lent { SamePage page.old page.new }
 {
     let k = size as usize;
     lines::head(page, h.n, h.k, h.d, size);

@@ -24,8 +24,8 @@ pub(crate) fn plan_in<const N: usize>(
         × (length list.starts.now ≤ max_runs → length list.starts.now ≤ N) }
     ensures { Plans list.entry.n (runs_in list.entry) entries low working.old working.new result }
 {
-    let mut order: [u32; N] = [0; N];
-    let mut spare: [u32; N] = [0; N];
+    let mut order = [0; N];
+    let mut spare = [0; N];
     deciding::decide_list(list, low, working.len(), &mut order, &mut spare)?;
     let search = Search {
         list,

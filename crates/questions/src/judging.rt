@@ -94,7 +94,7 @@ fn fall(s: Judging, place: u32, i: usize) -> Judging
     }
 }
 
-// 16 goes before 11 and 12 of a record.
+// Whether no record can change it, 16 least of all: 16 goes before 11 and 12 of a record, which it can change.
 fn is_settled(standing: Standing) -> bool
     ensures { result ≡ settled standing }
 {
@@ -104,6 +104,7 @@ fn is_settled(standing: Standing) -> bool
     )
 }
 
+// Whether no refusal was met.
 fn is_clear(standing: Standing) -> bool
     ensures { result ≡ clear standing }
 {

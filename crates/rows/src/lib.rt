@@ -25,7 +25,7 @@ pub use row::Row;
 use std::io;
 pub use words::bytes_of;
 
-// The bytes of the table that are read.
+// So many bytes of standard input are read.
 const MOST: usize = 65536;
 
 // Whether a row's word is #.

@@ -14,7 +14,8 @@ ghost use Rattle.runs.specs.Parts.{HoldsRuns, OrderChecked};
 
 use outcomes::Refusal;
 
-// A run list that a caller lends: the starts and the images of its runs, any numbers, and n beside them.
+// A run list that a caller lends: the starts and the images of its runs, any numbers, and n beside them. They are two slices and not
+// one of pairs, as the C interface passes them.
 #[derive(Clone, Copy)]
 pub struct RunList<'a> {
     pub n: u32,

@@ -13,7 +13,7 @@ ghost use Rattle.tables.specs.Parts.{Entered, Located};
 // The most intervals that tables may have.
 pub const MAX_INTERVALS: usize = 32768;
 
-// A move table that a caller lends: its columns, any numbers, and n beside them.
+// A move table that a caller lends: its columns, any numbers, and n beside them. Each is a slice, as the C interface passes it.
 #[derive(Clone, Copy)]
 pub struct MoveTable<'a> {
     pub n: u32,
@@ -51,7 +51,8 @@ impl<'a> MoveTable<'a> {
     // length a second one looks for it.
     pub fn first_wrong_length(self) -> Option<usize>
         requires { (0 < length self.starts.now) × (length self.lengths.now ≡ length self.starts.now) }
-        ensures { result ≡ lowest_below (wrong_length self.entry.n self.entry.starts.now self.entry.lengths.now) (length self.entry.starts.now) }
+        ensures { result ≡ lowest_below (wrong_length self.entry.n self.entry.starts.now self.entry.lengths.now)
+            (length self.entry.starts.now) }
     {
         if !measuring::is_any_wrong(self.n, self.starts, self.lengths) {
             return None;

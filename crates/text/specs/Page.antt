@@ -22,3 +22,7 @@ HasRoom p s = Fits p.bytes.now p.at s
 
 abbrev pub Writes : Page → List ℕ → Page → Type 0
 Writes p s q = Wrote p.bytes.now p.at s q.bytes.now q.at
+
+-- the page is still the one that was lent
+abbrev pub SamePage : Page → Page → Type 0
+SamePage p q = q.bytes.ghost_name ≡ p.bytes.ghost_name

@@ -9,7 +9,7 @@ mod numbers;
 
 ghost use Rattle.std.specs.Prelude.{[], ◌∷◌, ◌++◌, ◌≡◌, ◌<◌, ◌≤◌, length, drop, nat_abs};
 ghost use Rattle.text.specs.Text.{max_size, decimal as Text·decimal, signed as Text·signed, pair_text, refusal_text};
-ghost use Rattle.text.specs.Page.{HasRoom, Writes};
+ghost use Rattle.text.specs.Page.{HasRoom, SamePage, Writes};
 
 // A page that is lent, and the index where the next byte goes.
 #[derive(Drop)]
@@ -23,7 +23,8 @@ impl Page<'_> {
     #[tactic(auto, using(crate::proofs::Writing::wrote_byte))]
     fn put(&mut self, b: u8)
         requires { HasRoom self.old (b ∷ []) }
-        ensures { Writes self.old (b ∷ []) self.new }
+        ensures wrote { Writes self.old (b ∷ []) self.new }
+        ensures lent { SamePage self.old self.new }
     {
         self.bytes[self.at] = b;
         self.at += 1;
@@ -33,7 +34,8 @@ impl Page<'_> {
     #[tactic(auto, unfolding(crate::specs::Page::overlaid))]
     fn put_all(&mut self, s: &[u8])
         requires { HasRoom self.old s.now }
-        ensures { Writes self.old s.now self.new }
+        ensures wrote { Writes self.old s.now self.new }
+        ensures lent { SamePage self.old self.new }
     {
         let end = self.at + s.len();
         self.bytes[self.at..end].copy_from_slice(s);
@@ -43,7 +45,8 @@ impl Page<'_> {
     // Writes v and the byte after it: a space, or the line's end.
     pub fn field(&mut self, v: u32, after: u8)
         requires { HasRoom self.old (Text·decimal v ++ (after ∷ [])) }
-        ensures { Writes self.old (Text·decimal v ++ (after ∷ [])) self.new }
+        ensures wrote { Writes self.old (Text·decimal v ++ (after ∷ [])) self.new }
+        ensures lent { SamePage self.old self.new }
     {
         self.decimal(u64::from(v));
         self.put(after);
@@ -52,7 +55,8 @@ impl Page<'_> {
     // The same for an integer.
     pub fn signed_field(&mut self, v: i64, after: u8)
         requires { (nat_abs v < max_size) × HasRoom self.old (Text·signed v ++ (after ∷ [])) }
-        ensures { Writes self.old (Text·signed v ++ (after ∷ [])) self.new }
+        ensures wrote { Writes self.old (Text·signed v ++ (after ∷ [])) self.new }
+        ensures lent { SamePage self.old self.new }
     {
         self.signed(v);
         self.put(after);
@@ -61,7 +65,8 @@ impl Page<'_> {
     // Writes two numbers with a space between them, and the byte after them.
     pub fn pair(&mut self, v: u32, w: u32, after: u8)
         requires { HasRoom self.old (pair_text v w after) }
-        ensures { Writes self.old (pair_text v w after) self.new }
+        ensures wrote { Writes self.old (pair_text v w after) self.new }
+        ensures lent { SamePage self.old self.new }
     {
         self.field(v, b' ');
         self.field(w, after);
@@ -70,7 +75,8 @@ impl Page<'_> {
     // Writes a refusal's line.
     pub fn refusal(&mut self, number: u32, place: u32)
         requires { HasRoom self.old (refusal_text number place) }
-        ensures { Writes self.old (refusal_text number place) self.new }
+        ensures wrote { Writes self.old (refusal_text number place) self.new }
+        ensures lent { SamePage self.old self.new }
     {
         self.put_all(b"refused ");
         self.pair(number, place, b'\n');

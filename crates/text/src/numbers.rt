@@ -1,7 +1,7 @@
 // Numbers and integers written on a page, as decimal digits.
 ghost use Rattle.std.specs.Prelude.{◌≡◌, ◌<◌, nat_abs};
 ghost use Rattle.text.specs.Text.{max_size, decimal as Text·decimal, signed as Text·signed};
-ghost use Rattle.text.specs.Page.{HasRoom, Writes};
+ghost use Rattle.text.specs.Page.{HasRoom, SamePage, Writes};
 
 use super::Page;
 
@@ -9,7 +9,8 @@ impl Page<'_> {
     // Writes the digits of v. No plainer by `write!`: that answers a `fmt::Result`, and this cannot fail.
     pub(crate) fn decimal(&mut self, v: u64)
         requires { HasRoom self.old (Text·decimal v) }
-        ensures { Writes self.old (Text·decimal v) self.new }
+        ensures wrote { Writes self.old (Text·decimal v) self.new }
+        ensures lent { SamePage self.old self.new }
     {
         let last = b'0' + (v % 10) as u8;
         if v < 10 {
@@ -23,7 +24,8 @@ impl Page<'_> {
     // Writes v, with its sign where it is below 0.
     pub(crate) fn signed(&mut self, v: i64)
         requires { (nat_abs v < max_size) × HasRoom self.old (Text·signed v) }
-        ensures { Writes self.old (Text·signed v) self.new }
+        ensures wrote { Writes self.old (Text·signed v) self.new }
+        ensures lent { SamePage self.old self.new }
     {
         let size = v.unsigned_abs();
         if v < 0 {

@@ -99,7 +99,7 @@ fn call(rt: &impl Print, row: &Row<'_>) -> io::Result<()> {
             answers::number(rt, weights::weight(table(n, a, b, c, d), x))
         }
         (b"starts-under", &[n, x], [a, b, c, d]) => {
-            out::stretch(rt, weights::starts_under(table(n, a, b, c, d), x))
+            out::stretch(rt, weights::starts_under(n, a, b, c, d, x))
         }
         (b"under", &[n, x], [a, b, c, d]) => {
             answers::stretched(rt, weights::under(table(n, a, b, c, d), x))

@@ -1,4 +1,4 @@
--- What is left of a move once the tests before it have passed, and once all have.
+-- The tests that a move begins with, what is left of it once they have passed, and once all have.
 use Rattle.std.specs.Prelude.{ℕ, ◌^◌, ◌≤◌, ◌<◌, ◌≡◌, false, [], ◌∷◌}
 use Rattle.outcomes.specs.Outcome.{Outcome, judge}
 use Rattle.runs.specs.Runs.{start_of, carry}
@@ -7,7 +7,7 @@ use Rattle.tables.specs.Parts.{Entered, Stands}
 use Rattle.walks.specs.Move.{locate_tests, step_of}
 use Rattle.walks.specs.declared.Step.{Step}
 
--- the tests before that, which a move begins with, and no step
+-- 9, 10, 12 of the length, and 11, with which a move begins, and no step
 abbrev pub locate_of : ℕ → Tables → ℕ → ℕ → Outcome (Unit {0})
 locate_of n t x i = judge (locate_tests n t x i) tt
 

@@ -9,7 +9,7 @@
 ghost use Rattle.std.specs.Prelude.{◌≡◌, ◌≤◌, false, eqb};
 ghost use Rattle.outcomes.specs.Outcome.{◌then◌else◌};
 ghost use Rattle.outcomes.specs.Refusal.{says};
-ghost use Rattle.tables.specs.Tables.{links_in, tables_in, unheld};
+ghost use Rattle.tables.specs.Tables.{links_in, tables, tables_in, unheld};
 ghost use Rattle.tables.specs.Parts.{Indexed, Entered};
 ghost use Rattle.weights.specs.Under.{under_first, weight_of, under_of, starts_under_of};
 ghost use Rattle.weights.specs.Parts.{size_under};
@@ -86,15 +86,30 @@ pub fn under(table: MoveTable<'_>, x: u32) -> Result<Stretch, Refusal>
     })
 }
 
-// The starts under x's image, as the part of the table's starts that they are; empty where `under` refuses.
-pub fn starts_under<'a>(table: MoveTable<'a>, x: u32) -> &'a [u32]
-    ensures { result.now ≡ starts_under_of table.entry.n (tables_in table.entry) x }
+// The starts under x's image, as the part of `starts` that they are; empty where `under` refuses. The columns are parameters of
+// their own here, since the answer borrows from the starts alone.
+pub fn starts_under<'a>(
+    n: u32,
+    starts: &'a [u32],
+    images: &[u32],
+    holders: &[u32],
+    lengths: &[u32],
+    x: u32,
+) -> &'a [u32]
+    ensures { result.now ≡ starts_under_of n (tables starts.now images.now holders.now lengths.now) x }
 {
+    let table = MoveTable {
+        n,
+        starts,
+        images,
+        holders,
+        lengths,
+    };
     match under(table, x) {
-        Err(_) => &table.starts[0..0],
+        Err(_) => &starts[0..0],
         Ok(s) => {
             let from = s.first as usize;
-            &table.starts[from..from + s.count as usize]
+            &starts[from..from + s.count as usize]
         }
     }
 }

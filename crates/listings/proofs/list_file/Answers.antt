@@ -6,8 +6,8 @@ use Rattle.listings.proofs.list_file.Goals as goal
 
 pub returns : goal.returns
 returns c =
-    list_copied _ c.args.text.now _ _ _ c.listing.ensures _ c.fitting-count.ensures _ _ c.copy.ensures.counts c.copy.ensures.copied
+    list_copied _ c.args.text.now _ _ _ c.listing.ensures.wrote _ c.fitting-count.ensures _ _ c.copy.ensures.counts c.copy.ensures.copied
 
 pub slice_bounds-copy-end : goal.slice_bounds-copy-end
 slice_bounds-copy-end c =
-    sym (length-take-le _ _ (copied_within _ c.args.text.now _ _ _ c.listing.ensures _ c.fitting-count.ensures))
+    sym (length-take-le _ _ (copied_within _ c.args.text.now _ _ _ c.listing.ensures.wrote _ c.fitting-count.ensures))

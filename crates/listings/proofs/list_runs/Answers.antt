@@ -10,9 +10,9 @@ answer_text-requires c = (
   c.requires.1,
 )
 
-pub returns : goal.returns
-returns c =
+pub returns-clause-wrote : goal.returns-clause-wrote
+returns-clause-wrote c =
     rw
     (answer_is c.args.h _ c.requires.0 _ _ _ c.balance-answer.ensures
     (omega arith, (omega arith, (omega arith, (omega arith, (omega arith, tt))))))
-    c.answer_text.ensures
+    c.answer_text.ensures.wrote

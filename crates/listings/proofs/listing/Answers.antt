@@ -6,8 +6,8 @@ use Rattle.listings.proofs.listing.Goals as goal
 pub list_body-requires : goal.list_body-requires
 list_body-requires c = (heading_laid _ _ _ c.in-Ok.ensures, c.requires)
 
-pub returns-in-Err : goal.returns-in-Err
-returns-in-Err c = rw (listing_refused _ _ _ c.in-Err.ensures) c.refusal_line.ensures
+pub returns-in-Err-clause-wrote : goal.returns-in-Err-clause-wrote
+returns-in-Err-clause-wrote c = rw (listing_refused _ _ _ c.in-Err.ensures) c.refusal_line.ensures.wrote
 
-pub returns-in-Ok : goal.returns-in-Ok
-returns-in-Ok c = rw (← listing_read _ _ c.in-Ok.ensures) c.list_body.ensures
+pub returns-in-Ok-clause-wrote : goal.returns-in-Ok-clause-wrote
+returns-in-Ok-clause-wrote c = rw (← listing_read _ _ c.in-Ok.ensures) c.list_body.ensures.wrote

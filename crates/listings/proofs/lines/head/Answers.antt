@@ -7,7 +7,7 @@ pub pair-requires : goal.pair-requires
 pair-requires c = fits_first _ _ _ _ (rw head_parts at c.requires)
 
 pub pair-requires-2 : goal.pair-requires-2
-pair-requires-2 c = fits_second _ _ _ _ (rw head_parts at c.requires) _ _ c.pair.ensures
+pair-requires-2 c = fits_second _ _ _ _ (rw head_parts at c.requires) _ _ c.pair.ensures.wrote
 
-pub returns : goal.returns
-returns c = rw head_parts (wrote_both _ _ _ _ (rw head_parts at c.requires) _ _ c.pair.ensures _ _ c.pair-2.ensures)
+pub returns-clause-wrote : goal.returns-clause-wrote
+returns-clause-wrote c = rw head_parts (wrote_both _ _ _ _ (rw head_parts at c.requires) _ _ c.pair.ensures.wrote _ _ c.pair-2.ensures.wrote)

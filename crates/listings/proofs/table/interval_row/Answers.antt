@@ -13,7 +13,7 @@ row-requires c =
       subst (λ (u : List ℕ). HasRoom c.args.page.now u) (sym e) c.requires.2,
     )
 
-pub returns : goal.returns
-returns c =
+pub returns-clause-wrote : goal.returns-clause-wrote
+returns-clause-wrote c =
     let e = row_bits _ (tables_in c.args.table) c.requires.0 _ c.requires.1 (omega (arith, c)) _ (record { sfits = c.shift-shift.type_inv }) c.shift-shift.ensures _ c.weight_of-weight.ensures in
-    subst (λ (u : List ℕ). Writes c.args.page.now u c.row.new.page) e c.row.ensures
+    subst (λ (u : List ℕ). Writes c.args.page.now u c.row.new.page) e c.row.ensures.wrote

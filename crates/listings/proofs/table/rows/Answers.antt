@@ -13,9 +13,9 @@ interval_row-requires c =
 
 pub loop-x-preserved : goal.loop-x-preserved
 loop-x-preserved c =
-    rows_more _ (tables_in c.args.table) c.requires.0 (omega (arith, c)) _ _ c.requires.1 _ _ _ c.loop-x.invariant c.loop-x-test.true _ _ c.interval_row.ensures
+    rows_more _ (tables_in c.args.table) c.requires.0 (omega (arith, c)) _ _ c.requires.1 _ _ _ c.loop-x.invariant c.loop-x-test.true _ _ c.interval_row.ensures.wrote
 
-pub returns : goal.returns
-returns c =
+pub returns-clause-wrote : goal.returns-clause-wrote
+returns-clause-wrote c =
     let e : c.loop-x.x ≡ length c.args.table.starts.now = omega (arith, c.loop-x.invariant.within) in
     rw e at c.loop-x.invariant.wrote

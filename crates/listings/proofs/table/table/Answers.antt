@@ -63,10 +63,10 @@ pub rows-requires : goal.rows-requires
 rows-requires c = (
   c.requires.0.listed,
   rows_fit c.args.h c.args.size c.args.lent c.requires.0 c.args.page.now c.requires.1
-      (omega (arith, c)) (omega (arith, c)) (omega (arith, c)) c.ranges.size.fits c.head.new.page c.head.ensures,
+      (omega (arith, c)) (omega (arith, c)) (omega (arith, c)) c.ranges.size.fits c.head.new.page c.head.ensures.wrote,
 )
 
-pub returns : goal.returns
-returns c =
+pub returns-clause-wrote : goal.returns-clause-wrote
+returns-clause-wrote c =
     table_wrote c.args.h c.args.size c.args.lent c.requires.0 c.args.page.now c.requires.1
-    (omega (arith, c)) (omega (arith, c)) (omega (arith, c)) c.ranges.size.fits c.head.new.page c.head.ensures c.rows.new.page c.rows.ensures
+    (omega (arith, c)) (omega (arith, c)) (omega (arith, c)) c.ranges.size.fits c.head.new.page c.head.ensures.wrote c.rows.new.page c.rows.ensures.wrote

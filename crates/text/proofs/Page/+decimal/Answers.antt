@@ -7,8 +7,8 @@ use Rattle.text.proofs.Page.+decimal.Goals as goal
 pub put-requires : goal.put-requires
 put-requires t c = rw (decimal_small c.args.v c.if-v-lt10.true) at c.requires
 
-pub returns-then-v-lt10 : goal.returns-then-v-lt10
-returns-then-v-lt10 t c = rw (decimal_small c.args.v c.if-v-lt10.true) c.put.ensures
+pub returns-then-v-lt10-clause-wrote : goal.returns-then-v-lt10-clause-wrote
+returns-then-v-lt10-clause-wrote t c = rw (decimal_small c.args.v c.if-v-lt10.true) c.put.ensures.wrote
 
 pub decimal-requires : goal.decimal-requires
 decimal-requires t c =
@@ -16,9 +16,9 @@ decimal-requires t c =
 
 pub put-requires-else-v-lt10 : goal.put-requires-else-v-lt10
 put-requires-else-v-lt10 t c =
-    fits_second _ _ _ _ (rw (decimal_large c.args.v c.if-v-lt10.false c.ranges.v.fits) at c.requires) _ _ c.decimal.ensures
+    fits_second _ _ _ _ (rw (decimal_large c.args.v c.if-v-lt10.false c.ranges.v.fits) at c.requires) _ _ c.decimal.ensures.wrote
 
-pub returns-else-v-lt10 : goal.returns-else-v-lt10
-returns-else-v-lt10 t c =
+pub returns-else-v-lt10-clause-wrote : goal.returns-else-v-lt10-clause-wrote
+returns-else-v-lt10-clause-wrote t c =
     let e = decimal_large c.args.v c.if-v-lt10.false c.ranges.v.fits in
-    rw e (wrote_both _ _ _ _ (rw e at c.requires) _ _ c.decimal.ensures _ _ c.put-else-v-lt10.ensures)
+    rw e (wrote_both _ _ _ _ (rw e at c.requires) _ _ c.decimal.ensures.wrote _ _ c.put-else-v-lt10.ensures.wrote)

@@ -3,7 +3,7 @@ use Rattle.text.proofs.Writing.{fits_second, wrote_both}
 use Rattle.text.proofs.Page.field.Goals as goal
 
 pub put-requires : goal.put-requires
-put-requires c = fits_second _ _ _ _ c.requires _ _ (rw c.from.ensures at c.decimal.ensures)
+put-requires c = fits_second _ _ _ _ c.requires _ _ (rw c.from.ensures at c.decimal.ensures.wrote)
 
-pub returns : goal.returns
-returns c = wrote_both _ _ _ _ c.requires _ _ (rw c.from.ensures at c.decimal.ensures) _ _ c.put.ensures
+pub returns-clause-wrote : goal.returns-clause-wrote
+returns-clause-wrote c = wrote_both _ _ _ _ c.requires _ _ (rw c.from.ensures at c.decimal.ensures.wrote) _ _ c.put.ensures.wrote

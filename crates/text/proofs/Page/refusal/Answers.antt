@@ -8,7 +8,7 @@ abbrev word : List ℕ
 word = 114 ∷ 101 ∷ 102 ∷ 117 ∷ 115 ∷ 101 ∷ 100 ∷ 32 ∷ []
 
 pub pair-requires : goal.pair-requires
-pair-requires c = fits_second _ _ word _ c.requires _ _ c.put_all.ensures
+pair-requires c = fits_second _ _ word _ c.requires _ _ c.put_all.ensures.wrote
 
-pub returns : goal.returns
-returns c = wrote_both _ _ word _ c.requires _ _ c.put_all.ensures _ _ c.pair.ensures
+pub returns-clause-wrote : goal.returns-clause-wrote
+returns-clause-wrote c = wrote_both _ _ word _ c.requires _ _ c.put_all.ensures.wrote _ _ c.pair.ensures.wrote
