@@ -11,6 +11,7 @@ ghost use Rattle.balance.specs.Lent.{lent};
 ghost use Rattle.export_balance.specs.Answers.{BalanceAnswered, ForecastAnswered, DegreeAnswered};
 
 use runs::RunList;
+use tables::MoveTableMut;
 
 // The answer of balance: how many intervals the balanced list has.
 #[repr(C)]
@@ -61,9 +62,13 @@ pub extern "C" fn zibewoka_balance(
         working.new) result }
 {
     let list = RunList { n, starts, images };
-    answers::of_balance(balance::balance(
-        list, d, to_starts, to_images, to_holders, to_lengths, working,
-    ))
+    let mut to = MoveTableMut {
+        starts: to_starts,
+        images: to_images,
+        holders: to_holders,
+        lengths: to_lengths,
+    };
+    answers::of_balance(balance::balance(list, d, &mut to, working))
 }
 
 // How large a list will be at a degree, over a lent working table.
