@@ -3,7 +3,8 @@ use Rattle.std.specs.Prelude.{ℕ, ◌≤◌, ◌≡◌, List, [], ◌∷◌, �
 use Rattle.outcomes.specs.Outcome.{Outcome, done, refused, Test, Long, short_test, judge, map_done, over}
 use Rattle.outcomes.specs.Refusal.{says as Refusal·says}
 use Rattle.runs.specs.Runs.{Runs, count_of}
-use Rattle.tables.specs.Tables.{Tables, tables, tables_of, size_of, all_columns, each_column, each_pair}
+use Rattle.tables.specs.Tables.{Tables, tables, tables_to, tables_of, size_of, all_columns, each_column, each_pair}
+use Rattle.tables.specs.declared.MoveTableMut.{MoveTableMut}
 use Rattle.cuts.specs.Balance.{balanced, size_at}
 use Rattle.plans.specs.Working.{working_size, plan_tests, cleared_by}
 use Rattle.outcomes.specs.declared.Refusal.{Refusal}
@@ -15,6 +16,9 @@ pub record Lent : Type 0 where
 
 abbrev pub lent : List ℕ → List ℕ → List ℕ → List ℕ → List ℕ → Lent
 lent s i h l w = record { tables = tables s i h l; working = w }
+
+abbrev pub lent_in : MoveTableMut → List ℕ → Lent
+lent_in t w = record { tables = tables_to t; working = w }
 
 -- all that is lent, the working table last
 abbrev pub lent_columns : Lent → List (List ℕ)

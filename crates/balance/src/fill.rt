@@ -61,7 +61,7 @@ fn copy_up_to(
 }
 
 // Writes the starts and the cuts in rising order, and their images. The runs up to a cut are copied, then the cut is written. So a
-// list with no cut is copied whole, and no entry of it is compared.
+// list with no cut is copied whole, and no entry of it is compared. The two tables come one by one, as `write_tables` has them.
 fn write_list(list: RunList<'_>, cuts: &[u32], to_starts: &mut [u32], to_images: &mut [u32])
     requires { Legal list.n (runs_in list) × Starts list.n list.starts.now cuts.now
         × (length list.starts.now + length cuts.now ≤ length to_starts.old)
@@ -106,8 +106,8 @@ fn write_holders_and_lengths(list: RunList<'_>, to_holders: &mut [u32], to_lengt
     write_lengths(list.n, list.starts, to_lengths);
 }
 
-// Writes the tables of the list after the cuts. The four stay parameters of their own: a struct of mutable slices would be no plainer,
-// since the first two are written and then read while the others are written.
+// Writes the tables of the list after the cuts. The four stay parameters of their own: with tables::MoveTableMut the proof didn't close
+// here, since the first two are read while the others are written, and what such fields hold at exit is then not known.
 pub(crate) fn write_tables(
     list: RunList<'_>,
     cuts: &[u32],

@@ -11,13 +11,14 @@ mod fill;
 ghost use Rattle.std.specs.Prelude.{◌≡◌, ◌+◌, length};
 ghost use Rattle.outcomes.specs.Outcome.{some_below};
 ghost use Rattle.runs.specs.Runs.{runs_in};
-ghost use Rattle.tables.specs.Tables.{tables, tables_of};
+ghost use Rattle.tables.specs.Tables.{tables_to, tables_of, SameColumns};
 ghost use Rattle.cuts.specs.Cuts.{with_cuts};
-ghost use Rattle.balance.specs.Lent.{lent, Balances};
+ghost use Rattle.balance.specs.Lent.{lent_in, Balances};
 ghost use Rattle.balance.specs.Parts.{Fillable, Fills};
 
 use outcomes::Refusal;
 use runs::RunList;
+use tables::MoveTableMut;
 
 // Whether one of the sizes of the four tables is below `size`.
 fn is_any_short(size: usize, sizes: [usize; 4]) -> bool
@@ -27,31 +28,28 @@ fn is_any_short(size: usize, sizes: [usize; 4]) -> bool
 }
 
 // Test 8 for the four tables, and the tables of the list after the cuts. Answers how many intervals they have.
-fn fill_tables(
-    list: RunList<'_>,
-    cuts: &[u32],
-    to_starts: &mut [u32],
-    to_images: &mut [u32],
-    to_holders: &mut [u32],
-    to_lengths: &mut [u32],
-) -> Result<u32, Refusal>
+fn fill_tables(list: RunList<'_>, cuts: &[u32], to: &mut MoveTableMut<'_>) -> Result<u32, Refusal>
     requires { Fillable list.n (runs_in list) cuts.now }
-    ensures { Fills (length list.entry.starts.now + length cuts.now)
+    ensures filled { Fills (length list.entry.starts.now + length cuts.now)
         (tables_of list.entry.n (with_cuts list.entry.n (runs_in list.entry) cuts.now))
-        (tables to_starts.old to_images.old to_holders.old to_lengths.old)
-        (tables to_starts.new to_images.new to_holders.new to_lengths.new) result }
+        (tables_to to.old) (tables_to to.new) result }
+    ensures lent { SameColumns to.old to.new }
 {
     let size = list.starts.len() + cuts.len();
     let sizes = [
-        to_starts.len(),
-        to_images.len(),
-        to_holders.len(),
-        to_lengths.len(),
+        to.starts.len(),
+        to.images.len(),
+        to.holders.len(),
+        to.lengths.len(),
     ];
     if is_any_short(size, sizes) {
         return Err(Refusal::ShortTable(size as u32));
     }
-    fill::write_tables(list, cuts, to_starts, to_images, to_holders, to_lengths);
+    let starts = &mut *to.starts;
+    let images = &mut *to.images;
+    let holders = &mut *to.holders;
+    let lengths = &mut *to.lengths;
+    fill::write_tables(list, cuts, starts, images, holders, lengths);
     Ok(size as u32)
 }
 
@@ -62,21 +60,16 @@ fn fill_tables(
 pub fn balance(
     list: RunList<'_>,
     d: u32,
-    to_starts: &mut [u32],
-    to_images: &mut [u32],
-    to_holders: &mut [u32],
-    to_lengths: &mut [u32],
+    to: &mut MoveTableMut<'_>,
     working: &mut [u32],
 ) -> Result<u32, Refusal>
-    ensures { Balances list.entry.n (runs_in list.entry) d
-        (lent to_starts.old to_images.old to_holders.old to_lengths.old
-        working.old)
-        (lent to_starts.new to_images.new to_holders.new to_lengths.new
-        working.new) result }
+    ensures balanced { Balances list.entry.n (runs_in list.entry) d
+        (lent_in to.old working.old) (lent_in to.new working.new) result }
+    ensures lent { SameColumns to.old to.new }
 {
     let plan = plans::plan(list, plans::NO_LIMIT, d, working)?;
     let cuts = &working[..plan.cuts];
-    let answer = fill_tables(list, cuts, to_starts, to_images, to_holders, to_lengths);
+    let answer = fill_tables(list, cuts, to);
     plans::clear(d, list.starts.len(), working);
     answer
 }

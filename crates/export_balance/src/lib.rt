@@ -13,6 +13,7 @@ ghost use Rattle.export_balance.specs.Answers.{balance_answer, forecast_answer, 
 use forecasts::{BalancedSize, LeastDegree};
 use outcomes::Refusal;
 use runs::RunList;
+use tables::MoveTableMut;
 
 // The answer of balance: how many intervals the balanced list has.
 #[repr(C)]
@@ -124,9 +125,13 @@ pub extern "C" fn zibewoka_balance(
         working.new) result }
 {
     let list = RunList { n, starts, images };
-    BalanceAnswer::from(balance::balance(
-        list, d, to_starts, to_images, to_holders, to_lengths, working,
-    ))
+    let mut to = MoveTableMut {
+        starts: to_starts,
+        images: to_images,
+        holders: to_holders,
+        lengths: to_lengths,
+    };
+    BalanceAnswer::from(balance::balance(list, d, &mut to, working))
 }
 
 // How large a list will be at a degree, over a lent working table.

@@ -54,10 +54,7 @@ pub fn write_folded(list: RunList<'_>, to: &mut RunListMut<'_>) -> usize
 }
 
 // Test 8 of an accepted list, and its fold where the tables have room.
-fn fold_accepted(
-    list: RunList<'_>,
-    to: &mut RunListMut<'_>,
-) -> Result<u32, Refusal>
+fn fold_accepted(list: RunList<'_>, to: &mut RunListMut<'_>) -> Result<u32, Refusal>
     requires { Foldable (runs_in list) × (length list.starts.now ≤ max_runs) }
     ensures written { WritesList says count_of
         (if_room (count_of (runs_in list.entry)) (folded (runs_in list.entry)) to.old.starts.now to.old.images.now)

@@ -3,6 +3,7 @@ use super::answers;
 use rows::out;
 use runs::{RunList, RunListMut};
 use std::io;
+use tables::MoveTableMut;
 
 // Lends a table to a call that prints its answer, and prints what the table holds then.
 pub(crate) fn with_table<F: FnOnce(&mut [u32]) -> io::Result<()>>(
@@ -45,24 +46,23 @@ pub(crate) fn balance(
     d: u32,
     sizes: [u32; 5],
 ) -> io::Result<()> {
-    let mut to_starts = [7u32; 256];
-    let mut to_images = [7u32; 256];
-    let mut to_holders = [7u32; 256];
-    let mut to_lengths = [7u32; 256];
+    let mut starts = [7u32; 256];
+    let mut images = [7u32; 256];
+    let mut holders = [7u32; 256];
+    let mut lengths = [7u32; 256];
     let mut working = [7u32; 256];
-    let to_starts = &mut to_starts[..rows::size(sizes[0])];
-    let to_images = &mut to_images[..rows::size(sizes[1])];
-    let to_holders = &mut to_holders[..rows::size(sizes[2])];
-    let to_lengths = &mut to_lengths[..rows::size(sizes[3])];
+    let mut to = MoveTableMut {
+        starts: &mut starts[..rows::size(sizes[0])],
+        images: &mut images[..rows::size(sizes[1])],
+        holders: &mut holders[..rows::size(sizes[2])],
+        lengths: &mut lengths[..rows::size(sizes[3])],
+    };
     let working = &mut working[..rows::size(sizes[4])];
-    let answer = balance::balance(
-        list, d, to_starts, to_images, to_holders, to_lengths, working,
-    );
-    answers::count(rt, answer)?;
-    out::now(rt, to_starts)?;
-    out::now(rt, to_images)?;
-    out::now(rt, to_holders)?;
-    out::now(rt, to_lengths)?;
+    answers::count(rt, balance::balance(list, d, &mut to, working))?;
+    out::now(rt, to.starts)?;
+    out::now(rt, to.images)?;
+    out::now(rt, to.holders)?;
+    out::now(rt, to.lengths)?;
     out::now(rt, working)
 }
 

@@ -3,18 +3,19 @@
 use Prim.Native.Nat.{ℕ, zero, suc, ◌-◌, ◌*◌, ◌≤◌}
 use mathlib.Core.Path.{◌≡◌, refl, sym, ap, subst, ◌∙◌}
 use mathlib.Core.Bool.{Bool, true, false}
+use mathlib.Core.List.{List}
 use native.Mathlib.Omega.{arith}
 use native.Mathlib.Nat.{div-le_of_le-mul}
 use Rattle.outcomes.specs.Outcome.{Outcome, done, refused, Long, map_done, and_then}
 use Rattle.outcomes.specs.Refusal.{number_of, place_of, says}
-use Rattle.runs.specs.Runs.{Runs, count_of}
+use Rattle.runs.specs.Runs.{Runs, runs, count_of}
 use Rattle.runs.specs.Check.{check_of}
 use Rattle.outcomes.specs.declared.Refusal.{Refusal}
 use Rattle.outcomes.proofs.Judging.{done_refused, long_less}
 use Rattle.outcomes.specs.Degree.{no_degree}
 use Rattle.outcomes.proofs.Degrees.{degree_in}
 use Rattle.runs.proofs.Accepted.{accepted_legal}
-use Rattle.tables.specs.Tables.{Tables, tables_of}
+use Rattle.tables.specs.Tables.{Tables, tables, tables_of}
 use Rattle.cuts.specs.Balance.{balanced, bound_of}
 use Rattle.std.specs.Prelude.{Result, Ok, Err}
 use Rattle.balance.specs.Lent.{Lent, lent_columns, Room, first_of, balance_of, interval_count, Balances}
@@ -22,6 +23,7 @@ use Rattle.plans.proofs.Outcomes.{sized_degree, planned_refused, planned_accepte
 use Rattle.balance.proofs.Outcomes.{balance_refused, balance_done, room_in_bound}
 use Rattle.cuts.proofs.Balancing.{balanced_legal, balanced_cuts}
 use Rattle.balance.proofs.Heads.{head_is, head_room}
+use Rattle.text.specs.Page.{Wrote}
 use Rattle.files.specs.Parts.{degree_of, listed_of}
 use Rattle.files.specs.declared.Header.{Header}
 use Rattle.files.proofs.Bodies.{degree_passed, degree_refused, listed_done}
@@ -126,8 +128,21 @@ module _ (h : Header) (r : Runs) (few : count_of r ≤ max_listed) (entry : Lent
 
 module _ (h : Header) (r : Runs) (few : count_of r ≤ max_listed) (entry exit : Lent) (answer : Result ℕ Refusal)
     (b : Balances h.n r h.d entry exit answer) (s : Long max_tabled (lent_columns entry)) where
-  pub answered : Answered h.n answer exit.tables
+  answered : Answered h.n answer exit.tables
   answered k q = (heads h r few entry s exit answer b k q).0
 
-  pub answer_is : list_text r (listed_of h r) ≡ answer_text h answer exit.tables.links.list
+  answer_is : list_text r (listed_of h r) ≡ answer_text h answer exit.tables.links.list
   answer_is = text_is h r few entry s exit answer b
+
+  -- the same of lists that are read later, where they are what the tables hold at exit
+  pub answered_of : (starts images holders lengths : List ℕ) → starts ≡ exit.tables.links.list.starts
+      → images ≡ exit.tables.links.list.images → holders ≡ exit.tables.links.holders → lengths ≡ exit.tables.lengths
+      → Answered h.n answer (tables starts images holders lengths)
+  answered_of starts images holders lengths p q v w =
+      subst (λ (t : Tables). Answered h.n answer t) (sym (λ j. tables (p j) (q j) (v j) (w j))) answered
+
+  pub text_of : (starts images page page' : List ℕ) (at end : ℕ)
+      → Wrote page at (answer_text h answer (runs starts images)) page' end
+      → starts ≡ exit.tables.links.list.starts → images ≡ exit.tables.links.list.images
+      → Wrote page at (list_text r (listed_of h r)) page' end
+  text_of starts images page page' at end t p q = rw (answer_is ∙ sym (λ j. answer_text h answer (runs (p j) (q j)))) t

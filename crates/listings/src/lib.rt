@@ -23,7 +23,7 @@ use files::Header;
 use outcomes::Refusal;
 use runs::RunList;
 use table::table;
-use tables::MoveTable;
+use tables::{MoveTable, MoveTableMut};
 use text::Page;
 
 // The most runs that are listed.
@@ -75,15 +75,13 @@ fn list_runs(page: &mut Page<'_>, h: Header, starts: &[u32], images: &[u32])
     let mut to_holders = [0; MAX_TABLED];
     let mut to_lengths = [0; MAX_TABLED];
     let mut working = [0; MAX_TABLED];
-    let answer = balance::balance(
-        list,
-        h.d,
-        &mut to_starts,
-        &mut to_images,
-        &mut to_holders,
-        &mut to_lengths,
-        &mut working,
-    );
+    let mut to = MoveTableMut {
+        starts: &mut to_starts,
+        images: &mut to_images,
+        holders: &mut to_holders,
+        lengths: &mut to_lengths,
+    };
+    let answer = balance::balance(list, h.d, &mut to, &mut working);
     let lent = MoveTable {
         n: h.n,
         starts: &to_starts,

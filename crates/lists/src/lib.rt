@@ -36,10 +36,7 @@ fn check_apart<const N: usize>(list: RunList<'_>) -> Result<(), Refusal>
 }
 
 // Tests 1 to 6 and 8 and the inverse list, in tables of N entries.
-fn invert_in<const N: usize>(
-    list: RunList<'_>,
-    to: &mut RunListMut<'_>,
-) -> Result<(), Refusal>
+fn invert_in<const N: usize>(list: RunList<'_>, to: &mut RunListMut<'_>) -> Result<(), Refusal>
     requires { (N ≤ max_runs) × (length list.starts.now ≤ max_runs → length list.starts.now ≤ N) }
     ensures listed { InverseListed list.entry.n (runs_in list.entry)
         to.old.starts.now to.old.images.now to.new.starts.now to.new.images.now result }
@@ -53,10 +50,7 @@ fn invert_in<const N: usize>(
 
 // The same with a frame of its own.
 #[inline(never)]
-fn invert_apart<const N: usize>(
-    list: RunList<'_>,
-    to: &mut RunListMut<'_>,
-) -> Result<(), Refusal>
+fn invert_apart<const N: usize>(list: RunList<'_>, to: &mut RunListMut<'_>) -> Result<(), Refusal>
     requires { (N ≤ max_runs) × (length list.starts.now ≤ max_runs → length list.starts.now ≤ N) }
     ensures listed { InverseListed list.entry.n (runs_in list.entry)
         to.old.starts.now to.old.images.now to.new.starts.now to.new.images.now result }
@@ -84,10 +78,7 @@ pub fn check(list: RunList<'_>) -> Result<(), Refusal>
 }
 
 // Writes the inverse list to the first k entries of two tables, and leaves the others. Tests 1 to 6 and 8.
-pub fn inverse_list(
-    list: RunList<'_>,
-    to: &mut RunListMut<'_>,
-) -> Result<(), Refusal>
+pub fn inverse_list(list: RunList<'_>, to: &mut RunListMut<'_>) -> Result<(), Refusal>
     ensures listed { InverseListed list.entry.n (runs_in list.entry)
         to.old.starts.now to.old.images.now to.new.starts.now to.new.images.now result }
     ensures lent { SameTables to.old to.new }

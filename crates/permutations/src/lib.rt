@@ -48,10 +48,7 @@ fn write_next(values: &[u32], to: &mut RunListMut<'_>) -> Result<u32, Refusal>
 }
 
 // Tests 8 and 18 of an accepted list of few places, and the next one.
-fn next_accepted(
-    list: RunList<'_>,
-    to: &mut RunListMut<'_>,
-) -> Result<u32, Refusal>
+fn next_accepted(list: RunList<'_>, to: &mut RunListMut<'_>) -> Result<u32, Refusal>
     requires { (done tt ≡ check_of list.n (runs_in list)) × (list.n ≤ max_places) }
     ensures written { WritesList says count_of
         (later_of list.entry.n (runs_in list.entry) to.old.starts.now to.old.images.now)
@@ -89,10 +86,7 @@ fn refuse(list: RunList<'_>) -> Result<u32, Refusal>
 // Writes the next list to the first entries of two tables of at least n entries, and leaves the others. Answers how many runs it has.
 // Tests 1 to 6, 17, 8 and 18; a refused call changes nothing. More than seven runs on at most seven places: one of tests 1 to 4 refuses
 // the list.
-pub fn next_list(
-    list: RunList<'_>,
-    to: &mut RunListMut<'_>,
-) -> Result<u32, Refusal>
+pub fn next_list(list: RunList<'_>, to: &mut RunListMut<'_>) -> Result<u32, Refusal>
     ensures listed { NextListed list.entry.n (runs_in list.entry)
         to.old.starts.now to.old.images.now to.new.starts.now to.new.images.now result }
     ensures lent { SameTables to.old to.new }

@@ -1,10 +1,11 @@
 -- Move tables (document 01, "The collection's objects", with the lengths of document 02, A.7), and the tests of 9 to 12 on any
 -- numbers in them.
-use Rattle.std.specs.Prelude.{ℕ, suc, ◌+◌, ◌-◌, Bool, false, not, ◌||◌, List, [], ◌∷◌, map, length, ◌==◌, nat_le, nat_lt, slice_index, slice_index_or}
+use Rattle.std.specs.Prelude.{ℕ, suc, ◌+◌, ◌-◌, ◌≡◌, Bool, false, not, ◌||◌, List, [], ◌∷◌, map, length, ◌==◌, nat_le, nat_lt, slice_index, slice_index_or}
 use Rattle.outcomes.specs.Outcome.{Test, test}
 use Rattle.runs.specs.Runs.{Runs, runs, count_of, start_of, image_of, run_at, carry}
 use Rattle.runs.specs.Check.{lowest}
 use Rattle.tables.specs.declared.MoveTable.{MoveTable}
+use Rattle.tables.specs.declared.MoveTableMut.{MoveTableMut}
 
 -- what a walk follows: starts, images and holders
 pub record Links : Type 0 where
@@ -28,6 +29,15 @@ tables_in t = tables t.starts.now t.images.now t.holders.now t.lengths.now
 
 abbrev pub links_in : MoveTable → Links
 links_in t = links t.starts.now t.images.now t.holders.now
+
+-- the tables that are lent to be written; and they are at exit still those that were lent
+abbrev pub tables_to : MoveTableMut → Tables
+tables_to t = tables t.starts.now t.images.now t.holders.now t.lengths.now
+
+abbrev pub SameColumns : MoveTableMut → MoveTableMut → Type 0
+SameColumns t t' =
+    (t'.starts.ghost_name ≡ t.starts.ghost_name) × (t'.images.ghost_name ≡ t.images.ghost_name)
+    × (t'.holders.ghost_name ≡ t.holders.ghost_name) × (t'.lengths.ghost_name ≡ t.lengths.ghost_name)
 
 -- the links of a list: an interval's holder is the index of the interval that has its image
 abbrev pub links_of : ℕ → Runs → Links

@@ -23,6 +23,15 @@ pub struct MoveTable<'a> {
     pub lengths: &'a [u32],
 }
 
+// Four tables that a caller lends for the columns of a move table that is to be written.
+#[derive(Drop)]
+pub struct MoveTableMut<'a> {
+    pub starts: &'a mut [u32],
+    pub images: &'a mut [u32],
+    pub holders: &'a mut [u32],
+    pub lengths: &'a mut [u32],
+}
+
 impl<'a> MoveTable<'a> {
     // Test 9.
     #[tactic(auto, unfolding(crate::specs::Tables::misshapen))]
