@@ -15,23 +15,18 @@ use Rattle.merging.specs.Marks.{At}
 use Rattle.merging.proofs.Merged.{at_sum, at_own, at_counts}
 use Rattle.cuts.specs.Cuts.{with_cuts}
 use Rattle.cuts.specs.Marks.{Lookable, Looks}
-use Rattle.cuts.specs.Parts.{Edge, PieceAt, FrontAt, PassesLight}
+use Rattle.cuts.specs.Parts.{PieceAt, PassesLight}
 use Rattle.cuts.specs.Ranks.{Ranked}
 use Rattle.cuts.specs.declared.Piece.{Piece}
 use Rattle.cuts.specs.declared.Looked.{Looked}
 use Rattle.cuts.specs.declared.Front.{Front}
 use Rattle.cuts.proofs.Swept.{SweptTo, image_one, edge_end, edge_at, steps_less}
 use Rattle.cuts.proofs.Cutlist.{with_legal}
-use Rattle.cuts.proofs.Ahead.{AtRank, front_rank, front_piece, front_passed}
+use Rattle.cuts.proofs.Ahead.{front_piece, front_passed}
 use Rattle.cuts.proofs.Progress.{Progress, turns_left, piece_to, looked_light}
 
 module _ (d n : ℕ) (r : Runs) (order ranked cuts : List ℕ) (c : Ranked n r order ranked)
     (s : Starts n r.starts cuts) where
-  pub light_none : (front : Front) → FrontAt n r ranked cuts front → Edge n (with_cuts n r cuts) front.q
-      → front.q ≤ n → PassesLight d n r ranked cuts front front
-  light_none front f e l =
-      record { at = f; on = omega arith; within = l; edge = e; light = λ x h a b. absurd (omega arith) }
-
   -- the piece at the front, which has come there past light ones
   module _ (front at : Front) (g : PassesLight d n r ranked cuts front at) (h : at.q < n) where
     abbrev piece : Piece
@@ -48,11 +43,8 @@ module _ (d n : ℕ) (r : Runs) (order ranked cuts : List ℕ) (c : Ranked n r o
     summed : at.mark.starts + at.mark.cuts ≡ count_below at.q (merged r.starts cuts)
     summed = at_sum n r.starts cuts s at.mark _ marked
 
-    pub light_rank : AtRank n r order ranked at.rank
-    light_rank = front_rank n r order ranked c cuts s at g.at h
-
     module _ (to : ℕ) (e : to ≡ get_or ranked (at.rank + 1) n) where
-      pub light_further : at.q < to
+      light_further : at.q < to
       light_further = omega (arith, g.at.to h)
 
       pub light_lookable : 0 < d → d ≤ 64 → Lookable n r.starts cuts at.mark d to

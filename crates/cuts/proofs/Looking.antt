@@ -45,18 +45,6 @@ module _ (n d t : ℕ) (S C : List ℕ) (s : Starts n S C) (mark middle last : M
       go (inl l) = let k = f.stopped l in g.stopped (omega (arith, g.below))
       go (inr l) = g.stopped (omega arith)
 
-  pub look_heavy : mark.starts + mark.cuts + 2 * d ≤ last.starts + last.cuts
-      → (to : ℕ) → to ≡ get_or (merged S C) (middle.starts + middle.cuts) n
-      → Looks n S C mark d t (record { heavy = true; to = to; mark = middle })
-  look_heavy h to e =
-      let k : middle.starts + middle.cuts ≡ mark.starts + mark.cuts + d = omega (arith, g.far, f.far) in
-      record {
-        light = λ z. absurd (false≢true (sym z));
-        weighs = λ z. (omega (arith, g.below), e ∙ ap (λ (i : ℕ). get_or (merged S C) i n) k);
-        starts_before = f.at.starts_before ∙ ap (λ (p : ℕ). count_below p S) (sym e);
-        cuts_before = f.at.cuts_before ∙ ap (λ (p : ℕ). count_below p C) (sym e);
-      }
-
 -- whether the entry at i is below t, for one that is past no more than the entries below t
 pub below_stop : (S : List ℕ) → Sorted S → (n t i : ℕ) → t ≤ get_or S i n → count_below t S ≤ i
 below_stop S s n t i l = go (lt_or_le i (count_below t S))

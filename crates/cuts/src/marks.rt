@@ -40,6 +40,7 @@ fn skip(entries: Entries<'_>, mark: Mark, count: usize, to: u32) -> Mark
 }
 
 // Two looks of `d` entries each, from the mark on up to `to`.
+#[tactic(auto, using(merging::proofs::Merged::merged_length))]
 fn look_at_both(entries: Entries<'_>, mark: Mark, d: usize, to: u32) -> Looked
     requires { Lookable entries.n entries.starts.now entries.cuts.now mark d to }
     ensures { Looks entries.entry.n entries.entry.starts.now entries.entry.cuts.now mark d to result }

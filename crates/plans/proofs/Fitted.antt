@@ -44,9 +44,6 @@ module _ (n : ℕ) (r : Runs) (entries low : ℕ) (order spare entry : List ℕ)
   least_is d o high fit = from_only (fits n r entries) (65 - low) low d o.from (omega (arith, o.from))
       (le-leb (size_at n r d) entries fit) (λ z a b. lt-leb (size_at n r z) entries (o.none z a b))
 
-  pub seeking_first : (first : First) → Opens n r low entries first → Seeking n r entries low entry entry first.degree
-  seeking_first first o = record { ruled = o.ruled; rest = refl; sized = refl }
-
   module _ (working : List ℕ) (d : ℕ) (i : Seeking n r entries low entry working d) where
     pub seeking_cuttable : (ranked : List ℕ) → length ranked ≡ length spare → d ≤ 64 → Cuttable n r order ranked d working
     seeking_cuttable ranked e h =

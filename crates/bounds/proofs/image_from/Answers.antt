@@ -1,7 +1,7 @@
 use Rattle.std.proofs.Common.{sym, ◌∙◌, arith}
 use Rattle.runs.specs.Runs.{runs_in}
 use Rattle.runs.proofs.Ranking.{ordered_room, entry_below, entry_image}
-use Rattle.bounds.proofs.Passing.{from_held, from_end}
+use Rattle.bounds.proofs.Passing.{from_held}
 use Rattle.bounds.proofs.image_from.Goals as goal
 
 pub bounds-order-j : goal.bounds-order-j
@@ -14,6 +14,3 @@ pub returns-then-j-list : goal.returns-then-j-list
 returns-then-j-list c =
     entry_image _ _ c.requires c.args.j c.if-j-list.true
     ∙ sym (from_held c.args.list.n (runs_in c.args.list) c.requires.paired c.args.j c.if-j-list.true)
-
-pub returns-else-j-list : goal.returns-else-j-list
-returns-else-j-list c = sym (from_end c.args.list.n (runs_in c.args.list) c.requires.paired c.args.j c.if-j-list.false)

@@ -22,12 +22,6 @@ bounds-self-rank-2 c =
     let a = front_rank _ _ _ _ c.requires.0.ranked _ c.requires.0.starts _ c.requires.1 b in
     omega (arith, a.below, a.in_ranked)
 
-pub overflow_sub-result : goal.overflow_sub-result
-overflow_sub-result c =
-    let b = begins_below _ _ _ c.requires.0.ranked.legal c.requires.0.starts _ c.requires.2 in
-    let a = front_rank _ _ _ _ c.requires.0.ranked _ c.requires.0.starts _ c.requires.1 b in
-    omega (arith, a.image_is, a.first, c.requires.1.from)
-
 pub overflow_add-result : goal.overflow_add-result
 overflow_add-result c =
     let l = c.args.self in

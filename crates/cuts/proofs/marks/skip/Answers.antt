@@ -2,9 +2,6 @@ use Rattle.std.proofs.Common.{arith}
 use Rattle.merging.proofs.Merged.{at_sum, at_own, at_stop, at_go}
 use Rattle.cuts.proofs.marks.skip.Goals as goal
 
-pub step-step-requires : goal.step-step-requires
-step-step-requires c = (c.requires.0, c.loop.invariant.0)
-
 pub returns-then-to-step : goal.returns-then-to-step
 returns-then-to-step c =
     let l = c.loop in
@@ -19,8 +16,3 @@ loop-preserved c =
     let b = c.step-step.ensures.behind m.0 in
     let s = at_sum _ _ _ c.requires.0 _ _ b in
     (at_own _ _ _ c.requires.0 _ _ b, omega (arith, l.invariant.1), omega (arith, m.1))
-
-pub returns : goal.returns
-returns c =
-    let l = c.loop in
-    record { at = l.invariant.0; below = l.invariant.2; far = omega (arith, l.invariant); stopped = λ z. absurd (omega (arith, l.invariant)) }

@@ -9,10 +9,6 @@ pub loop-at-init : goal.loop-at-init
 loop-at-init c =
     turning_start _ _ _ _ _ _ c.requires.0 c.requires.1 c.requires.2 c.requires.3 _ _ c.first.ensures c.at_front-at.ensures
 
-pub slice_bounds-cuts-end : goal.slice_bounds-cuts-end
-slice_bounds-cuts-end c =
-    c.loop-at.invariant.progress.fits
-
 pub here-here-requires : goal.here-here-requires
 here-here-requires c = (
   record { ranked = c.requires.0; starts = c.loop-at.invariant.progress.starts },
@@ -23,10 +19,6 @@ here-here-requires c = (
 pub look-looked-requires : goal.look-looked-requires
 look-looked-requires c =
     rw c.entries.ensures (turning_lookable _ _ _ _ _ _ c.requires.0 c.requires.1 c.requires.2 c.requires.3 _ _ _ c.loop-at.invariant c.loop-at-test.true _ c.here-here.ensures)
-
-pub pass-front-requires : goal.pass-front-requires
-pass-front-requires c =
-    omega (arith, c.loop-at.invariant.front.most)
 
 pub overflow_sub-u : goal.overflow_sub-u
 overflow_sub-u c =

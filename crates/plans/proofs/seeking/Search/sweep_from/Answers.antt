@@ -1,22 +1,14 @@
 -- Each turn is a degree more that leaves too many intervals.
 use Rattle.std.proofs.Common.{◌≡◌, ℕ, ◌∙◌, subst, arith}
 use Rattle.runs.specs.Runs.{runs_in}
-use Rattle.plans.proofs.Outcomes.{planned_list, planned_sizes, clearable}
+use Rattle.plans.proofs.Outcomes.{clearable}
 use Rattle.plans.proofs.Clearing.{swept_cleared}
-use Rattle.plans.proofs.Fitted.{Seeking, seeking_first, seeking_cuttable, seeking_next, seeking_found, seeking_whole, seeking_none, size_few}
+use Rattle.plans.proofs.Fitted.{Seeking, seeking_cuttable, seeking_next, seeking_found, seeking_whole, seeking_none}
 use Rattle.plans.proofs.seeking.Search.sweep_from.Goals as goal
-
-pub loop-d-init : goal.loop-d-init
-loop-d-init c = seeking_first _ _ _ _ _ _ _ c.requires.0 _ c.requires.1
 
 pub find_cuts-cuts-requires : goal.find_cuts-cuts-requires
 find_cuts-cuts-requires c =
     seeking_cuttable _ _ _ _ _ _ _ c.requires.0 _ _ c.loop-d.invariant _ (omega arith) (omega (arith, c.requires.1.most))
-
-pub overflow_add-self : goal.overflow_add-self
-overflow_add-self c =
-    let h = planned_list _ _ _ _ c.requires.0.passed in
-    omega (arith, c.find_cuts-cuts.ensures.stand.counted, size_few _ _ c.loop-d.d 0 h.0 h.1 (omega (arith, planned_sizes _ _ _ _ c.requires.0.passed)))
 
 pub returns-then-self-cuts : goal.returns-then-self-cuts
 returns-then-self-cuts c =
