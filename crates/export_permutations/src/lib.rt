@@ -54,11 +54,11 @@ pub extern "C" fn zibewoka_next_list(
         to_starts.old to_images.old to_starts.new to_images.new result }
 {
     let list = RunList { n, starts, images };
-    let mut to = RunListMut {
+    let mut next = RunListMut {
         starts: to_starts,
         images: to_images,
     };
-    RunsAnswer::from(permutations::next_list(list, &mut to))
+    RunsAnswer::from(permutations::next_list(list, &mut next))
 }
 
 // Writes the folded list to two lent tables.
@@ -75,9 +75,9 @@ pub extern "C" fn zibewoka_fold(
         to_starts.old to_images.old to_starts.new to_images.new result }
 {
     let list = RunList { n, starts, images };
-    let mut to = RunListMut {
+    let mut folded = RunListMut {
         starts: to_starts,
         images: to_images,
     };
-    RunsAnswer::from(folds::fold(list, &mut to))
+    RunsAnswer::from(folds::fold(list, &mut folded))
 }
