@@ -8,7 +8,7 @@ use Rattle.holders.specs.Buckets.{bucket_of}
 use Rattle.holders.specs.Parts.{NotBelow}
 use Rattle.holders.proofs.Holding.{runs_below, holder_counted, tops_above}
 use Rattle.holders.proofs.write_by_tops.Goals as goal
-use Rattle.holders.proofs.write_by_tops.Goals.{In-loop-x, After-holder_up_to}
+use Rattle.holders.proofs.write_by_tops.Goals.{In-loop-x}
 
 -- the bucket of a turn's image has an entry
 bucketed : (c : In-loop-x) → bucket_of c.args.scale (get_or c.args.list.images.now c.loop-x.x 0) < length c.args.tops.now
