@@ -30,9 +30,12 @@ fn list<'a>(n: u32, starts: &'a [u32], images: &'a [u32]) -> RunList<'a> {
 fn call(rt: &impl Print, row: &Row<'_>) -> io::Result<()> {
     match (row.word(), row.numbers(), row.slices()) {
         (b"check", &[n], [a, b]) => answers::checked(rt, lists::check(list(n, a, b))),
-        (b"inverse-list", &[n, size, size_2], [a, b]) => lent::with_tables(rt, size, size_2, |to| {
-            answers::checked(rt, lists::inverse_list(list(n, a, b), to))
-        }),
+        (b"inverse-list", &[n, size, size_2], [a, b]) => lent::with_tables(
+            rt,
+            size,
+            size_2,
+            |to| { answers::checked(rt, lists::inverse_list(list(n, a, b), to)) },
+        ),
         (b"balance", &[n, d, size, size_2, size_3, size_4, size_5], [a, b]) => {
             let sizes = [size, size_2, size_3, size_4, size_5];
             lent::balance(rt, list(n, a, b), d, sizes)
