@@ -8,7 +8,8 @@ ghost use Rattle.std.specs.Prelude.{◌≡◌};
 ghost use Rattle.outcomes.specs.Refusal.{says};
 ghost use Rattle.runs.specs.Runs.{runs};
 ghost use Rattle.balance.specs.Lent.{lent};
-ghost use Rattle.export_balance.specs.Answers.{balance_answer, forecast_answer, degree_answer, BalanceAnswered, ForecastAnswered, DegreeAnswered};
+ghost use Rattle.export_balance.specs.Answers.{balance_answer, forecast_answer, degree_answer};
+ghost use Rattle.export_balance.specs.Answers.{BalanceAnswered, ForecastAnswered, DegreeAnswered};
 
 use forecasts::{BalancedSize, LeastDegree};
 use outcomes::Refusal;
