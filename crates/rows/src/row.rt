@@ -1,4 +1,6 @@
 // A row as a program gets it.
+ghost use Rattle.std.specs.Prelude.{◌≡◌};
+
 use crate::fields::{Field, field_of};
 use std::alloc::{AllocError, Global};
 use std::iter;
@@ -15,15 +17,21 @@ pub struct Row<'a> {
 }
 
 impl<'a> Row<'a> {
-    pub fn word(&self) -> &[u8] {
+    pub fn word(&self) -> &[u8]
+        ensures { result.now ≡ self.now.word.now }
+    {
         self.word
     }
 
-    pub fn numbers(&self) -> &[u32] {
+    pub fn numbers(&self) -> &[u32]
+        ensures { result.now ≡ self.now.numbers.items }
+    {
         &self.numbers
     }
 
-    pub fn slices(&self) -> &[Vec<u32>] {
+    pub fn slices(&self) -> &[Vec<u32>]
+        ensures { result.now ≡ self.now.slices.items }
+    {
         &self.slices
     }
 
@@ -60,5 +68,22 @@ impl<'a> Row<'a> {
             }
         }
         Ok(Some(row))
+    }
+}
+
+#[cfg(test)]
+mod tests {
+    use super::*;
+    use std::test::Fail;
+
+    #[test]
+    fn reads_a_row(rt: HostRuntime) -> Result<(), Fail> {
+        let Some(row) = Row::read(rt.alloc(), b"find 1 3*7 : 2 :")? else {
+            panic!(rt; "a row that can be read");
+        };
+        assert_eq!(rt; row.word(), b"find".as_slice());
+        assert_eq!(rt; row.numbers(), [1, 7, 7, 7].as_slice());
+        assert_eq!(rt; row.slices().len(), 2);
+        Ok(())
     }
 }
