@@ -1,16 +1,22 @@
 // The bytes on standard input.
-ghost use Rattle.std.specs.Prelude.{◌≤◌, IfOk, vec_len};
+ghost use Rattle.std.specs.Prelude.{◌≤◌, length, IfOk};
 
 use std::io;
 use std::io::Read;
 
-// The first bytes of the input, at most so many.
-pub fn read(rt: &(impl Input + AllocGlobal), most: usize) -> io::Result<Vec<u8>>
-    ensures { IfOk result (λ bytes. vec_len bytes ≤ most) }
+// Reads until `to` is full or the input ends, and answers how many bytes came. The loop stays by hand, since std's `read_to_end` wants the
+// heap of its caller, and this asks for none.
+pub fn read(rt: &impl Input, to: &mut [u8]) -> io::Result<usize>
+    ensures { IfOk result (λ got. got ≤ length to.new) }
 {
-    let mut bytes = Vec::new(rt.alloc());
-    rt.reader().take(most as u64).read_to_end(&mut bytes)?;
-    // `take` lets no more bytes through, and `truncate` promises it.
-    bytes.truncate(most);
-    Ok(bytes)
+    let mut reader = rt.reader();
+    let mut got = 0;
+    while got < to.len() {
+        let count = reader.read(&mut to[got..])?;
+        if count == 0 {
+            break;
+        }
+        got += count;
+    }
+    Ok(got)
 }

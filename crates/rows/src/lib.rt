@@ -58,8 +58,9 @@ pub fn run<R: Print + Input + AllocGlobal, F: Fn(&Row<'_>) -> io::Result<()>>(
 ) -> io::Result<()>
     requires { F.IsAlwaysCallable answer }
 {
-    let text = input::read(rt, MOST)?;
-    for row in text.split_inclusive(|b| *b == b'\n') {
+    let mut text = [0u8; MOST];
+    let got = input::read(rt, &mut text)?;
+    for row in text[..got].split_inclusive(|b| *b == b'\n') {
         run_row(rt, row.strip_suffix(b"\n").unwrap_or(row), &answer)?;
     }
     Ok(())
