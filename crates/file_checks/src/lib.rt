@@ -25,8 +25,11 @@ fn check_degree(header: Header) -> Result<Header, Refusal>
     Ok(header)
 }
 
-// Tests 3 to 7 of a file whose header is right and says at most N runs, with its list in tables of N entries.
-fn check_in<const N: usize>(file: &[u8], header: Header) -> Result<Header, Refusal>
+// Tests 3 to 7 of a file whose header is right and says at most N runs, with its list in tables of N entries and a frame of its own. A call
+// touches each page of its frame, so the check of a short list should have no large tables in its caller's, and that of a long one no
+// small ones beside its own (docs/DECISIONS.md, "Few runs get small tables").
+#[inline(never)]
+fn check_apart<const N: usize>(file: &[u8], header: Header) -> Result<Header, Refusal>
     requires { Laid max_runs file.now header × (header.k ≤ N) × (N ≤ max_runs) }
     ensures { says result ≡ body_of file.now }
 {
@@ -44,16 +47,6 @@ fn check_in<const N: usize>(file: &[u8], header: Header) -> Result<Header, Refus
     check_degree(header)
 }
 
-// The same with a frame of its own. A call touches each page of its frame, so the check of a short list should have no large tables in
-// its caller's (docs/DECISIONS.md, "Few runs get small tables").
-#[inline(never)]
-fn check_apart<const N: usize>(file: &[u8], header: Header) -> Result<Header, Refusal>
-    requires { Laid max_runs file.now header × (header.k ≤ N) × (N ≤ max_runs) }
-    ensures { says result ≡ body_of file.now }
-{
-    check_in::<N>(file, header)
-}
-
 // The same for any number of runs.
 fn check_body(file: &[u8], header: Header) -> Result<Header, Refusal>
     requires { Laid max_runs file.now header }
@@ -61,7 +54,7 @@ fn check_body(file: &[u8], header: Header) -> Result<Header, Refusal>
 {
     let k = header.k as usize;
     if k <= runs::FEW_RUNS {
-        check_in::<{ runs::FEW_RUNS }>(file, header)
+        check_apart::<{ runs::FEW_RUNS }>(file, header)
     } else if k <= runs::SOME_RUNS {
         check_apart::<{ runs::SOME_RUNS }>(file, header)
     } else {

@@ -15,24 +15,16 @@ ghost use Rattle.lists.specs.Inverse.{InverseListed};
 use outcomes::Refusal;
 use runs::{RunList, RunListMut};
 
-// Tests 1 to 6, in tables of N entries.
-fn check_in<const N: usize>(list: RunList<'_>) -> Result<(), Refusal>
+// Tests 1 to 6, in tables of N entries, with a frame of its own. A call touches each page of its frame, so a check of few runs should
+// have no large tables in its caller's, and that of many no small ones between their frame and its caller's.
+#[inline(never)]
+fn check_apart<const N: usize>(list: RunList<'_>) -> Result<(), Refusal>
     requires { (N ≤ max_runs) × (length list.starts.now ≤ max_runs → length list.starts.now ≤ N) }
     ensures { says result ≡ check_of list.entry.n (runs_in list.entry) }
 {
     let mut order = [0; N];
     let mut spare = [0; N];
     runs::check_order(list, runs::MOST_RUNS, &mut order, &mut spare)
-}
-
-// The same with a frame of its own. A call touches each page of its frame, so a check of few runs should have no large tables in its
-// caller's.
-#[inline(never)]
-fn check_apart<const N: usize>(list: RunList<'_>) -> Result<(), Refusal>
-    requires { (N ≤ max_runs) × (length list.starts.now ≤ max_runs → length list.starts.now ≤ N) }
-    ensures { says result ≡ check_of list.entry.n (runs_in list.entry) }
-{
-    check_in::<N>(list)
 }
 
 // Tests 1 to 6 and 8 and the inverse list, in tables of N entries.
@@ -65,9 +57,9 @@ pub fn check(list: RunList<'_>) -> Result<(), Refusal>
 {
     let k = list.starts.len();
     if k <= runs::FEW_RUNS {
-        check_in::<{ runs::FEW_RUNS }>(list)
+        check_apart::<{ runs::FEW_RUNS }>(list)
     } else if k <= runs::MORE_RUNS {
-        check_in::<{ runs::MORE_RUNS }>(list)
+        check_apart::<{ runs::MORE_RUNS }>(list)
     } else if k <= runs::SOME_RUNS {
         check_apart::<{ runs::SOME_RUNS }>(list)
     } else if k <= runs::MANY_RUNS {

@@ -3,7 +3,7 @@ use Rattle.std.proofs.Common.{◌∙◌, arith}
 use Rattle.std.proofs.lemmas.Result.{err_from_is_err_and}
 use Rattle.runs.specs.Check.{max_runs}
 use Rattle.files.proofs.Bodies.{listed_refused, listed_checked, body_is}
-use Rattle.file_checks.proofs.check_in.Goals as goal
+use Rattle.file_checks.proofs.check_apart.Goals as goal
 
 pub returns-in_err-check : goal.returns-in_err-check
 returns-in_err-check g c =
