@@ -21,7 +21,7 @@ mod words;
 
 ghost use Rattle.std.specs.Prelude.{◌≤◌};
 
-pub use row::Row;
+pub use row::{ROOM, Row};
 use std::io;
 pub use words::bytes_of;
 
@@ -34,9 +34,10 @@ fn is_heading(line: &[u8]) -> bool {
 }
 
 // Prints a row, reads it and has it answered.
-fn run_row<R: Print + AllocGlobal, F: Fn(&Row<'_>) -> io::Result<()>>(
+fn run_row<'a, R: Print, F: Fn(&Row<'_>) -> io::Result<()>>(
     rt: &R,
-    line: &[u8],
+    line: &'a [u8],
+    room: &'a mut [u32],
     answer: &F,
 ) -> io::Result<()>
     requires { F.IsAlwaysCallable answer.now }
@@ -45,23 +46,26 @@ fn run_row<R: Print + AllocGlobal, F: Fn(&Row<'_>) -> io::Result<()>>(
     if is_heading(line) {
         return Ok(());
     }
-    match Row::read(rt.alloc(), line)? {
+    match Row::read(line, room) {
         Some(row) => answer(&row),
         None => out::no_call(rt),
     }
 }
 
 // Runs the rows on standard input one after the other: `answer` prints what each calls and is answered.
-pub fn run<R: Print + Input + AllocGlobal, F: Fn(&Row<'_>) -> io::Result<()>>(
-    rt: &R,
-    answer: F,
-) -> io::Result<()>
+pub fn run<R: Print + Input, F: Fn(&Row<'_>) -> io::Result<()>>(rt: &R, answer: F) -> io::Result<()>
     requires { F.IsAlwaysCallable answer }
 {
     let mut text = [0u8; MOST];
     let got = input::read(rt, &mut text)?;
+    let mut room = [0; ROOM];
     for row in text[..got].split_inclusive(|b| *b == b'\n') {
-        run_row(rt, row.strip_suffix(b"\n").unwrap_or(row), &answer)?;
+        run_row(
+            rt,
+            row.strip_suffix(b"\n").unwrap_or(row),
+            &mut room,
+            &answer,
+        )?;
     }
     Ok(())
 }

@@ -1,22 +1,68 @@
 // A row as a program gets it.
-ghost use Rattle.std.specs.Prelude.{◌≡◌};
+ghost use Rattle.std.specs.Prelude.{◌≡◌, take};
 
 use crate::fields::{Field, field_of};
-use std::alloc::{AllocError, Global};
-use std::iter;
 
 // The numbers that a row may have, in its slices too: four slices of one more than 32,768, and its own.
-const ROOM: usize = 131084;
+pub const ROOM: usize = 131084;
 
-// What is called, and with what.
-#[derive(Drop)]
+// How many slices are told apart: more are as good as so many, for no call has them.
+const MOST_SLICES: usize = 9;
+
+// What is called, and with what. The numbers lie in what is lent to `read`, so that no row asks for the heap.
+#[derive(Clone, Copy)]
 pub struct Row<'a> {
     word: &'a [u8],
-    numbers: Vec<u32>,
-    slices: Vec<Vec<u32>>,
+    numbers: &'a [u32],
+    slices: [&'a [u32]; MOST_SLICES],
+    count: usize,
+}
+
+// Where the parts of a row end in the room for its numbers: first its own numbers, and then each slice.
+#[derive(Clone, Copy)]
+struct Ends {
+    ends: [usize; MOST_SLICES + 1],
+    slices: usize,
+}
+
+// Writes the numbers of a row to its room, if each text behind its word is a field and there is room for all numbers.
+fn write(line: &[u8], room: &mut [u32]) -> Option<Ends> {
+    let mut ends = [0; MOST_SLICES + 1];
+    let mut slices = 0;
+    let mut used: usize = 0;
+    for text in line.split(|b| *b == b' ').skip(1) {
+        match field_of(text)? {
+            Field::Nothing => {}
+            Field::Slice => slices = (slices + 1).min(MOST_SLICES),
+            Field::Numbers { times, number } => {
+                let end = used.checked_add(times)?;
+                room.get_mut(used..end)?.fill(number);
+                used = end;
+            }
+        }
+        // The slices that have not begun end here too, as far as is known.
+        ends[slices..].fill(used);
+    }
+    Some(Ends { ends, slices })
 }
 
 impl<'a> Row<'a> {
+    // Reads a row, if each text behind its word is a field and there is room for all numbers.
+    pub fn read(line: &'a [u8], room: &'a mut [u32]) -> Option<Row<'a>> {
+        let read = write(line, room)?;
+        let room: &'a [u32] = room;
+        let mut slices: [&'a [u32]; MOST_SLICES] = [&[]; MOST_SLICES];
+        for (slice, pair) in slices.iter_mut().zip(read.ends.windows(2)) {
+            *slice = room.get(pair[0]..pair[1])?;
+        }
+        Some(Row {
+            word: line.split(|b| *b == b' ').next().unwrap_or(b""),
+            numbers: room.get(..read.ends[0])?,
+            slices,
+            count: read.slices.min(MOST_SLICES),
+        })
+    }
+
     pub fn word(&self) -> &[u8]
         ensures { result.now ≡ self.now.word.now }
     {
@@ -24,50 +70,15 @@ impl<'a> Row<'a> {
     }
 
     pub fn numbers(&self) -> &[u32]
-        ensures { result.now ≡ self.now.numbers.items }
+        ensures { result.now ≡ self.now.numbers.now }
     {
-        &self.numbers
+        self.numbers
     }
 
-    pub fn slices(&self) -> &[Vec<u32>]
-        ensures { result.now ≡ self.now.slices.items }
+    pub fn slices(&self) -> &[&[u32]]
+        ensures { result.now ≡ take self.now.count self.now.slices }
     {
-        &self.slices
-    }
-
-    // Adds the number to the last slice, or to the row's own numbers, so many times.
-    fn add(&mut self, times: usize, number: u32) -> Result<(), AllocError> {
-        let more = iter::repeat_n(number, times);
-        match self.slices.last_mut() {
-            Some(slice) => slice.extend(more),
-            None => self.numbers.extend(more),
-        }
-    }
-
-    // Reads a row, if each text behind its word is a field and there is room for all numbers.
-    pub(crate) fn read(alloc: Global, line: &'a [u8]) -> Result<Option<Row<'a>>, AllocError> {
-        let mut parts = line.split(|b| *b == b' ');
-        let mut row = Row {
-            word: parts.next().unwrap_or(b""),
-            numbers: Vec::new(alloc),
-            slices: Vec::new(alloc),
-        };
-        let mut room = ROOM;
-        for text in parts {
-            match field_of(text) {
-                None => return Ok(None),
-                Some(Field::Nothing) => {}
-                Some(Field::Slice) => row.slices.push(Vec::new(alloc))?,
-                Some(Field::Numbers { times, number }) => {
-                    let Some(left) = room.checked_sub(times) else {
-                        return Ok(None);
-                    };
-                    room = left;
-                    row.add(times, number)?;
-                }
-            }
-        }
-        Ok(Some(row))
+        &self.slices[..self.count.min(MOST_SLICES)]
     }
 }
 
@@ -78,7 +89,8 @@ mod tests {
 
     #[test]
     fn reads_a_row(rt: HostRuntime) -> Result<(), Fail> {
-        let Some(row) = Row::read(rt.alloc(), b"find 1 3*7 : 2 :")? else {
+        let mut room = [0; 8];
+        let Some(row) = Row::read(b"find 1 3*7 : 2 :", &mut room) else {
             panic!(rt; "a row that can be read");
         };
         assert_eq!(rt; row.word(), b"find".as_slice());
