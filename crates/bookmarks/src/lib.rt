@@ -44,6 +44,7 @@ pub fn advanced(table: MoveTable<'_>, b: Bookmark) -> Marked
 }
 
 // A bookmark's move on the spot: the bookmark is lent by its owner, and a refusal leaves it as it was.
+#[tactic(auto, using(crate::proofs::Marks::advances_refused, crate::proofs::Marks::advances_full, crate::proofs::Marks::advances_on))]
 pub fn advance(table: MoveTable<'_>, b: &mut Bookmark) -> Result<Step, Refusal>
     ensures { Advances table.entry.n (tables_in table.entry) b.old result b.new }
 {
