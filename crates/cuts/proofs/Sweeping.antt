@@ -1,14 +1,14 @@
 -- The sweep as an invariant for a loop: list₀ is the list handed in, r the list so far.
 use Prim.Native.Nat.{ℕ, zero, suc, ◌+◌, ◌-◌, ◌*◌, ◌≤◌, ◌<◌}
-use mathlib.Core.Path.{◌≡◌, refl, sym, ◌∙◌}
+use mathlib.Core.Path.{◌≡◌, refl, sym, ap, ◌∙◌}
 use native.Mathlib.Omega.{arith}
 use Rattle.runs.specs.Legal.{Legal}
 use Rattle.runs.specs.Runs.{Runs, count_of, image_of, image_end}
 use Rattle.runs.specs.Weight.{weight}
-use Rattle.cuts.specs.Balance.{cut_place, cut_at, cutting, balanced}
+use Rattle.cuts.specs.Balance.{cut_place, cut_at, cutting, balanced, bound_of}
 use Rattle.cuts.proofs.Cut.{cut_count}
 use Rattle.cuts.proofs.Weights.{ample, ample_bound}
-use Rattle.cuts.proofs.Balancing.{cutting_next, cutting_done, fuel_left, heavy_legal}
+use Rattle.cuts.proofs.Balancing.{cutting_cuts, cutting_next, cutting_done, fuel_left, heavy_legal, balanced_count}
 use Rattle.cuts.proofs.Swept.{SweptTo, swept_start, swept_end, swept_lowest, swept_cut, swept_cut_on, swept_back, swept_on, back, added, steps_left, steps_cut, steps_back, steps_on}
 
 pub record Sweeping (d n : ℕ) (list₀ r : Runs) (P Q : ℕ) : Type 0 where
@@ -36,6 +36,15 @@ module _ (d n : ℕ) (many : 2 ≤ d) (list₀ : Runs) (c₀ : Legal n list₀) 
     (c : Sweeping d n list₀ r P Q) where
   pub sweeping_end : n ≤ P → r ≡ balanced d n list₀
   sweeping_end h = sym (cutting_done c.cuts d n r (swept_end d n r P Q c.swept h)) ∙ c.goal
+
+  -- what is counted so far stays within the bound
+  pub sweeping_fits : count_of r ≤ bound_of d (count_of list₀)
+  sweeping_fits = omega (
+    arith,
+    balanced_count d n many list₀ c₀,
+    (cutting_cuts d n many c.cuts r c.swept.legal).counted,
+    ap count_of c.goal,
+  )
 
   module _ (x : ℕ) (hx : x < count_of r) (at : image_of r x ≡ P) where
     pub sweeping_back : weight n r x < 2 * d → P < Q

@@ -11,6 +11,7 @@ use Rattle.order.proofs.Laws.{lt_or_le, length_up}
 use Rattle.runs.specs.Runs.{Runs, runs, count_of, start_of, image_of, end_of, map_of}
 use Rattle.runs.proofs.Legality.{end_next, end_last}
 use Rattle.folds.specs.Fold.{folded, maximal_runs}
+use Rattle.folds.specs.Parts.{Foldable}
 use Rattle.folds.proofs.Keeping.{up_at, map_up, entries}
 use Rattle.folds.proofs.Tracing.{Traces, traced_map, traced_legal}
 use Rattle.folds.proofs.Maximal.{maximal_alike}
@@ -79,7 +80,10 @@ module _ (n : ℕ) (values : List ℕ) (size : length values ≡ n) where
       ap (λ (k : ℕ). map (λ p. get_or values p 0) (up_to k)) (sym size) ∙ entries values in
       λ i. runs (up_to n) (e i)
 
-  -- the fold of such a list is that of the maximal runs
+  -- such a list may be folded, and its fold is that of the maximal runs
+  pub spread_foldable : Foldable (runs (up_to n) values)
+  spread_foldable = rw (← spread_values) (record { paired = paired_is n _; rising = spread_rising n _ })
+
   pub write_spread : 0 < n → ((p : ℕ) → p < n → get_or values p 0 < n)
       → ((j k : ℕ) → j < n → k < n → get_or values j 0 ≡ get_or values k 0 → j ≡ k)
       → folded (runs (up_to n) values) ≡ maximal_runs n (λ p. get_or values p 0)

@@ -88,6 +88,11 @@ module _ (l : List ℕ) where
       ∙ ap (last_ascent l) e ∙ falling_none f i (omega arith)
 
   module _ (v : ℕ) where
+    pub above_end : (i : ℕ) → i ≤ 0 → last_above l v i ≡ 0
+    unfolding last_above
+    above_end zero h = refl
+    above_end (suc i) h = absurd (omega arith)
+
     pub above_hit : (i : ℕ) → 0 < i → v < value_at l i → last_above l v i ≡ i
     unfolding last_above
     above_hit zero h g = absurd (omega arith)
