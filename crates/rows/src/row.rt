@@ -33,16 +33,19 @@ fn write(line: &[u8], room: &mut [u32]) -> Option<Ends> {
     for text in line.split(|b| *b == b' ').skip(1) {
         match field_of(text)? {
             Field::Nothing => {}
-            Field::Slice => slices = (slices + 1).min(MOST_SLICES),
+            Field::Slice => {
+                ends[slices] = used;
+                slices = (slices + 1).min(MOST_SLICES);
+            }
             Field::Numbers { times, number } => {
                 let end = used.checked_add(times)?;
                 room.get_mut(used..end)?.fill(number);
                 used = end;
             }
         }
-        // The slices that have not begun end here too, as far as is known.
-        ends[slices..].fill(used);
     }
+    // The last part ends here, and so do those that the row hasn't.
+    ends[slices..].fill(used);
     Some(Ends { ends, slices })
 }
 
