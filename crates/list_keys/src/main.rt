@@ -17,7 +17,7 @@
 mod answers;
 mod lent;
 
-use rows::{Row, out};
+use rows::{LentRow, out};
 use runs::RunList;
 use std::io;
 
@@ -27,7 +27,7 @@ fn list<'a>(n: u32, starts: &'a [u32], images: &'a [u32]) -> RunList<'a> {
 }
 
 // Runs what is called: a and b are starts and images.
-fn call(rt: &impl Print, row: &Row<'_>) -> io::Result<()> {
+fn call(rt: &impl Print, row: &LentRow<'_>) -> io::Result<()> {
     match (row.word(), row.numbers(), row.slices()) {
         (b"check", &[n], [a, b]) => answers::checked(rt, lists::check(list(n, a, b))),
         (b"inverse-list", &[n, size, size_2], [a, b]) => lent::with_tables(
@@ -58,5 +58,5 @@ fn call(rt: &impl Print, row: &Row<'_>) -> io::Result<()> {
 }
 
 fn main(rt: HostRuntime) -> io::Result<()> {
-    rows::run(&rt, |row| call(&rt, row))
+    rows::run_lent(&rt, |row| call(&rt, row))
 }

@@ -1,71 +1,20 @@
-// A row as a program gets it.
-ghost use Rattle.std.specs.Prelude.{◌≡◌, take};
+// A row with any number of slices, read on the heap.
+ghost use Rattle.std.specs.Prelude.{◌≡◌};
 
 use crate::fields::{Field, field_of};
+use crate::lent::ROOM;
+use std::alloc::{AllocError, Global};
+use std::iter;
 
-// The numbers that a row may have, in its slices too: four slices of one more than 32,768, and its own.
-pub const ROOM: usize = 131084;
-
-// How many slices are told apart: more are as good as so many, for no call has them.
-const MOST_SLICES: usize = 9;
-
-// What is called, and with what. The numbers lie in what is lent to `read`, so that no row asks for the heap.
+// What is called, and with what.
 #[derive(Clone, Copy)]
 pub struct Row<'a> {
     word: &'a [u8],
     numbers: &'a [u32],
-    slices: [&'a [u32]; MOST_SLICES],
-    count: usize,
-}
-
-// Where the parts of a row end in the room for its numbers: first its own numbers, and then each slice.
-#[derive(Clone, Copy)]
-struct Ends {
-    ends: [usize; MOST_SLICES + 1],
-    slices: usize,
-}
-
-// Writes the numbers of a row to its room, if each text behind its word is a field and there is room for all numbers.
-fn write(line: &[u8], room: &mut [u32]) -> Option<Ends> {
-    let mut ends = [0; MOST_SLICES + 1];
-    let mut slices = 0;
-    let mut used: usize = 0;
-    for text in line.split(|b| *b == b' ').skip(1) {
-        match field_of(text)? {
-            Field::Nothing => {}
-            Field::Slice => {
-                ends[slices] = used;
-                slices = (slices + 1).min(MOST_SLICES);
-            }
-            Field::Numbers { times, number } => {
-                let end = used.checked_add(times)?;
-                room.get_mut(used..end)?.fill(number);
-                used = end;
-            }
-        }
-    }
-    // The last part ends here, and so do those that the row hasn't.
-    ends[slices..].fill(used);
-    Some(Ends { ends, slices })
+    slices: &'a [Vec<u32>],
 }
 
 impl<'a> Row<'a> {
-    // Reads a row, if each text behind its word is a field and there is room for all numbers.
-    pub fn read(line: &'a [u8], room: &'a mut [u32]) -> Option<Row<'a>> {
-        let read = write(line, room)?;
-        let room: &'a [u32] = room;
-        let mut slices: [&'a [u32]; MOST_SLICES] = [&[]; MOST_SLICES];
-        for (slice, pair) in slices.iter_mut().zip(read.ends.windows(2)) {
-            *slice = room.get(pair[0]..pair[1])?;
-        }
-        Some(Row {
-            word: line.split(|b| *b == b' ').next().unwrap_or(b""),
-            numbers: room.get(..read.ends[0])?,
-            slices,
-            count: read.slices.min(MOST_SLICES),
-        })
-    }
-
     pub fn word(&self) -> &[u8]
         ensures { result.now ≡ self.now.word.now }
     {
@@ -78,10 +27,68 @@ impl<'a> Row<'a> {
         self.numbers
     }
 
-    pub fn slices(&self) -> &[&[u32]]
-        ensures { result.now ≡ take self.now.count self.now.slices }
+    pub fn slices(&self) -> &[Vec<u32>]
+        ensures { result.now ≡ self.now.slices.now }
     {
-        &self.slices[..self.count.min(MOST_SLICES)]
+        self.slices
+    }
+}
+
+// The parts of a row, as read onto the heap. A `Row` lends them.
+#[derive(Drop)]
+pub(crate) struct Parts<'a> {
+    word: &'a [u8],
+    numbers: Vec<u32>,
+    slices: Vec<Vec<u32>>,
+}
+
+impl<'a> Parts<'a> {
+    // Adds the number to the last slice, or to the row's own numbers, so many times.
+    fn add(&mut self, times: usize, number: u32) -> Result<(), AllocError> {
+        let more = iter::repeat_n(number, times);
+        match self.slices.last_mut() {
+            Some(slice) => slice.extend(more),
+            None => self.numbers.extend(more),
+        }
+    }
+
+    // Reads a row, if each text behind its word is a field and there is room for all numbers.
+    pub(crate) fn read(alloc: Global, line: &'a [u8]) -> Result<Option<Parts<'a>>, AllocError> {
+        let mut texts = line.split(|b| *b == b' ');
+        let mut parts = Parts {
+            word: texts.next().unwrap_or(b""),
+            numbers: Vec::new(alloc),
+            slices: Vec::new(alloc),
+        };
+        let mut room = ROOM;
+        for text in texts {
+            match field_of(text) {
+                None => return Ok(None),
+                Some(Field::Nothing) => {}
+                Some(Field::Slice) => parts.slices.push(Vec::new(alloc))?,
+                Some(Field::Numbers { times, number }) => {
+                    let Some(left) = room.checked_sub(times) else {
+                        return Ok(None);
+                    };
+                    room = left;
+                    parts.add(times, number)?;
+                }
+            }
+        }
+        Ok(Some(parts))
+    }
+
+    // The row that has these parts.
+    pub(crate) fn row(&self) -> Row<'_>
+        ensures word { result.word.now ≡ self.now.word.now }
+        ensures numbers { result.numbers.now ≡ self.now.numbers.items }
+        ensures slices { result.slices.now ≡ self.now.slices.items }
+    {
+        Row {
+            word: self.word,
+            numbers: &self.numbers,
+            slices: &self.slices,
+        }
     }
 }
 
@@ -92,10 +99,10 @@ mod tests {
 
     #[test]
     fn reads_a_row(rt: HostRuntime) -> Result<(), Fail> {
-        let mut room = [0; 8];
-        let Some(row) = Row::read(b"find 1 3*7 : 2 :", &mut room) else {
+        let Some(parts) = Parts::read(rt.alloc(), b"find 1 3*7 : 2 :")? else {
             panic!(rt; "a row that can be read");
         };
+        let row = parts.row();
         assert_eq!(rt; row.word(), b"find".as_slice());
         assert_eq!(rt; row.numbers(), [1, 7, 7, 7].as_slice());
         assert_eq!(rt; row.slices().len(), 2);

@@ -22,7 +22,7 @@ mod answers;
 mod asking;
 
 use bookmarks::Bookmark;
-use rows::{Row, out};
+use rows::{LentRow, out};
 use std::io;
 use tables::MoveTable;
 
@@ -53,7 +53,7 @@ fn advance_often(rt: &impl Print, table: MoveTable<'_>, fresh: Bookmark, m: u32)
 }
 
 // Runs what is called of a bookmark.
-fn mark(rt: &impl Print, row: &Row<'_>) -> io::Result<()> {
+fn mark(rt: &impl Print, row: &LentRow<'_>) -> io::Result<()> {
     match (row.word(), row.numbers(), row.slices()) {
         (b"bookmark", &[n, place, interval, distance, moves, high, low], [a, b, c, d]) => {
             let count = (u64::from(high) << 32) | u64::from(low);
@@ -81,7 +81,7 @@ fn mark(rt: &impl Print, row: &Row<'_>) -> io::Result<()> {
 }
 
 // Runs what is called: a, b, c and d are starts, images, holders and lengths, and e the places of questions.
-fn call(rt: &impl Print, row: &Row<'_>) -> io::Result<()> {
+fn call(rt: &impl Print, row: &LentRow<'_>) -> io::Result<()> {
     match (row.word(), row.numbers(), row.slices()) {
         (b"find", &[n, i], [a, b, c, d]) => {
             answers::number(rt, walks::find(table(n, a, b, c, d), i))
@@ -110,5 +110,5 @@ fn call(rt: &impl Print, row: &Row<'_>) -> io::Result<()> {
 }
 
 fn main(rt: HostRuntime) -> io::Result<()> {
-    rows::run(&rt, |row| call(&rt, row))
+    rows::run_lent(&rt, |row| call(&rt, row))
 }

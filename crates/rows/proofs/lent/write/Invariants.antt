@@ -1,6 +1,6 @@
 -- A row has at most nine slices.
 use Rattle.std.proofs.Common.{◌≤◌}
-use Rattle.rows.proofs.row.write.Given as goal
+use Rattle.rows.proofs.lent.write.Given as goal
 
 abbrev pub invariant-loop-text : goal.invariant-loop-text
 invariant-loop-text l =
