@@ -1,4 +1,4 @@
-// A row whose numbers lie in what is lent: reading it asks for no heap, and tells apart at most nine slices.
+// A row whose numbers lie in what is lent. Reading it asks for no heap, and tells at most nine slices apart.
 ghost use Rattle.std.specs.Prelude.{◌≡◌, take};
 
 use crate::fields::{Field, field_of};
@@ -11,7 +11,7 @@ pub const ROOM: usize = 131084;
 // How many slices are told apart: more are as good as so many, for no call has them.
 const MOST_SLICES: usize = 9;
 
-// What is called, and with what. The numbers lie in what is lent to `read`, so that no row asks for the heap.
+// What is called, and with what.
 #[derive(Clone, Copy)]
 pub struct LentRow<'a> {
     word: &'a [u8],
@@ -106,7 +106,7 @@ fn run_row<'a, R: Print, F: Fn(&LentRow<'_>) -> io::Result<()>>(
     }
 }
 
-// Runs the rows on standard input as `run` does, with no heap: of a row's slices the ninth has the numbers of those behind it too.
+// Runs the rows on standard input as `run` does, with no heap. A row's ninth slice has the numbers of all behind it too.
 pub fn run_lent<R: Print + Input, F: Fn(&LentRow<'_>) -> io::Result<()>>(
     rt: &R,
     answer: F,

@@ -85,7 +85,7 @@ mod tests {
     use std::io::{BufRead, Lines};
     use std::test::Fail;
 
-    // Its text is what it reads, and what it prints is dropped.
+    // A runtime that reads its text and drops what is printed.
     #[derive(Drop)]
     struct Typed(&'static [u8]);
 
